@@ -1,8 +1,8 @@
 pub mod Strobe
-pub mod Pulses
+pub mod Phases
 pub mod Turns
 pub mod Views
 pub mod Least
-pub mod OneDomain
 pub mod Halves
+pub mod OneDomain
 pub mod Lifts

@@ -1,5 +1,5 @@
--- Without lock-ups, where one domain pulses at most, its view is the strobe.
-use Rattle.std.proofs.Common.{ℕ, Bool, true, false, ◌≡◌, ◌==◌, refl, sym, ap, ◌∙◌, Option, None, Some}
+-- Without lock-ups and with rising flip-flops alone, where one domain pulses at most, its view is the strobe.
+use Rattle.std.proofs.Common.{ℕ, Bool, true, false, not, ◌≡◌, ◌==◌, refl, sym, ap, ◌∙◌, Option, None, Some}
 use Rattle.std.specs.Prelude.{if◌then◌else◌}
 use Rattle.std.proofs.lemmas.Bool.{eq-eqb}
 use Rattle.dft_base.specs.declared.tri.Tri.{Tri}
@@ -10,9 +10,12 @@ use Rattle.dft_netlist.specs.Drivers.{Source, Net, Tied, Loose}
 use Rattle.dft_netlist.specs.Logic.{Logic, Scan, IsRanked}
 use Rattle.dft_netlist.specs.Settled.{value_from, IsTriSettled}
 use Rattle.dft_netlist.specs.Runs.{Vector}
-use Rattle.dft_abstract.specs.Cycle.{Pulse, tri_forced_by, tri_taken_by, view_sources, AreViews, next_value, pulse_of, strobe_sources, Round}
+use Rattle.dft_abstract.specs.Cycle.{Pulse, tri_forced_by, tri_taken_by, changes, view_sources, AreViews, next_value, rise_of, fall_of, strobe_sources, Round}
 use Rattle.dft_abstract.specs.Laws.{HasNoLockup, next_from, OneDomain}
+use Rattle.dft_abstract.proofs.Phases.{of_both}
 use Rattle.dft_abstract.proofs.Views.{views_exist, settled_same}
+use Rattle.dft_abstract.proofs.Least.{none_changes}
+use Rattle.dft_abstract.proofs.Halves.{rises_change, falls_rest}
 
 source_equal : (v w : ℕ → Tri) (source : Source) → ((net : ℕ) → v net ≡ w net) → value_from v source ≡ value_from w source
 source_equal v w (Net net) same = same net
@@ -35,13 +38,13 @@ flop_old true false old poss h = let q : false ≡ true = h refl in absurd cc
 
 -- at any map the view of a domain is the strobe, where no other domain pulses
 view_is_strobe : (l : Logic) (rank : ℕ → ℕ) (x : Vector) (d : ℕ) (old values poss : ℕ → Tri) (view : ℕ → ℕ → Tri) → IsRanked l rank → HasNoLockup l → ((e : ℕ) → x.pulsed e ≡ true → (e == d) ≡ true) →
-    IsTriSettled l (strobe_sources l x old values) values → AreViews l (pulse_of l x old) poss view → (net : ℕ) → view d net ≡ values net
+    IsTriSettled l (strobe_sources l x old values) values → AreViews l (rise_of l x old) poss view → (net : ℕ) → view d net ≡ values net
 view_is_strobe l rank x d old values poss view ranked none one settled views net =
-    settled_same l rank (view_sources l (pulse_of l x old) poss view d) (strobe_sources l x old values) (view d) values ranked (views d) settled
-    (λ k. refl) (λ e. clock_low (x.pulsed e) (e == d) (one e)) (λ c. flop_old (x.pulsed (l.cell c).domain) ((l.cell c).domain == d) _ _ (one (l.cell c).domain))
-    (λ k c e source is ih below. absurd (none k c e source is)) net
+    settled_same l rank (view_sources l (rise_of l x old) poss view d) (strobe_sources l x old values) (view d) values ranked (views d) settled
+    (λ k. refl) (λ e. clock_low (x.pulsed e) (e == d) (one e)) (λ c. flop_old (changes l (rise_of l x old) c) ((l.cell c).domain == d) _ _ (λ ch. one (l.cell c).domain (of_both (x.pulsed (l.cell c).domain) (not (l.cell c).falling) ch).0))
+    (λ k c e high source is ih below. absurd (none k c e high source is)) net
 
-next_is : (l : Logic) (x : Vector) (old values : ℕ → Tri) (view : ℕ → ℕ → Tri) (c : ℕ) → ((net : ℕ) → view (l.cell c).domain net ≡ values net) → next_value l (pulse_of l x old) view c ≡ next_from l x values c
+next_is : (l : Logic) (x : Vector) (old values : ℕ → Tri) (view : ℕ → ℕ → Tri) (c : ℕ) → ((net : ℕ) → view (l.cell c).domain net ≡ values net) → next_value l (rise_of l x old) view c ≡ next_from l x values c
 next_is l x old values view c same =
     let at : (source : Source) → value_from (view (l.cell c).domain) source ≡ value_from values source = λ source. source_equal (view (l.cell c).domain) values source same in
     ap (tri_forced_by (l.cell c).force x.ports) (taken_equal (l.cell c).scan (value_from (view (l.cell c).domain)) (value_from values) _ _ at (at (l.cell c).input))
@@ -70,8 +73,8 @@ chosen_equal true x y z h = h refl
 chosen_equal false x y z h = refl
 
 pub one_domain : OneDomain
-one_domain l rank x d old values ranked none one settled =
-    let p : Pulse = pulse_of l x old in
+one_domain l rank x d old values ranked rising none one settled =
+    let p : Pulse = rise_of l x old in
     let pulses : (e : ℕ) → x.pulsed e ≡ true → (e == d) ≡ true = λ e h. eq-eqb e d (one e h) in
     let next : ℕ → Tri = next_from l x values in
     let poss : ℕ → Tri = λ c. raised (x.pulsed (l.cell c).domain) (p.old c) (next c) in
@@ -79,7 +82,10 @@ one_domain l rank x d old values ranked none one settled =
     let view : ℕ → ℕ → Tri = found.0 in
     let next_at : (other : ℕ → Tri) (its : ℕ → ℕ → Tri) → AreViews l p other its → (c : ℕ) → x.pulsed (l.cell c).domain ≡ true → next_value l p its c ≡ next c =
     λ other its views c pulsed. next_is l x old values its c (λ net. ap (λ (e : ℕ). its e net) (one (l.cell c).domain pulsed) ∙ view_is_strobe l rank x d old values other its ranked none pulses settled views net) in
-    let r : Round = record { strobe = values; halves = record { rise = record { poss = poss; view = view } } } in (
+    let ups : (c : ℕ) → changes l p c ≡ x.pulsed (l.cell c).domain = λ c. rises_change l p c (rising c) refl in
+    let q : Pulse = fall_of l x old view in
+    let falls = none_changes l rank q ranked (λ c. falls_rest l q c (rising c) refl) in
+    let r : Round = record { strobe = values; halves = record { rise = record { poss = poss; view = view }; fall = record { poss = q.old; view = falls.0 } } } in (
       r,
       (
         refl,
@@ -90,13 +96,14 @@ one_domain l rank x d old values ranked none one settled =
               closed = record {
                 views = found.1;
                 old = λ c. raised_old (x.pulsed (l.cell c).domain) (p.old c) (next c);
-                next = λ c pulsed. above_equal _ _ _ (sym (next_at poss view found.1 c pulsed)) (raised_next (x.pulsed (l.cell c).domain) (p.old c) (next c) pulsed);
+                next = λ c ch. (let pulsed = sym (ups c) ∙ ch in above_equal _ _ _ (sym (next_at poss view found.1 c pulsed)) (raised_next (x.pulsed (l.cell c).domain) (p.old c) (next c) pulsed));
               };
               least = λ other its closed c. raised_least (x.pulsed (l.cell c).domain) (other c) (p.old c) (next c) (closed.old c)
-                  (λ pulsed. above_equal _ _ _ (next_at other its closed.views c pulsed) (closed.next c pulsed));
+                  (λ pulsed. above_equal _ _ _ (next_at other its closed.views c pulsed) (closed.next c (ups c ∙ pulsed)));
             };
+            fall = falls.1.0;
           };
         },
-        λ c. chosen_equal (x.pulsed (l.cell c).domain) _ _ _ (next_at poss view found.1 c),
+        λ c. falls.1.1 c ∙ ap (λ (b : Bool). if b then next_value l p view c else p.old c) (ups c) ∙ chosen_equal (x.pulsed (l.cell c).domain) _ _ _ (next_at poss view found.1 c),
       ),
     )

@@ -1,18 +1,34 @@
 -- What the abstract cycle says of runs.
-use Rattle.std.specs.Prelude.{ℕ, Bool, true, ◌≡◌, if◌then◌else◌}
+use Rattle.std.specs.Prelude.{ℕ, Bool, true, false, ◌≡◌, List, map, if◌then◌else◌}
 use Rattle.dft_base.specs.declared.tri.Tri.{Tri}
 use Rattle.dft_base.specs.declared.tri.Tri.TheVariants.{Unknown}
 use Rattle.dft_base.specs.Tri.{known, Above, AboveTri, join}
 use Rattle.dft_netlist.specs.Drivers.{Source}
-use Rattle.dft_netlist.specs.Logic.{Logic, Lockup, IsRanked}
+use Rattle.dft_netlist.specs.Logic.{Logic, Lockup, IsRanked, IsRising}
 use Rattle.dft_netlist.specs.Settled.{IsTriSettled, value_from}
-use Rattle.dft_netlist.specs.Runs.{State, Now, Vector, Turn, IsTurn, after_turn, AreLow}
-use Rattle.dft_abstract.specs.Cycle.{Pulse, AreViews, next_value, IsClosed, pulse_of, strobe_sources, Halves, AreHalves, AreClosed, after_halves, Round, IsRound, after_round, tri_forced_by, tri_taken_by}
+use Rattle.dft_netlist.specs.Runs.{State, Now, IsNow, after, AreSteps, Edge, edge_step, IsOrder, Vector, Turn, IsTurn, after_turn, AreLow}
+use Rattle.dft_abstract.specs.Cycle.{Pulse, changes, level_before, level_after, AreViews, next_value, IsClosed, IsLeast, after_pulse, rise_of, strobe_sources, Halves, AreHalves, AreClosed, after_halves, Round, IsRound, after_round, tri_forced_by, tri_taken_by}
 
--- what holds between vectors: each value stands above its flip-flop's bit, and all clocks are low
+-- what holds between vectors: each value stands above its cell's bit, and all clocks are low
 pub record Stands (old : ℕ → Tri) (s : State) : Type 0 where
   pub above : (c : ℕ) → Above (old c) (s.flops c)
   pub low : AreLow s
+
+-- the same where the clocks have these levels
+pub record StandsAt (level : ℕ → Bool) (old : ℕ → Tri) (s : State) : Type 0 where
+  pub above : (c : ℕ) → Above (old c) (s.flops c)
+  pub levels : (e : ℕ) → s.high e ≡ level e
+
+-- the old values are those that resets and sets leave
+abbrev pub IsForced : Logic → Pulse → Type 0
+IsForced l p = (c : ℕ) → AboveTri (p.old c) (tri_forced_by (l.cell c).force p.ports (p.old c))
+
+-- After a phase, whatever the order of its edges and the free bits, the values of any closed map stand above the bits.
+abbrev pub PhaseIsAbove : Type 0
+PhaseIsAbove =
+    (l : Logic) (rank : ℕ → ℕ) (p : Pulse) (poss : ℕ → Tri) (view : ℕ → ℕ → Tri) (now : Now) (es : List Edge) → IsRanked l rank → IsClosed l p poss view → IsForced l p →
+    ((k : ℕ) → now.state.ports k ≡ p.ports k) → StandsAt (level_before p) p.old now.state → IsNow l now → IsOrder p.pulsed es → AreSteps l now (map (edge_step p.rising) es) →
+    StandsAt (level_after p) (after_pulse l p view) (after l now (map (edge_step p.rising) es)).state
 
 -- the bits that a run shows at the strobe of a turn
 abbrev pub shown : Turn → ℕ → Bool
@@ -37,11 +53,17 @@ ClosedExists = (l : Logic) (rank : ℕ → ℕ) (p : Pulse) → IsRanked l rank 
 abbrev pub StrobeExists : Type 0
 StrobeExists = (l : Logic) (rank : ℕ → ℕ) (x : Vector) (old : ℕ → Tri) → IsRanked l rank → (values : ℕ → Tri) × IsTriSettled l (strobe_sources l x old values) values
 
--- A map that is below all closed maps stays below them where a pulsed cell's next value in its views is joined to it.
+-- A map that is below all closed maps stays below them where the next value in its views of a cell that takes one is joined to it.
 abbrev pub StepIsBelow : Type 0
 StepIsBelow =
     (l : Logic) (rank : ℕ → ℕ) (p : Pulse) (poss other : ℕ → Tri) (view its : ℕ → ℕ → Tri) → IsRanked l rank → AreViews l p poss view → IsClosed l p other its →
-    ((c : ℕ) → AboveTri (other c) (poss c)) → (c : ℕ) → p.pulsed (l.cell c).domain ≡ true → AboveTri (other c) (join (poss c) (next_value l p view c))
+    ((c : ℕ) → AboveTri (other c) (poss c)) → (c : ℕ) → changes l p c ≡ true → AboveTri (other c) (join (poss c) (next_value l p view c))
+
+-- A phase in which no cell takes a value leaves all as it was, and its least map is that of the old values.
+abbrev pub NoneChanges : Type 0
+NoneChanges =
+    (l : Logic) (rank : ℕ → ℕ) (p : Pulse) → IsRanked l rank → ((c : ℕ) → changes l p c ≡ false) →
+    (view : ℕ → ℕ → Tri) × (IsLeast l p p.old view × ((c : ℕ) → after_pulse l p view c ≡ p.old c))
 
 -- The values of a vector are determined.
 abbrev pub RoundIsOne : Type 0
@@ -52,18 +74,19 @@ RoundIsOne =
 -- ---- where one domain pulses
 
 abbrev pub HasNoLockup : Logic → Type 0
-HasNoLockup l = (net c e : ℕ) (source : Source) → l.net net ≡ Lockup c e source → ⊥
+HasNoLockup l = (net c e : ℕ) (high : Bool) (source : Source) → l.net net ≡ Lockup c e high source → ⊥
 
 -- the next value of a flip-flop from the values of the strobe
 abbrev pub next_from : Logic → Vector → (values : ℕ → Tri) → (cell : ℕ) → Tri
 next_from l x values c = tri_forced_by (l.cell c).force x.ports (tri_taken_by (l.cell c).scan (value_from values) (value_from values (l.cell c).input))
 
--- Without lock-ups, where one domain pulses at most, a vector's round has these strobe values, and its flip-flops take their next values from them.
+-- Without lock-ups and with rising flip-flops alone, where one domain pulses at most, a vector's round has these strobe values, and its flip-flops
+-- take their next values from them.
 abbrev pub OneDomain : Type 0
 OneDomain =
-    (l : Logic) (rank : ℕ → ℕ) (x : Vector) (d : ℕ) (old values : ℕ → Tri) → IsRanked l rank → HasNoLockup l → ((e : ℕ) → x.pulsed e ≡ true → e ≡ d) →
+    (l : Logic) (rank : ℕ → ℕ) (x : Vector) (d : ℕ) (old values : ℕ → Tri) → IsRanked l rank → IsRising l → HasNoLockup l → ((e : ℕ) → x.pulsed e ≡ true → e ≡ d) →
     IsTriSettled l (strobe_sources l x old values) values →
-    (r : Round) × ((r.strobe ≡ values) × IsRound l x old r × ((c : ℕ) → after_round l x old r c ≡ (if x.pulsed (l.cell c).domain then next_from l x values c else (pulse_of l x old).old c)))
+    (r : Round) × ((r.strobe ≡ values) × IsRound l x old r × ((c : ℕ) → after_round l x old r c ≡ (if x.pulsed (l.cell c).domain then next_from l x values c else (rise_of l x old).old c)))
 
 -- ---- from the abstract cycle to runs: what it knows from a run's own bits, the run has
 

@@ -1,5 +1,5 @@
 -- With scan off the nets of the original have the same bits.
-use Rattle.std.proofs.Common.{ℕ, zero, suc, Bool, true, false, List, [], ◌∷◌, ◌≡◌, ◌==◌, ◌<◌, refl, sym, ap, arith, map, ◌∙◌, Option, None, Some}
+use Rattle.std.proofs.Common.{ℕ, zero, suc, Bool, true, false, List, [], ◌∷◌, ◌≡◌, ◌==◌, ◌<◌, refl, sym, ap, arith, map, ◌∙◌, Option, None, Some, ◌&&◌}
 use Rattle.std.specs.Prelude.{if◌then◌else◌, not}
 use Rattle.dft_base.specs.declared.tri.Tri.TheVariants.{Zero}
 use Rattle.dft_base.specs.Tri.{completed}
@@ -8,7 +8,7 @@ use Rattle.dft_cells.specs.FlipFlops.{forced, chosen}
 use Rattle.dft_netlist.specs.Drivers.{Source, Net, Tied, Loose, nets_of, AreBelow}
 use Rattle.dft_netlist.specs.Logic.{Logic, Meaning, Input, Clock, Gate, Joined, Flop, Lockup, Free, Force, Scan, Cell, reads, IsRanked}
 use Rattle.dft_netlist.specs.Settled.{Sources, bit_from, bit_given}
-use Rattle.dft_netlist.specs.Runs.{State, Moment, Now, port_bits, sources_of, IsNow, forced_by, taken_by, next_bit, Event, Set, after_event, at_moment, Step, next_now, AreSteps}
+use Rattle.dft_netlist.specs.Runs.{State, Moment, Now, port_bits, sources_of, IsNow, forced_by, taken_by, next_bit, Event, Set, after_event, at_moment, Step, next_now, AreSteps, takes, edge}
 use Rattle.dft_chains.specs.ScanOff.{moved_source, moved_force, moved_meaning, Places, IsWithin, IsForceWithin, IsEnabledBy, KeepsFlop, Contains, IsSameEvent, SameSet, SameRise, SameFall, AddedRise, AddedFall, AreFreeAlike, AreSameSteps, AllAgree, set_to, ScanOff}
 
 -- what both have in common at a moment, but for free bits
@@ -37,13 +37,13 @@ given_same : (rank : ℕ → ℕ) (p : Places) (s t : Sources) (a b : ℕ → Bo
     (ports : s.ports (p.moved net) ≡ t.ports net) → (high : ((domain : ℕ) → s.high (p.moved domain) ≡ t.high domain)) → (flops : ((cell : ℕ) → p.is_flop cell ≡ true → s.flops cell ≡ t.flops cell)) →
     (free : s.free (p.moved net) ≡ t.free net) → (pins : ((i pin : ℕ) → s.loose i pin ≡ t.loose i pin)) → (ih : ((k : ℕ) → k < p.size → rank k < rank net → a (p.moved k) ≡ b k)) →
     (m : Meaning) → (inside : AreBelow (λ k. k) p.size (reads m)) → (below : AreBelow rank (rank net) (reads m)) → (shown : ((cell : ℕ) (inverted : Bool) → m ≡ Flop cell inverted → p.is_flop cell ≡ true)) →
-    (no_lockup : ((cell domain : ℕ) (source : Source) → m ≡ Lockup cell domain source → ⊥)) → bit_given s a (p.moved net) (moved_meaning p.moved m) ≡ bit_given t b net m
+    (no_lockup : ((cell domain : ℕ) (high : Bool) (source : Source) → m ≡ Lockup cell domain high source → ⊥)) → bit_given s a (p.moved net) (moved_meaning p.moved m) ≡ bit_given t b net m
 given_same rank p s t a b net ports high flops free pins ih Input inside below shown no_lockup = ports
 given_same rank p s t a b net ports high flops free pins ih Clock inside below shown no_lockup = high net
 given_same rank p s t a b net ports high flops free pins ih (Gate kind inputs) inside below shown no_lockup = ap (bit_of kind) (inputs_same rank (rank net) p s t a b pins ih inputs inside below)
 given_same rank p s t a b net ports high flops free pins ih (Joined source) inside below shown no_lockup = joined_same rank (rank net) p s t a b pins ih source inside below
 given_same rank p s t a b net ports high flops free pins ih (Flop cell inverted) inside below shown no_lockup = ap (λ (bit : Bool). if inverted then not bit else bit) (flops cell (shown cell inverted refl))
-given_same rank p s t a b net ports high flops free pins ih (Lockup cell domain source) inside below shown no_lockup = absurd (no_lockup cell domain source refl)
+given_same rank p s t a b net ports high flops free pins ih (Lockup cell domain up source) inside below shown no_lockup = absurd (no_lockup cell domain up source refl)
 given_same rank p s t a b net ports high flops free pins ih Free inside below shown no_lockup = free
 
 port_same : (p : Places) (now its : Now) → AreAlike p now.state its.state → AreFreeAlike p now.moment its.moment → (net : ℕ) → net < p.size → port_bits now.state now.moment (p.moved net) ≡ port_bits its.state its.moment net
@@ -56,7 +56,7 @@ seen_by original written rank p now its ranked has alike free settled its_settle
     settled (p.moved net) ∙ ap (bit_given (sources_of now) now.moment.seen (p.moved net)) (has.nets net inside)
     ∙ given_same rank p (sources_of now) (sources_of its) now.moment.seen its.moment.seen net (port_same p now its alike free net inside) alike.high alike.flops (free.nets net inside) free.pins
     (λ k k_inside below. seen_by original written rank p now its ranked has alike free settled its_settled fuel k (omega (arith, less, below)) k_inside)
-    (original.net net) (has.closed net inside) (ranked.order net) (λ cell inverted is. has.shown net cell inverted inside is) (λ cell domain source is. has.no_lockup net cell domain source inside is)
+    (original.net net) (has.closed net inside) (ranked.order net) (λ cell inverted is. has.shown net cell inverted inside is) (λ cell domain high source is. has.no_lockup net cell domain high source inside is)
     ∙ sym (its_settled net)
 
 seen_same : (original written : Logic) (rank : ℕ → ℕ) (p : Places) (now its : Now) → IsRanked original rank → Contains original written p → AreAlike p now.state its.state → AreFreeAlike p now.moment its.moment →
@@ -103,35 +103,39 @@ not_picked a x y z e f = rw e f
 
 -- ---- events
 
+no_turn : (a b : Bool) → a ≡ false → (a && b) ≡ false
+no_turn false b h = refl
+no_turn true b h = absurd cc
+
+edge_alike : (original written : Logic) (p : Places) (now its : Now) (d : ℕ) (rising : Bool) → Contains original written p → AreAlike p now.state its.state → AreFreeAlike p now.moment its.moment → now.moment.seen p.enable ≡ false →
+    ((net : ℕ) → net < p.size → now.moment.seen (p.moved net) ≡ its.moment.seen net) → AreAlike p (edge written now (p.moved d) rising) (edge original its d rising)
+edge_alike original written p now its d rising has alike free low same = record {
+  ports = alike.ports;
+  off = alike.off;
+  flops = λ c is. pick ((written.cell c).domain == p.moved d && takes rising (written.cell c).falling) ((original.cell c).domain == d && takes rising (original.cell c).falling)
+      (next_bit (written.cell c) now) (now.state.flops c) (next_bit (original.cell c) its) (its.state.flops c)
+      (λ t. (ap (λ e. e == p.moved d) (has.flops c is).domain ∙ has.apart (original.cell c).domain d) t && takes rising ((has.flops c is).falling t))
+      (next_same original written p now its (original.cell c) (written.cell c) has alike free low same (has.flops c is)) (alike.flops c is);
+  high = λ e. pick (p.moved e == p.moved d) (e == d) rising (now.state.high (p.moved e)) rising (its.state.high e) (has.apart e d) refl (alike.high e);
+}
+
+added_alike : (original written : Logic) (p : Places) (now its : Now) (k : ℕ) (rising : Bool) → Contains original written p → AreAlike p now.state its.state → ((domain : ℕ) → (p.moved domain == k) ≡ false) →
+    AreAlike p (edge written now k rising) (after_event original its (Set its.state.ports))
+added_alike original written p now its k rising has alike added = record {
+  ports = alike.ports;
+  off = alike.off;
+  flops = λ c is. not_picked ((written.cell c).domain == k && takes rising (written.cell c).falling) (next_bit (written.cell c) now) (now.state.flops c) (its.state.flops c)
+      (no_turn ((written.cell c).domain == k) (takes rising (written.cell c).falling) (ap (λ e. e == k) (has.flops c is).domain ∙ added (original.cell c).domain)) (alike.flops c is);
+  high = λ e. not_picked (p.moved e == k) rising (now.state.high (p.moved e)) (its.state.high e) (added e) (alike.high e);
+}
+
 after_alike : (original written : Logic) (p : Places) (now its : Now) (event other : Event) → Contains original written p → AreAlike p now.state its.state → AreFreeAlike p now.moment its.moment → now.moment.seen p.enable ≡ false →
     ((net : ℕ) → net < p.size → now.moment.seen (p.moved net) ≡ its.moment.seen net) → IsSameEvent p its.state.ports event other → AreAlike p (after_event written now event) (after_event original its other)
 after_alike original written p now its _ _ has alike free low same (SameSet {given = given} {its = ports} off are) = record { ports = are; off = off; flops = alike.flops; high = alike.high }
-after_alike original written p now its _ _ has alike free low same (SameRise {domain = d}) = record {
-  ports = alike.ports;
-  off = alike.off;
-  flops = λ c is. pick ((written.cell c).domain == p.moved d) ((original.cell c).domain == d) (next_bit (written.cell c) now) (now.state.flops c) (next_bit (original.cell c) its) (its.state.flops c)
-      (ap (λ e. e == p.moved d) (has.flops c is).domain ∙ has.apart (original.cell c).domain d)
-      (next_same original written p now its (original.cell c) (written.cell c) has alike free low same (has.flops c is)) (alike.flops c is);
-  high = λ e. pick (p.moved e == p.moved d) (e == d) true (now.state.high (p.moved e)) true (its.state.high e) (has.apart e d) refl (alike.high e);
-}
-after_alike original written p now its _ _ has alike free low same (SameFall {domain = d}) = record {
-  ports = alike.ports;
-  off = alike.off;
-  flops = alike.flops;
-  high = λ e. pick (p.moved e == p.moved d) (e == d) false (now.state.high (p.moved e)) false (its.state.high e) (has.apart e d) refl (alike.high e);
-}
-after_alike original written p now its _ _ has alike free low same (AddedRise {clock = k} added) = record {
-  ports = alike.ports;
-  off = alike.off;
-  flops = λ c is. not_picked ((written.cell c).domain == k) (next_bit (written.cell c) now) (now.state.flops c) (its.state.flops c) (ap (λ e. e == k) (has.flops c is).domain ∙ added (original.cell c).domain) (alike.flops c is);
-  high = λ e. not_picked (p.moved e == k) true (now.state.high (p.moved e)) (its.state.high e) (added e) (alike.high e);
-}
-after_alike original written p now its _ _ has alike free low same (AddedFall {clock = k} added) = record {
-  ports = alike.ports;
-  off = alike.off;
-  flops = alike.flops;
-  high = λ e. not_picked (p.moved e == k) false (now.state.high (p.moved e)) (its.state.high e) (added e) (alike.high e);
-}
+after_alike original written p now its _ _ has alike free low same (SameRise {domain = d}) = edge_alike original written p now its d true has alike free low same
+after_alike original written p now its _ _ has alike free low same (SameFall {domain = d}) = edge_alike original written p now its d false has alike free low same
+after_alike original written p now its _ _ has alike free low same (AddedRise {clock = k} added) = added_alike original written p now its k true has alike added
+after_alike original written p now its _ _ has alike free low same (AddedFall {clock = k} added) = added_alike original written p now its k false has alike added
 
 -- resets and sets act alike
 moment_alike : (original written : Logic) (p : Places) (s its : State) (m o : Moment) → Contains original written p → AreAlike p s its → AreFreeAlike p m o → AreAlike p (at_moment written m s) (at_moment original o its)

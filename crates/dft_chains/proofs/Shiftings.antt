@@ -1,5 +1,5 @@
 -- What shift vectors do to scan chains: one vector in the views of its domains, then by induction over the vectors.
-use Rattle.std.proofs.Common.{ℕ, zero, suc, ◌+◌, ◌≡◌, ◌==◌, ◌≤◌, Bool, true, false, List, [], ◌∷◌, length, get_or, slice_get, option_and_then, Option, None, Some, refl, sym, subst, ap, arith, ◌∙◌}
+use Rattle.std.proofs.Common.{ℕ, zero, suc, ◌+◌, ◌≡◌, ◌==◌, ◌≤◌, Bool, true, false, not, ◌||◌, List, [], ◌∷◌, length, get_or, slice_get, option_and_then, Option, None, Some, refl, sym, subst, ap, arith, ◌∙◌}
 use Rattle.std.specs.Prelude.{if◌then◌else◌}
 use Rattle.std.proofs.lemmas.Bool.{eq-eqb}
 use Rattle.std.proofs.lemmas.Option.{none-some, same_Some, slice_get_within, slice_get-get_or}
@@ -12,36 +12,52 @@ use Rattle.dft_netlist.specs.declared.ids.InstanceId.{InstanceId}
 use Rattle.dft_netlist.specs.Drivers.{Source, Net}
 use Rattle.dft_netlist.specs.Logic.{Logic, Ports, Force, Scan, Input, Flop, Lockup, IsRanked}
 use Rattle.dft_netlist.specs.Settled.{value_from, bit_given}
-use Rattle.dft_netlist.specs.Runs.{Now, Moment, State, next_now, set_step, sources_of, port_bits, forced_by, Vector, Turn, after_turn, AreTurns, AreLow}
+use Rattle.dft_netlist.specs.Runs.{Now, Moment, State, next_now, set_step, sources_of, port_bits, forced_by, Vector, Turn, after_turn, AreTurns, AreLow, takes}
 use Rattle.dft_netlist.proofs.SettledLemmas.{value_at}
-use Rattle.dft_abstract.specs.Cycle.{Pulse, tri_forced_by, tri_taken_by, view_sources, AreViews, next_value, after_pulse, pulse_of}
+use Rattle.dft_abstract.specs.Cycle.{Pulse, tri_forced_by, tri_taken_by, changes, closing, opening, view_sources, AreViews, next_value, after_pulse, rise_of, fall_of, Halves, AreHalves, after_halves}
 use Rattle.dft_abstract.specs.Laws.{bits}
+use Rattle.dft_abstract.proofs.Halves.{rises_change, rises_rest, falls_change, rising_after, falling_old}
 use Rattle.dft_abstract.proofs.Lifts.{known_after_turn, low_after_turn}
 use Rattle.dft_runs.specs.Passes.{after_turns}
 use Rattle.dft_stitch.specs.Plans.{cell_at}
-use Rattle.dft_chains.specs.Hardware.{ChainNets, ScanNets, ActsByPort, IsScanCell, Leads, Directly, ByLockup, HasChains, Shows, IsPlain}
+use Rattle.dft_chains.specs.Hardware.{ChainNets, ScanNets, ActsByPort, IsScanCell, Leads, Directly, AcrossEdges, ByLockup, HasChains, Shows, IsPlain, Enters}
 use Rattle.dft_chains.specs.Shifts.{IsShift, LinkLaw, EntryLaw, IsShifted, ShiftInRuns, AreShifts, AreShifted, ShiftExperiment, at_strobe, EndsShow, EndsShowBefore}
 
 -- ---- values
+
+or_true : (b : Bool) → (b || true) ≡ true
+or_true true = refl
+or_true false = refl
 
 pub own_choice : (a b : Bool) (x y : Tri) → b ≡ true → (if a then (if b then x else y) else x) ≡ x
 own_choice true true x y h = refl
 own_choice true false x y h = absurd cc
 own_choice false b x y h = refl
 
--- a flip-flop has its old value in the view of its domain
-own_net : (l : Logic) (p : Pulse) (poss : ℕ → Tri) (view : ℕ → ℕ → Tri) (d cell net : ℕ) → AreViews l p poss view → l.net net ≡ Flop cell false → (l.cell cell).domain ≡ d → view d net ≡ p.old cell
+-- a cell has its old value in the view of its domain
+pub own_net : (l : Logic) (p : Pulse) (poss : ℕ → Tri) (view : ℕ → ℕ → Tri) (d cell net : ℕ) → AreViews l p poss view → l.net net ≡ Flop cell false → (l.cell cell).domain ≡ d → view d net ≡ p.old cell
 own_net l p poss view d cell net views at is =
     value_at l (view_sources l p poss view d) (view d) net (Flop cell false) (views d) at
-    ∙ own_choice (p.pulsed (l.cell cell).domain) ((l.cell cell).domain == d) (p.old cell) (poss cell) (eq-eqb (l.cell cell).domain d is)
+    ∙ own_choice (changes l p cell) ((l.cell cell).domain == d) (p.old cell) (poss cell) (eq-eqb (l.cell cell).domain d is)
 
--- what leads to a cell has the old value of the one before it, in the view of the cell's domain
-lead_value : (l : Logic) (p : Pulse) (poss : ℕ → Tri) (view : ℕ → ℕ → Tri) (cell next : ℕ) (source : Source) → AreViews l p poss view → Leads l cell next source →
-    value_from (view (l.cell next).domain) source ≡ p.old cell
-lead_value l p poss view cell next _ views (Directly {net = net} at same) = own_net l p poss view (l.cell next).domain cell net views at same
-lead_value l p poss view cell next _ views (ByLockup {net = net} {lockup = i} {output = q} at from) =
-    value_at l (view_sources l p poss view (l.cell next).domain) (view (l.cell next).domain) net (Lockup i (l.cell cell).domain (Net q)) (views (l.cell next).domain) at
-    ∙ own_net l p poss view (l.cell cell).domain cell q views from refl
+-- in a phase in which it takes no value it has it in every view
+pub rest_net : (l : Logic) (p : Pulse) (poss : ℕ → Tri) (view : ℕ → ℕ → Tri) (d cell net : ℕ) → AreViews l p poss view → l.net net ≡ Flop cell false → changes l p cell ≡ false → view d net ≡ p.old cell
+rest_net l p poss view d cell net views at is =
+    value_at l (view_sources l p poss view d) (view d) net (Flop cell false) (views d) at
+    ∙ ap (λ (b : Bool). if b then (if (l.cell cell).domain == d then p.old cell else poss cell) else p.old cell) is
+
+-- a lock-up that takes its bit in a phase in which its clock pulses shows what its cell had
+pub lock_net : (l : Logic) (p : Pulse) (poss : ℕ → Tri) (view : ℕ → ℕ → Tri) (d cell i net output : ℕ) (high : Bool) → AreViews l p poss view → l.net net ≡ Lockup i (l.cell cell).domain high (Net output) → l.net output ≡ Flop cell false →
+    takes p.rising high ≡ true → p.pulsed (l.cell cell).domain ≡ true → view d net ≡ p.old cell
+lock_net l p poss view d cell i net output high views at from closes pulses =
+    let e : ℕ = (l.cell cell).domain in
+    let held : Tri = p.old i in
+    let here : Tri = view d output in
+    let there : Tri = view e output in
+    value_at l (view_sources l p poss view d) (view d) net (Lockup i e high (Net output)) (views d) at
+    ∙ ap (λ (b : Bool). if b then closing p.rising (p.pulsed e) held there else opening (p.pulsed e) (e == d) high held here) closes
+    ∙ ap (λ (b : Bool). if b then there else held) (ap (λ (b : Bool). p.rising || b) pulses ∙ or_true p.rising)
+    ∙ own_net l p poss view e cell output views from refl
 
 -- an input port has its value in every view
 pub port_value : (l : Logic) (p : Pulse) (poss : ℕ → Tri) (view : ℕ → ℕ → Tri) (d net : ℕ) → AreViews l p poss view → l.net net ≡ Input → view d net ≡ p.ports net
@@ -62,36 +78,74 @@ pick_true : (b : Bool) (x y : Tri) → b ≡ true → (if b then x else y) ≡ x
 pick_true true x y h = refl
 pick_true false x y h = absurd cc
 
--- after the vector a scan cell has the value of its source in the view of its domain
-pub takes_source : (l : Logic) (ports : Ports) (chains : List (List InstanceId)) (w : ChainNets) (x : Vector) (old poss : ℕ → Tri) (view : ℕ → ℕ → Tri) (source : Source) (cell : ℕ) →
-    HasChains l ports chains w → IsShift ports w.enable x → AreViews l (pulse_of l x old) poss view → IsScanCell l ports w.enable source cell →
-    after_pulse l (pulse_of l x old) view cell ≡ value_from (view (l.cell cell).domain) source
-takes_source l ports chains w x old poss view source cell has shift views is =
+-- after a phase in which it takes a value a scan cell has that of its source in the view of its domain
+pub takes_source : (l : Logic) (ports : Ports) (chains : List (List InstanceId)) (w : ChainNets) (x : Vector) (p : Pulse) (poss : ℕ → Tri) (view : ℕ → ℕ → Tri) (source : Source) (cell : ℕ) →
+    HasChains l ports chains w → IsShift ports w.enable x → p.ports ≡ x.ports → AreViews l p poss view → changes l p cell ≡ true → IsScanCell l ports w.enable source cell →
+    after_pulse l p view cell ≡ value_from (view (l.cell cell).domain) source
+takes_source l ports chains w x p poss view source cell has shift same views turn is =
     let d : ℕ = (l.cell cell).domain in
     let at : Source → Tri = value_from (view d) in
-    pick_true (x.pulsed d) (next_value l (pulse_of l x old) view cell) ((pulse_of l x old).old cell) (shift.domains d is.domain)
+    pick_true (changes l p cell) (next_value l p view cell) (p.old cell) turn
+    ∙ ap (λ (f : ℕ → Tri). tri_forced_by (l.cell cell).force f (tri_taken_by (l.cell cell).scan at (at (l.cell cell).input))) same
     ∙ not_forced ports w.enable x (l.cell cell).force (tri_taken_by (l.cell cell).scan at (at (l.cell cell).input)) is.force shift
     ∙ taken_in (l.cell cell).scan w.enable source at (at (l.cell cell).input) is.scan
-    (port_value l (pulse_of l x old) poss view d w.enable views has.enable ∙ shift.enabled)
+    (port_value l p poss view d w.enable views has.enable ∙ ap (λ (f : ℕ → Tri). f w.enable) same ∙ shift.enabled)
+
+-- a rising cell in the rises, a falling one in the falls
+pub rise_takes : (l : Logic) (ports : Ports) (chains : List (List InstanceId)) (w : ChainNets) (x : Vector) (old : ℕ → Tri) (h : Halves) (source : Source) (cell : ℕ) →
+    HasChains l ports chains w → IsShift ports w.enable x → AreHalves l x old h → (l.cell cell).falling ≡ false → IsScanCell l ports w.enable source cell →
+    after_halves l x old h cell ≡ value_from (h.rise.view (l.cell cell).domain) source
+rise_takes l ports chains w x old h source cell has shift are rises is =
+    rising_after l x old h cell rises
+    ∙ takes_source l ports chains w x (rise_of l x old) h.rise.poss h.rise.view source cell has shift refl are.rise
+    (rises_change l (rise_of l x old) cell rises refl ∙ shift.domains (l.cell cell).domain is.domain) is
+
+pub fall_takes : (l : Logic) (ports : Ports) (chains : List (List InstanceId)) (w : ChainNets) (x : Vector) (old : ℕ → Tri) (h : Halves) (source : Source) (cell : ℕ) →
+    HasChains l ports chains w → IsShift ports w.enable x → AreHalves l x old h → (l.cell cell).falling ≡ true → IsScanCell l ports w.enable source cell →
+    after_halves l x old h cell ≡ value_from (h.fall.view (l.cell cell).domain) source
+fall_takes l ports chains w x old h source cell has shift are falls is =
+    takes_source l ports chains w x (fall_of l x old h.rise.view) h.fall.poss h.fall.view source cell has shift refl are.fall
+    (falls_change l (fall_of l x old h.rise.view) cell falls refl ∙ shift.domains (l.cell cell).domain is.domain) is
+
+-- what leads to a cell has the old value of the one before it, in the half in which the cell takes it
+link_by : (l : Logic) (ports : Ports) (chains : List (List InstanceId)) (w : ChainNets) (x : Vector) (old : ℕ → Tri) (h : Halves) (cell next : ℕ) (from source : Source) (falling : Bool) →
+    HasChains l ports chains w → IsShift ports w.enable x → AreHalves l x old h → (l.cell next).falling ≡ falling → IsScanCell l ports w.enable from cell → IsScanCell l ports w.enable source next → Leads l cell next source →
+    after_halves l x old h next ≡ (rise_of l x old).old cell
+link_by l ports chains w x old h cell next from _ false has shift are rises is is_next (Directly {net = net} at same edges) =
+    rise_takes l ports chains w x old h (Net net) next has shift are rises is_next ∙ own_net l (rise_of l x old) h.rise.poss h.rise.view (l.cell next).domain cell net are.rise at same
+link_by l ports chains w x old h cell next from _ false has shift are rises is is_next (AcrossEdges {net = net} at falls edge) =
+    rise_takes l ports chains w x old h (Net net) next has shift are rises is_next
+    ∙ rest_net l (rise_of l x old) h.rise.poss h.rise.view (l.cell next).domain cell net are.rise at (rises_rest l (rise_of l x old) cell falls refl)
+link_by l ports chains w x old h cell next from _ false has shift are rises is is_next (ByLockup {net = net} {lockup = i} {output = q} {high = high} at out edge next_edge) =
+    rise_takes l ports chains w x old h (Net net) next has shift are rises is_next
+    ∙ lock_net l (rise_of l x old) h.rise.poss h.rise.view (l.cell next).domain cell i net q high are.rise at out (ap not (sym next_edge ∙ rises)) (shift.domains (l.cell cell).domain is.domain)
+link_by l ports chains w x old h cell next from _ true has shift are falls is is_next (Directly {net = net} at same edges) =
+    fall_takes l ports chains w x old h (Net net) next has shift are falls is_next
+    ∙ own_net l (fall_of l x old h.rise.view) h.fall.poss h.fall.view (l.cell next).domain cell net are.fall at same ∙ falling_old l x old h.rise.view cell (edges ∙ falls)
+link_by l ports chains w x old h cell next from _ true has shift are falls is is_next (AcrossEdges {net = net} at first edge) = absurd (let q : true ≡ false = sym falls ∙ edge in cc)
+link_by l ports chains w x old h cell next from _ true has shift are falls is is_next (ByLockup {net = net} {lockup = i} {output = q} {high = high} at out edge next_edge) =
+    fall_takes l ports chains w x old h (Net net) next has shift are falls is_next
+    ∙ lock_net l (fall_of l x old h.rise.view) h.fall.poss h.fall.view (l.cell next).domain cell i net q high are.fall at out (sym next_edge ∙ falls) (shift.domains (l.cell cell).domain is.domain)
+    ∙ falling_old l x old h.rise.view cell (edge ∙ sym next_edge ∙ falls)
 
 pub link_law : LinkLaw
-link_law l ports chains w x old h has shift halves chain place cell next stands follows =
-    let poss : ℕ → Tri = h.rise.poss in
-    let view : ℕ → ℕ → Tri = h.rise.view in
-    let views : AreViews l (pulse_of l x old) poss view = halves.rise in
-    takes_source l ports chains w x old poss view (w.into chain (suc place)) next.0 has shift views (has.cells chain (suc place) next follows)
-    ∙ lead_value l (pulse_of l x old) poss view cell.0 next.0 (w.into chain (suc place)) views (has.links chain place cell next stands follows)
+link_law l ports chains w x old h has shift are chain place cell next stands follows =
+    link_by l ports chains w x old h cell.0 next.0 (w.into chain place) (w.into chain (suc place)) (l.cell next.0).falling has shift are refl (has.cells chain place cell stands) (has.cells chain (suc place) next follows)
+    (has.links chain place cell next stands follows)
     ∙ not_forced ports w.enable x (l.cell cell.0).force (old cell.0) (has.cells chain place cell stands).force shift
 
+entry_by : (l : Logic) (ports : Ports) (chains : List (List InstanceId)) (w : ScanNets) (x : Vector) (old : ℕ → Tri) (h : Halves) (chain cell : ℕ) (falling : Bool) →
+    HasChains l ports chains w.nets → IsShift ports w.nets.enable x → AreHalves l x old h → (l.cell cell).falling ≡ falling → IsScanCell l ports w.nets.enable (w.nets.into chain zero) cell → Enters l w chain →
+    after_halves l x old h cell ≡ x.ports (w.scan_in chain)
+entry_by l ports chains w x old h chain cell false has shift are rises is enters =
+    rise_takes l ports chains w.nets x old h (w.nets.into chain zero) cell has shift are rises is ∙ ap (value_from (h.rise.view (l.cell cell).domain)) enters.first
+    ∙ port_value l (rise_of l x old) h.rise.poss h.rise.view (l.cell cell).domain (w.scan_in chain) are.rise enters.port
+entry_by l ports chains w x old h chain cell true has shift are falls is enters =
+    fall_takes l ports chains w.nets x old h (w.nets.into chain zero) cell has shift are falls is ∙ ap (value_from (h.fall.view (l.cell cell).domain)) enters.first
+    ∙ port_value l (fall_of l x old h.rise.view) h.fall.poss h.fall.view (l.cell cell).domain (w.scan_in chain) are.fall enters.port
+
 pub entry_law : EntryLaw
-entry_law l ports chains w x old h has shift halves chain cell stands enters =
-    let poss : ℕ → Tri = h.rise.poss in
-    let view : ℕ → ℕ → Tri = h.rise.view in
-    let views : AreViews l (pulse_of l x old) poss view = halves.rise in
-    let d : ℕ = (l.cell cell.0).domain in
-    takes_source l ports chains w.nets x old poss view (w.nets.into chain zero) cell.0 has shift views (has.cells chain zero cell stands)
-    ∙ ap (value_from (view d)) enters.first
-    ∙ port_value l (pulse_of l x old) poss view d (w.scan_in chain) views enters.port
+entry_law l ports chains w x old h has shift are chain cell stands enters = entry_by l ports chains w x old h chain cell.0 (l.cell cell.0).falling has shift are refl (has.cells chain zero cell stands) enters
 
 -- ---- every run
 

@@ -4,7 +4,7 @@ use Rattle.std.proofs.lemmas.Option.{none-some}
 use Rattle.dft_netlist.specs.Drivers.{Source, Net}
 use Rattle.dft_netlist.specs.Logic.{Logic, Ports, Meaning, Cell, Scan, Input, Flop, Lockup, Free}
 use Rattle.dft_runs.specs.WiderPorts.{MeansMore}
-use Rattle.dft_chains.specs.Hardware.{ActsByPort, IsScanCell, Leads, Directly, ByLockup, ChainsStay}
+use Rattle.dft_chains.specs.Hardware.{ActsByPort, IsScanCell, Leads, Directly, AcrossEdges, ByLockup, ChainsStay}
 
 abbrev IsFree : Meaning → Type 0
 IsFree Free = Unit {0}
@@ -34,12 +34,15 @@ scan_cell_stays l m ports enable source cell more is =
     }
 
 leads_stays : (l m : Logic) (cell next : ℕ) (source : Source) → MeansMore l m → m.cell cell ≡ l.cell cell → m.cell next ≡ l.cell next → Leads l cell next source → Leads m cell next source
-leads_stays l m cell next _ more same same_next (Directly {net = net} at alike) =
+leads_stays l m cell next _ more same same_next (Directly {net = net} at alike edges) =
     Directly {net = net} (net_stays l m net (Flop cell false) more at (λ free. free)) (ap (λ (c : Cell). c.domain) same ∙ alike ∙ sym (ap (λ (c : Cell). c.domain) same_next))
-leads_stays l m cell next _ more same same_next (ByLockup {net = net} {lockup = i} {output = q} at from) =
-    ByLockup {net = net} {lockup = i} {output = q}
-    (net_stays l m net (Lockup i (l.cell cell).domain (Net q)) more at (λ free. free) ∙ ap (λ (c : Cell). Lockup i c.domain (Net q)) (sym same))
-    (net_stays l m q (Flop cell false) more from (λ free. free))
+    (ap (λ (c : Cell). c.falling) same ∙ edges ∙ sym (ap (λ (c : Cell). c.falling) same_next))
+leads_stays l m cell next _ more same same_next (AcrossEdges {net = net} at falls rises) =
+    AcrossEdges {net = net} (net_stays l m net (Flop cell false) more at (λ free. free)) (ap (λ (c : Cell). c.falling) same ∙ falls) (ap (λ (c : Cell). c.falling) same_next ∙ rises)
+leads_stays l m cell next _ more same same_next (ByLockup {net = net} {lockup = i} {output = q} {high = high} at from edge next_edge) =
+    ByLockup {net = net} {lockup = i} {output = q} {high = high}
+    (net_stays l m net (Lockup i (l.cell cell).domain high (Net q)) more at (λ free. free) ∙ ap (λ (c : Cell). Lockup i c.domain high (Net q)) (sym same))
+    (net_stays l m q (Flop cell false) more from (λ free. free)) (ap (λ (c : Cell). c.falling) same ∙ edge) (ap (λ (c : Cell). c.falling) same_next ∙ next_edge)
 
 pub chains_stay : ChainsStay
 chains_stay l m ports chains w more has = record {

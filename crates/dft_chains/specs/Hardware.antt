@@ -1,5 +1,5 @@
 -- What it is for a design to have scan chains: facts about its scan cells and about what leads into them.
-use Rattle.std.specs.Prelude.{ℕ, zero, suc, ◌≡◌, true, false, List, [], ◌∷◌, Option, None, Some}
+use Rattle.std.specs.Prelude.{ℕ, zero, suc, ◌≡◌, Bool, true, false, List, [], ◌∷◌, Option, None, Some}
 use Rattle.dft_cells.specs.declared.kind.Kind.TheVariants.{Buf}
 use Rattle.dft_netlist.specs.declared.ids.InstanceId.{InstanceId}
 use Rattle.dft_netlist.specs.Drivers.{Source, Net}
@@ -29,11 +29,13 @@ pub record IsScanCell (l : Logic) (ports : Ports) (enable : ℕ) (source : Sourc
   pub domain : ports.is_clock (l.cell cell).domain ≡ true
   pub force : ActsByPort ports (l.cell cell).force
 
--- a source leads from a cell to the next one: the cell's output where both have one domain, or a lock-up behind it that is
--- clocked by the cell's domain
+-- A source leads from a cell to the next one: the cell's output, where both take their bits at one edge of one clock, or the cell
+-- at falls and the next one at rises; or a lock-up behind it on the cell's clock, where both take their bits at its edge.
 pub data Leads (l : Logic) (cell next : ℕ) : Source → Type 0 where
-  Directly : {net : ℕ} → l.net net ≡ Flop cell false → (l.cell cell).domain ≡ (l.cell next).domain → Leads l cell next (Net net)
-  ByLockup : {net lockup output : ℕ} → l.net net ≡ Lockup lockup (l.cell cell).domain (Net output) → l.net output ≡ Flop cell false → Leads l cell next (Net net)
+  Directly : {net : ℕ} → l.net net ≡ Flop cell false → (l.cell cell).domain ≡ (l.cell next).domain → (l.cell cell).falling ≡ (l.cell next).falling → Leads l cell next (Net net)
+  AcrossEdges : {net : ℕ} → l.net net ≡ Flop cell false → (l.cell cell).falling ≡ true → (l.cell next).falling ≡ false → Leads l cell next (Net net)
+  ByLockup : {net lockup output : ℕ} {high : Bool} → l.net net ≡ Lockup lockup (l.cell cell).domain high (Net output) → l.net output ≡ Flop cell false → (l.cell cell).falling ≡ high → (l.cell next).falling ≡ high →
+      Leads l cell next (Net net)
 
 -- the cells of these chains are scan cells, and each leads to the next
 pub record HasChains (l : Logic) (ports : Ports) (chains : List (List InstanceId)) (w : ChainNets) : Type 0 where

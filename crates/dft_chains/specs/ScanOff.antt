@@ -23,7 +23,7 @@ moved_meaning moved Clock = Clock
 moved_meaning moved (Gate kind inputs) = Gate kind (map (moved_source moved) inputs)
 moved_meaning moved (Joined source) = Joined (moved_source moved source)
 moved_meaning moved (Flop cell inverted) = Flop cell inverted
-moved_meaning moved (Lockup cell domain source) = Lockup cell (moved domain) (moved_source moved source)
+moved_meaning moved (Lockup cell domain high source) = Lockup cell (moved domain) high (moved_source moved source)
 moved_meaning moved Free = Free
 
 -- ---- containment
@@ -54,6 +54,7 @@ IsEnabledBy port (Some scan) = scan.enable ≡ Net port
 pub record KeepsFlop (p : Places) (old new : Cell) : Type 0 where
   pub plain : old.scan ≡ None
   pub domain : new.domain ≡ p.moved old.domain
+  pub falling : new.falling ≡ old.falling
   pub input : new.input ≡ moved_source p.moved old.input
   pub input_within : IsWithin p.size old.input
   pub force : new.force ≡ moved_force p.moved old.force
@@ -69,7 +70,7 @@ pub record Contains (original written : Logic) (p : Places) : Type 0 where
   pub closed : (net : ℕ) → net < p.size → AreBelow (λ k. k) p.size (reads (original.net net))
   pub shown : (net cell : ℕ) (inverted : Bool) → net < p.size → original.net net ≡ Flop cell inverted → p.is_flop cell ≡ true
   pub flops : (cell : ℕ) → p.is_flop cell ≡ true → KeepsFlop p (original.cell cell) (written.cell cell)
-  pub no_lockup : (net cell domain : ℕ) (source : Source) → net < p.size → original.net net ≡ Lockup cell domain source → ⊥
+  pub no_lockup : (net cell domain : ℕ) (high : Bool) (source : Source) → net < p.size → original.net net ≡ Lockup cell domain high source → ⊥
 
 -- ---- lists of events
 

@@ -1,5 +1,5 @@
 -- Where one domain pulses and there is no lock-up, its next values do not depend on the map.
-use Rattle.std.proofs.Common.{ℕ, zero, suc, Bool, true, false, List, [], ◌∷◌, ◌≡◌, ◌<◌, ◌≤◌, ◌+◌, ◌==◌, inl, inr, length, refl, sym, ap, ◌∙◌, subst, get_or, count_by, arith}
+use Rattle.std.proofs.Common.{ℕ, zero, suc, Bool, true, false, List, [], ◌∷◌, ◌≡◌, ◌<◌, ◌≤◌, ◌+◌, ◌==◌, ◌&&◌, inl, inr, length, refl, sym, ap, ◌∙◌, subst, get_or, count_by, arith}
 use Rattle.std.specs.Prelude.{if◌then◌else◌, is_some}
 use Rattle.std.specs.List.{list_any}
 use Rattle.std.proofs.lemmas.Bool.Decides.{eqb_tells, leb_tells}
@@ -13,27 +13,29 @@ use Rattle.dft_netlist.specs.declared.ids.NetId.{NetId}
 use Rattle.dft_netlist.specs.Logic.{Logic, IsRanked}
 use Rattle.dft_netlist.specs.Settled.{value_from}
 use Rattle.dft_logic.specs.declared.circuit.Circuit.{Circuit}
-use Rattle.dft_abstract.specs.Cycle.{Pulse, tri_forced_by, tri_taken_by, view_sources, AreViews, next_value}
+use Rattle.dft_netlist.specs.Runs.{takes}
+use Rattle.dft_abstract.specs.Cycle.{Pulse, tri_forced_by, tri_taken_by, changes, next_value, view_sources, AreViews}
 use Rattle.dft_cycle.specs.Machine.{value_at}
 use Rattle.dft_logic.specs.Circuit.{logic_at, flag_at, IsCircuit}
 use Rattle.dft_cycle.specs.Views.{raised_by, rank_of, Among, PulsesAmong, HasNext, AreNext, IsAlone}
-use Rattle.dft_abstract.proofs.Views.{views_exist, settled_same}
+use Rattle.dft_abstract.proofs.Views.{settled_same, views_exist}
 use Rattle.dft_logic.proofs.CircuitRanks.{circuit_ranked}
 use Rattle.dft_cycle.proofs.RoundLemmas.{no_latch}
-use Rattle.dft_cycle.proofs.Risings.{IsRaised, past_next}
+use Rattle.dft_cycle.proofs.Risings.{IsRaised, past_next, pulses}
 
 -- ---- the view of the domain that pulses
 
-same_flop : (up hit : Bool) (old a b : Tri) → (up ≡ true → hit ≡ true) → (if up then (if hit then old else a) else old) ≡ (if up then (if hit then old else b) else old)
-same_flop false hit old a b h = refl
-same_flop true true old a b h = refl
-same_flop true false old a b h = absurd (let f : false ≡ true = h refl in let g : ⊥ = cc in g)
+same_flop : (up edge hit : Bool) (old a b : Tri) → (up ≡ true → hit ≡ true) → (if up && edge then (if hit then old else a) else old) ≡ (if up && edge then (if hit then old else b) else old)
+same_flop false edge hit old a b h = refl
+same_flop true false hit old a b h = refl
+same_flop true true true old a b h = refl
+same_flop true true false old a b h = absurd (let f : false ≡ true = h refl in let g : ⊥ = cc in g)
 
 own_view : (l : Logic) (rank : ℕ → ℕ) (p : Pulse) (d : ℕ) (poss other : ℕ → Tri) (view its : ℕ → ℕ → Tri) → IsRanked l rank → IsAlone l p.pulsed → p.pulsed d ≡ true → AreViews l p poss view → AreViews l p other its → (net : ℕ) → view d net ≡ its d net
 own_view l rank p d poss other view its ranked alone up views others net =
     settled_same l rank (view_sources l p poss view d) (view_sources l p other its d) (view d) (its d) ranked (views d) (others d) (λ k. refl) (λ e. refl)
-    (λ c. same_flop (p.pulsed (l.cell c).domain) ((l.cell c).domain == d) (p.old c) (poss c) (other c) (λ h. eq-eqb (l.cell c).domain d (alone.one (l.cell c).domain d h up)))
-    (λ k c e source is same below. absurd (alone.none k c e source is)) net
+    (λ c. same_flop (p.pulsed (l.cell c).domain) (takes p.rising (l.cell c).falling) ((l.cell c).domain == d) (p.old c) (poss c) (other c) (λ h. eq-eqb (l.cell c).domain d (alone.one (l.cell c).domain d h up)))
+    (λ k c e high source is same below. absurd (alone.none k c e high source is)) net
 
 own_next : (l : Logic) (rank : ℕ → ℕ) (p : Pulse) (poss other : ℕ → Tri) (view its : ℕ → ℕ → Tri) → IsRanked l rank → IsAlone l p.pulsed → AreViews l p poss view → AreViews l p other its → (c : ℕ) → p.pulsed (l.cell c).domain ≡ true → next_value l p view c ≡ next_value l p its c
 own_next l rank p poss other view its ranked alone views others c up =
@@ -66,10 +68,11 @@ turn_alone x p clocks next old new view is a b n each among alone has views c up
         (let far : length new ≤ c = omega (arith, out.1) in subst P (sym (get_or_past new c Unknown far)) tt),
       )
       | inr live ↦ (let taken : value_at next c ≡ next_value (logic_at x) p view c =
-          has found.0 found.1 c live.1 up (among ((logic_at x).cell c).domain up) ∙ own_next (logic_at x) (rank_of x) p (value_at old) (value_at new) found.0 view (circuit_ranked x is) alone found.1 views c up in
+          (let own = pulses (logic_at x) p c up in
+          has found.0 found.1 c live.1 own (among ((logic_at x).cell c).domain own) ∙ own_next (logic_at x) (rank_of x) p (value_at old) (value_at new) found.0 view (circuit_ranked x is) alone found.1 views c own) in
           let Q : Tri → Type 0 = λ t. AboveTri (value_at new c) t in
           let R : Tri → Type 0 = λ t. AboveTri t (value_at next c) in
-          (taken, subst Q taken (subst R (sym (each c live.1)) (raised_above (p.pulsed ((logic_at x).cell c).domain) (value_at next c) (value_at old c) up))))
+          (taken, subst Q taken (subst R (sym (each c live.1)) (raised_above (changes (logic_at x) p c) (value_at next c) (value_at old c) up))))
     ]
 
 -- ---- at most one clock pulses
@@ -91,7 +94,7 @@ module _ {X : Type 0} (test : X → Bool) where
 
 pub alone_of : (x : Circuit) (pulsed : List Bool) (clocks : List NetId) → IsCircuit x → list_any (λ latch. is_some latch) x.latches.items ≡ false → PulsesAmong pulsed clocks → count_by (λ clock. flag_at pulsed clock.0) clocks < 2 → IsAlone (logic_at x) (flag_at pulsed)
 alone_of x pulsed clocks is none among few = record {
-  none = λ net c e source here. no_latch x is none net c e source here;
+  none = λ net c e high source here. no_latch x is none net c e high source here;
   one = λ e f up also.
       (let d : NetId = record { 0 = 0 } in
       let a = among e up in

@@ -1,22 +1,23 @@
 -- What belongs to a domain is written by its lists, and from one domain's view to another's only leaves of the two differ.
 use Rattle.std.proofs.Common.{ℕ, Bool, true, false, List, ◌≡◌, ◌<◌, ◌≤◌, ◌+◌, ◌==◌, ◌⊎◌, inl, inr, Option, None, Some, length, map, drop, refl, sym, ap, ◌∙◌, subst, get_or, slice_set, get_or-set_same, get_or-set_other, arith, []}
-use Rattle.std.specs.Prelude.{if◌then◌else◌}
+use Rattle.std.specs.Prelude.{not, if◌then◌else◌}
 use Rattle.std.proofs.lemmas.Bool.Decides.{eqb_tells, leb_tells}
 use Rattle.std.proofs.lemmas.List.{get_or_past, drop_all}
 use Rattle.dft_base.specs.declared.tri.Tri.{Tri}
 use Rattle.dft_base.specs.declared.tri.Tri.TheVariants.{Zero, Unknown}
 use Rattle.dft_netlist.specs.Drivers.{Source}
+use Rattle.dft_base.specs.Tri.{known}
 use Rattle.dft_cells.specs.FlipFlops.{tri_forced}
 use Rattle.dft_netlist.specs.Logic.{Cell, Force, Meaning, Input, Clock, Gate, Joined, Flop, Lockup, Free}
-use Rattle.dft_netlist.specs.Settled.{TriSources, value_given, inverse}
+use Rattle.dft_netlist.specs.Settled.{value_from, value_given, inverse}
 use Rattle.dft_netlist.specs.Orders.{Has}
 use Rattle.dft_logic.specs.declared.circuit.Op.{Op}
 use Rattle.dft_logic.specs.declared.circuit.Op.TheVariants as op
 use Rattle.dft_logic.specs.declared.circuit.Circuit.{Circuit}
 use Rattle.dft_logic.specs.declared.settling.View.{View}
-use Rattle.dft_abstract.specs.Cycle.{Pulse}
+use Rattle.dft_abstract.specs.Cycle.{Pulse, lockup_shown}
 use Rattle.dft_cycle.specs.Machine.{value_at, acted}
-use Rattle.dft_logic.specs.Circuit.{base_of, pulse_at, held_in, IsGivenIn, GivenIn, IsReady, source_places, flag_at, meaning, op_at, cell_of, cell_at, latch_at, latch_domains, force_nets, leaf_domains, leaves_from, IsCircuit}
+use Rattle.dft_logic.specs.Circuit.{Supply, base_of, view_base, changed, IsGivenIn, GivenIn, IsReady, source_places, flag_at, meaning, op_at, cell_of, cell_at, latch_at, latch_domains, force_nets, leaf_domains, leaves_from, IsCircuit}
 use Rattle.dft_logic.specs.Tables.{list_at}
 use Rattle.dft_cycle.specs.Views.{next_at, next_by, held_by}
 use Rattle.dft_cycle.proofs.MachineRounds.{forced_twice}
@@ -164,13 +165,13 @@ sources_same f a d e one two = elim (eqb_tells a d) [
 ]
 
 shown_same : (cells : List Cell) (p : Pulse) (poss held : List Tri) (d e k : ℕ) (values : ℕ → Tri) (m : Meaning) →
-    Has (leaf_domains cells k m) d ⊎ (Has (leaf_domains cells k m) e ⊎ (value_given (leaves_from (base_of cells p poss d) (Some held) values) values k m ≡ value_given (leaves_from (base_of cells p poss e) (Some held) values) values k m))
+    Has (leaf_domains cells k m) d ⊎ (Has (leaf_domains cells k m) e ⊎ (value_given (leaves_from (base_of cells p poss held d) values) values k m ≡ value_given (leaves_from (base_of cells p poss held e) values) values k m))
 shown_same cells p poss held d e k values Input = inr (inr refl)
 shown_same cells p poss held d e k values Clock = elim (eqb_tells k d) [
   | inl q ↦ inl (inl (sym q.1))
   | inr q ↦ elim (eqb_tells k e) [
     | inl r ↦ inr (inl (inl (sym r.1)))
-    | inr r ↦ inr (inr (sources_same (λ b. if p.pulsed k then (if b then Zero else Unknown) else Zero) k d e q.1 r.1))
+    | inr r ↦ inr (inr (sources_same (λ b. if p.pulsed k then (if b then known (not p.rising) else Unknown) else Zero) k d e q.1 r.1))
   ]
 ]
 shown_same cells p poss held d e k values (Gate kind inputs) = inr (inr refl)
@@ -181,10 +182,16 @@ shown_same cells p poss held d e k values (Flop c inverted) =
       | inl q ↦ inl (inl (sym q.1))
       | inr q ↦ elim (eqb_tells a e) [
         | inl r ↦ inr (inl (inl (sym r.1)))
-        | inr r ↦ inr (inr (sources_same (λ b. let bit = (if p.pulsed a then (if b then p.old c else value_at poss c) else p.old c) in if inverted then inverse bit else bit) a d e q.1 r.1))
+        | inr r ↦ inr (inr (sources_same (λ b. let bit = (if changed (cell_at cells c) p then (if b then p.old c else value_at poss c) else p.old c) in if inverted then inverse bit else bit) a d e q.1 r.1))
       ]
     ]
-shown_same cells p poss held d e k values (Lockup c f source) = inr (inr refl)
+shown_same cells p poss held d e k values (Lockup c f high source) = elim (eqb_tells f d) [
+  | inl q ↦ inl (inl (sym q.1))
+  | inr q ↦ elim (eqb_tells f e) [
+    | inl r ↦ inr (inl (inl (sym r.1)))
+    | inr r ↦ inr (inr (sources_same (λ b. lockup_shown p.rising (p.pulsed f) b high (p.old c) (value_from values source) (value_at held c)) f d e q.1 r.1))
+  ]
+]
 shown_same cells p poss held d e k values Free = inr (inr refl)
 
 pub moved : (x : Circuit) (p : Pulse) (poss held values : List Tri) (d e k : ℕ) → IsCircuit x → d < length x.ops.items → e < length x.ops.items → Has (list_at x.leaves.items d) k ⊎ GivenIn x p poss held d values k →
@@ -197,16 +204,16 @@ moved x p poss held values d e k is here there before = elim before [
   ]
 ]
 
-held_same : (cells : List Cell) (p : Pulse) (poss held new : List Tri) (d k : ℕ) (values : ℕ → Tri) (m : Meaning) → ((c e : ℕ) (source : Source) → m ≡ Lockup c e source → (e ≡ d → ⊥) → value_at held c ≡ value_at new c) →
-    Has (leaf_domains cells k m) d ⊎ (value_given (leaves_from (base_of cells p poss d) (Some held) values) values k m ≡ value_given (leaves_from (base_of cells p poss d) (Some new) values) values k m)
+held_same : (cells : List Cell) (p : Pulse) (poss held new : List Tri) (d k : ℕ) (values : ℕ → Tri) (m : Meaning) → ((c e : ℕ) (high : Bool) (source : Source) → m ≡ Lockup c e high source → (e ≡ d → ⊥) → value_at held c ≡ value_at new c) →
+    Has (leaf_domains cells k m) d ⊎ (value_given (leaves_from (base_of cells p poss held d) values) values k m ≡ value_given (leaves_from (base_of cells p poss new d) values) values k m)
 held_same cells p poss held new d k values Input same = inr refl
 held_same cells p poss held new d k values Clock same = inr refl
 held_same cells p poss held new d k values (Gate kind inputs) same = inr refl
 held_same cells p poss held new d k values (Joined source) same = inr refl
 held_same cells p poss held new d k values (Flop c inverted) same = inr refl
-held_same cells p poss held new d k values (Lockup c e source) same = elim (eqb_tells e d) [
+held_same cells p poss held new d k values (Lockup c e high source) same = elim (eqb_tells e d) [
   | inl q ↦ inl (inl (sym q.1))
-  | inr q ↦ inr (same c e source refl q.1)
+  | inr q ↦ inr (ap (lockup_shown p.rising (p.pulsed e) (e == d) high (p.old c) (value_from values source)) (same c e high source refl q.1))
 ]
 held_same cells p poss held new d k values Free same = inr refl
 
@@ -215,8 +222,8 @@ pub held_near : (x : Circuit) (p : Pulse) (poss held new values : List Tri) (d k
     ((c : ℕ) → c < length x.latches.items → value_at new c ≡ held_by (latch_at x.latches.items c) d (value_at values) (value_at held c)) → GivenIn x p poss held d values k →
     Has (list_at x.leaves.items d) k ⊎ GivenIn x p poss new d values k
 held_near x p poss held new values d k is live each given =
-    let other : (c e : ℕ) (source : Source) → meaning (op_at x.ops.items k) ≡ Lockup c e source → (e ≡ d → ⊥) → value_at held c ≡ value_at new c = λ c e source h ne.
-    (let latch = is.latched k c e source h in
+    let other : (c e : ℕ) (high : Bool) (source : Source) → meaning (op_at x.ops.items k) ≡ Lockup c e high source → (e ≡ d → ⊥) → value_at held c ≡ value_at new c = λ c e high source h ne.
+    (let latch = is.latched k c e high source h in
     elim (eqb_tells e d) [
       | inl q ↦ absurd (ne q.1)
       | inr q ↦ sym (each c (latch_live x.latches.items c (e, source) latch) ∙ latch_misses (latch_at x.latches.items c) d e source (value_at values) (value_at held c) latch q.0)
@@ -228,15 +235,14 @@ held_near x p poss held new values d k is live each given =
 
 -- ---- from any sources to any view
 
-given_any : (base other : TriSources) (held hold : Option (List Tri)) (k : ℕ) (values : ℕ → Tri) (m : Meaning) →
-    Has (source_places m) 0 ⊎ (value_given (leaves_from base held values) values k m ≡ value_given (leaves_from other hold values) values k m)
-given_any base other held hold k values Input = inl (inl refl)
-given_any base other held hold k values Clock = inl (inl refl)
-given_any base other held hold k values (Gate kind inputs) = inr refl
-given_any base other held hold k values (Joined source) = inr refl
-given_any base other held hold k values (Flop c inverted) = inl (inl refl)
-given_any base other held hold k values (Lockup c e source) = inl (inl refl)
-given_any base other held hold k values Free = inr refl
+given_any : (base other : Supply) (k : ℕ) (values : ℕ → Tri) (m : Meaning) → Has (source_places m) 0 ⊎ (value_given (leaves_from base values) values k m ≡ value_given (leaves_from other values) values k m)
+given_any base other k values Input = inl (inl refl)
+given_any base other k values Clock = inl (inl refl)
+given_any base other k values (Gate kind inputs) = inr refl
+given_any base other k values (Joined source) = inr refl
+given_any base other k values (Flop c inverted) = inl (inl refl)
+given_any base other k values (Lockup c e high source) = inl (inl refl)
+given_any base other k values Free = inr refl
 
 source : (x : Circuit) (k : ℕ) → IsCircuit x → Has (source_places (meaning (op_at x.ops.items k))) 0 → Has (list_at x.sources.items 0) k
 source x k is h = elim (leb_tells (length x.ops.items) k) [
@@ -245,20 +251,20 @@ source x k is h = elim (leb_tells (length x.ops.items) k) [
 ]
 
 -- once the sources have their values, each net that is not marked has its driver's
-pub ready_refreshed : (x : Circuit) (base : TriSources) (held : Option (List Tri)) (values new : List Tri) (first marked : List Bool) (xs : List ℕ) → IsCircuit x → xs ≡ list_at x.sources.items 0 → IsReady x values →
-    ((others : List ℕ) → ((k : ℕ) → flag_at first k ≡ false → Has xs k ⊎ (Has others k ⊎ IsGiven x.ops.items base held values k)) → (k : ℕ) → flag_at marked k ≡ false → Has others k ⊎ IsGiven x.ops.items base held new k) →
-    (k : ℕ) → flag_at marked k ≡ false → IsGiven x.ops.items base held new k
-ready_refreshed x base held values new first marked xs is e ready done k down =
-    let near : (m : ℕ) → flag_at first m ≡ false → Has xs m ⊎ (Has [] m ⊎ IsGiven x.ops.items base held values m) = λ m up.
+pub ready_refreshed : (x : Circuit) (base : Supply) (values new : List Tri) (first marked : List Bool) (xs : List ℕ) → IsCircuit x → xs ≡ list_at x.sources.items 0 → IsReady x values →
+    ((others : List ℕ) → ((k : ℕ) → flag_at first k ≡ false → Has xs k ⊎ (Has others k ⊎ IsGiven x.ops.items base values k)) → (k : ℕ) → flag_at marked k ≡ false → Has others k ⊎ IsGiven x.ops.items base new k) →
+    (k : ℕ) → flag_at marked k ≡ false → IsGiven x.ops.items base new k
+ready_refreshed x base values new first marked xs is e ready done k down =
+    let near : (m : ℕ) → flag_at first m ≡ false → Has xs m ⊎ (Has [] m ⊎ IsGiven x.ops.items base values m) = λ m up.
     (let P : List ℕ → Type 0 = λ l. Has l m in
-    elim (given_any ready.base base ready.held held m (value_at values) (meaning (op_at x.ops.items m))) [
+    elim (given_any ready.base base m (value_at values) (meaning (op_at x.ops.items m))) [
       | inl own ↦ inl (subst P (sym e) (source x m is own))
       | inr same ↦ inr (inr (ready.given m ∙ same))
     ]) in
     elim (done [] near k down) [ inl none ↦ absurd none | inr given ↦ given ]
 
 pub ready_in : (x : Circuit) (p : Pulse) (poss held values : List Tri) (d : ℕ) → ((k : ℕ) → GivenIn x p poss held d values k) → IsReady x values
-ready_in x p poss held values d given = record { base = base_of (map cell_of x.flops.items) p poss d; held = Some held; given = given }
+ready_in x p poss held values d given = record { base = base_of (map cell_of x.flops.items) p poss held d; given = given }
 
 pub ready_view : (x : Circuit) (v : View) (values : List Tri) → ((k : ℕ) → IsGivenIn x v v.domain.0 values k) → IsReady x values
-ready_view x v values given = record { base = base_of (map cell_of x.flops.items) (pulse_at v.pulse) v.poss.now v.domain.0; held = held_in v; given = given }
+ready_view x v values given = record { base = view_base (map cell_of x.flops.items) v; given = given }

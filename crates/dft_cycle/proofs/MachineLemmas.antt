@@ -1,30 +1,36 @@
 -- What the machine's calls do, from what they do to its lists.
 use Rattle.std.proofs.Common.{ℕ, zero, suc, Bool, not, true, false, List, [], ◌∷◌, ◌≡◌, ◌<◌, ◌≤◌, ◌+◌, ◌==◌, ◌||◌, ◌&&◌, inl, inr, Option, None, Some, is_none, length, map, drop, drop-cons, add-one, ◌≢◌, refl, sym, ap, ◌∙◌, subst, get_or, slice_set, get_or-set_same, get_or-set_other, arith}
-use Rattle.std.specs.Prelude.{if◌then◌else◌, replicate}
+use Rattle.std.specs.Prelude.{if◌then◌else◌, replicate, slice_index_or}
+use Rattle.std.specs.List.{list_any}
 use Rattle.std.proofs.lemmas.Bool.Decides.{leb_tells, eqb_tells}
 use Rattle.std.specs.Global.{Vec}
 use Rattle.std.specs.Vec.{with_items}
 use Rattle.std.proofs.lemmas.List.{get_or_past, drop_all, with_items_is}
 use Rattle.dft_base.specs.declared.tri.Tri.{Tri}
-use Rattle.dft_base.specs.declared.tri.Tri.TheVariants.{Zero, Unknown}
+use Rattle.dft_base.specs.declared.tri.Tri.TheVariants.{Unknown}
 use Rattle.dft_base.proofs.BitLemmas.{or_later}
 use Rattle.dft_netlist.specs.declared.ids.NetId.{NetId}
 use Rattle.dft_netlist.specs.Drivers.{Source}
-use Rattle.dft_netlist.specs.Logic.{Logic, Cell, Force}
+use Rattle.dft_netlist.specs.Logic.{Logic, Cell, Force, IsRising, no_cell}
 use Rattle.dft_netlist.specs.Settled.{TriSources, value_from, IsTriSettled}
+use Rattle.dft_netlist.specs.Runs.{takes}
 use Rattle.dft_logic.specs.declared.circuit.FlipFlop.{FlipFlop}
 use Rattle.dft_logic.specs.declared.circuit.Circuit.{Circuit}
-use Rattle.dft_abstract.specs.Cycle.{Pulse, tri_forced_by, tri_taken_by, AreViews, next_value, after_pulse, IsLeast}
-use Rattle.dft_cycle.specs.Machine.{Machine, value_at, is_one_of, ports_of, logic, acted, IsSet, at_strobe, IsStrobed, pulses, pulse_from, IsPulsed}
-use Rattle.dft_logic.specs.Circuit.{IsReady, logic_at, cell_of, cell_at, flag_at, IsCircuit}
+use Rattle.dft_abstract.specs.Cycle.{Pulse, Half, tri_forced_by, tri_taken_by, next_value, falls_after, changes, AreViews, after_pulse, IsLeast}
+use Rattle.dft_cycle.specs.Machine.{Machine, value_at, is_one_of, ports_of, logic, acted, IsSet, at_strobe, IsStrobed, pulses, phase_from, pulse_from, IsPhase, IsPulsed}
+use Rattle.dft_logic.specs.Circuit.{IsReady, logic_at, cell_of, cell_at, flag_at, base_of, leaves_from, IsCircuit}
 use Rattle.dft_cycle.specs.Views.{rank_of, Among, AreNext}
 use Rattle.dft_cycle.specs.Plans.{IsPassed, LooseAreUnknown}
 use Rattle.dft_logic.specs.Compiling.{ports_by}
-use Rattle.dft_logic.specs.Needs.{AreSeen}
+use Rattle.dft_logic.specs.Needs.{AreSeen, IsStrobe}
 use Rattle.dft_logic.specs.Takings.{is_loose_input, is_loose}
 use Rattle.dft_logic.proofs.LookLemmas.{look_of_all}
+use Rattle.dft_abstract.proofs.Halves.{falls_rest}
+use Rattle.dft_abstract.proofs.Least.{none_changes}
 use Rattle.dft_abstract.proofs.Views.{views_exist}
 use Rattle.dft_logic.proofs.CircuitRanks.{circuit_ranked}
+use Rattle.dft_logic.proofs.Strobes.{no_falls, strobe_holds, strobe_leaves}
+use Rattle.dft_cycle.proofs.MachineRounds.{same_logic}
 use Rattle.dft_logic.proofs.Writings.{cell_past}
 use Rattle.dft_logic.proofs.TakingLemmas.{next_loose}
 
@@ -44,25 +50,32 @@ ready_kept x v ws rs a e ready = subst (IsReady x) (sym (filled v ws rs a e)) re
 
 -- ---- a strobe
 
-pub strobed : (m after : Machine) (x : Circuit) (t : TriSources) (values : List Tri) → (compiled : logic m ≡ logic_at x) → after.netlist ≡ m.netlist → after.clocks ≡ m.clocks → after.inputs ≡ m.inputs → after.cells ≡ m.cells →
-    (ports : ((k : ℕ) → t.ports k ≡ value_at m.inputs k)) → (clocks : ((e : ℕ) → t.clocks e ≡ Zero)) → (flops : ((c : ℕ) → t.flops c ≡ value_at m.cells c)) →
-    (lockups : ((c e : ℕ) (source : Source) → t.lockups c e source ≡ value_from (value_at values) source)) → (settled : IsTriSettled (logic_at x) t (value_at values)) → (shown : after.shown ≡ values) → IsStrobed (logic m) m after
-strobed m after x t values compiled n k i c ports clocks flops lockups settled shown =
-    let same : t ≡ at_strobe m (value_at values) = λ s. record { ports = λ p. ports p s; clocks = λ e. clocks e s; flops = λ f. flops f s; lockups = λ a b source. lockups a b source s } in
-    let P : TriSources → Type 0 = λ u. IsTriSettled (logic_at x) u (value_at values) in
+-- sources that agree are the same
+same_sources : (t u : TriSources) → ((k : ℕ) → t.ports k ≡ u.ports k) → ((e : ℕ) → t.clocks e ≡ u.clocks e) → ((c : ℕ) → t.flops c ≡ u.flops c) → ((c e : ℕ) (high : Bool) (source : Source) → t.lockups c e high source ≡ u.lockups c e high source) → t ≡ u
+same_sources t u ports clocks flops lockups = λ i. record { ports = λ k. ports k i; clocks = λ e. clocks e i; flops = λ c. flops c i; lockups = λ c e high source. lockups c e high source i }
+
+pub strobed : (m after : Machine) (x : Circuit) (ports cells poss held values : List Tri) (d : ℕ) → (compiled : logic m ≡ logic_at x) → after.netlist ≡ m.netlist → after.clocks ≡ m.clocks → after.inputs ≡ m.inputs → after.cells ≡ m.cells → ports ≡ m.inputs → cells ≡ m.cells →
+    (settled : IsTriSettled (logic_at x) (leaves_from (base_of (map cell_of x.flops.items) (no_falls (value_at ports) (value_at cells)) poss held d) (value_at values)) (value_at values)) → (shown : after.shown ≡ values) → IsStrobed (logic m) m after
+strobed m after x ports cells poss held values d compiled n k i c same old settled shown =
     let Q : Logic → Type 0 = λ l. IsTriSettled l (at_strobe m (value_at values)) (value_at values) in
     let R : List Tri → Type 0 = λ v. IsTriSettled (logic m) (at_strobe m (value_at v)) (value_at v) in
-    record { netlist = n; clocks = k; inputs = i; cells = c; settled = subst R (sym shown) (subst Q (sym compiled) (subst P same settled)) }
+    let S : TriSources → Type 0 = λ t. IsTriSettled (logic_at x) t (value_at values) in
+    let kept : (a : ℕ) → value_at cells a ≡ value_at m.cells a = λ a. ap (λ (l : List Tri). value_at l a) old in
+    let from : leaves_from (base_of (map cell_of x.flops.items) (no_falls (value_at ports) (value_at cells)) poss held d) (value_at values) ≡ at_strobe m (value_at values) =
+    same_sources _ (at_strobe m (value_at values)) (λ a. ap (λ (l : List Tri). value_at l a) same) (λ e. refl) kept
+    (λ a e high source. strobe_holds (e == d) high (value_at cells a) (value_from (value_at values) source) (value_at held a) ∙ λ t. if high then kept a t else value_from (value_at values) source) in
+    record { netlist = n; clocks = k; inputs = i; cells = c; settled = subst R (sym shown) (subst Q (sym compiled) (subst S from settled)) }
 
-pub looked : (m : Machine) (x : Circuit) (t : TriSources) (values row : List Tri) (nets : List NetId) → IsCircuit x → logic m ≡ logic_at x →
-    ((k : ℕ) → t.ports k ≡ value_at m.inputs k) → ((e : ℕ) → t.clocks e ≡ Zero) → ((c : ℕ) → t.flops c ≡ value_at m.cells c) → ((c e : ℕ) (source : Source) → t.lockups c e source ≡ value_from (value_at values) source) →
-    IsTriSettled (logic_at x) t (value_at values) → row ≡ map (λ net. value_at values net.0) nets → AreSeen (logic m) (value_at m.inputs) (value_at m.cells) nets row
-looked m x t values row nets is compiled ports clocks flops lockups settled read =
-    let same : t ≡ at_strobe m (value_at values) = λ s. record { ports = λ p. ports p s; clocks = λ e. clocks e s; flops = λ f. flops f s; lockups = λ a b source. lockups a b source s } in
-    let P : TriSources → Type 0 = λ u. IsTriSettled (logic_at x) u (value_at values) in
+pub looked : (m : Machine) (x : Circuit) (ports cells poss held values row : List Tri) (d : ℕ) (nets : List NetId) → IsCircuit x → logic m ≡ logic_at x → ports ≡ m.inputs → cells ≡ m.cells →
+    IsTriSettled (logic_at x) (leaves_from (base_of (map cell_of x.flops.items) (no_falls (value_at ports) (value_at cells)) poss held d) (value_at values)) (value_at values) →
+    row ≡ map (λ net. value_at values net.0) nets → AreSeen (logic m) (value_at m.inputs) (value_at m.cells) nets row
+looked m x ports cells poss held values row d nets is compiled same old settled read =
     let Q : Logic → Type 0 = λ l. AreSeen l (value_at m.inputs) (value_at m.cells) nets row in
     let R : List Tri → Type 0 = λ r. AreSeen (logic_at x) (value_at m.inputs) (value_at m.cells) nets r in
-    subst Q (sym compiled) (subst R (sym read) (look_of_all x (value_at m.inputs) (value_at m.cells) values nets is (subst P same settled)))
+    let S : TriSources → Type 0 = λ t. IsTriSettled (logic_at x) t (value_at values) in
+    let T : List Tri → List Tri → Type 0 = λ p c. IsStrobe (logic_at x) (value_at p) (value_at c) (value_at values) in
+    let here : T ports cells = subst S (strobe_leaves (map cell_of x.flops.items) (value_at ports) (value_at cells) poss held d (value_at values)) settled in
+    subst Q (sym compiled) (subst R (sym read) (look_of_all x (value_at m.inputs) (value_at m.cells) values nets is (subst (λ (l : List Tri). T l m.cells) same (subst (T ports) old here))))
 
 -- ---- an input
 
@@ -95,57 +108,107 @@ acted_read flops cells os new ws net value o n each =
     let N : List Tri → Type 0 = λ l. (c : ℕ) → c < length flops → value_at l c ≡ acted (cell_at (map cell_of flops) c).force net value (value_at os c) in
     subst O o (subst N (sym n) each)
 
-pub taken_read : (flops fs : List FlipFlop) (marks bs : List Bool) (next xs cells os new ws : List Tri) → fs ≡ flops → bs ≡ marks → xs ≡ next → os ≡ cells → new ≡ ws →
-    ((c : ℕ) → c < length fs → value_at ws c ≡ (if flag_at bs (cell_at (map cell_of fs) c).domain then value_at xs c else value_at os c)) →
-    (c : ℕ) → c < length flops → value_at new c ≡ (if flag_at marks (cell_at (map cell_of flops) c).domain then value_at next c else value_at cells c)
-taken_read flops fs marks bs next xs cells os new ws f b x o n each =
-    let F : List FlipFlop → Type 0 = λ l. (c : ℕ) → c < length l → value_at new c ≡ (if flag_at marks (cell_at (map cell_of l) c).domain then value_at next c else value_at cells c) in
-    let B : List Bool → Type 0 = λ l. (c : ℕ) → c < length fs → value_at new c ≡ (if flag_at l (cell_at (map cell_of fs) c).domain then value_at next c else value_at cells c) in
-    let X : List Tri → Type 0 = λ l. (c : ℕ) → c < length fs → value_at new c ≡ (if flag_at bs (cell_at (map cell_of fs) c).domain then value_at l c else value_at cells c) in
-    let O : List Tri → Type 0 = λ l. (c : ℕ) → c < length fs → value_at new c ≡ (if flag_at bs (cell_at (map cell_of fs) c).domain then value_at xs c else value_at l c) in
-    let N : List Tri → Type 0 = λ l. (c : ℕ) → c < length fs → value_at l c ≡ (if flag_at bs (cell_at (map cell_of fs) c).domain then value_at xs c else value_at os c) in
+-- whether a cell takes a value in a phase where these clocks are flagged
+abbrev pub changed_by : (rising : Bool) → (flags : List Bool) → Cell → Bool
+changed_by rising flags cell = flag_at flags cell.domain && takes rising cell.falling
+
+pub taken_read : (rising : Bool) (flops fs : List FlipFlop) (marks bs : List Bool) (next xs cells os new ws : List Tri) → fs ≡ flops → bs ≡ marks → xs ≡ next → os ≡ cells → new ≡ ws →
+    ((c : ℕ) → c < length fs → value_at ws c ≡ (if changed_by rising bs (cell_at (map cell_of fs) c) then value_at xs c else value_at os c)) →
+    (c : ℕ) → c < length flops → value_at new c ≡ (if changed_by rising marks (cell_at (map cell_of flops) c) then value_at next c else value_at cells c)
+taken_read rising flops fs marks bs next xs cells os new ws f b x o n each =
+    let F : List FlipFlop → Type 0 = λ l. (c : ℕ) → c < length l → value_at new c ≡ (if changed_by rising marks (cell_at (map cell_of l) c) then value_at next c else value_at cells c) in
+    let B : List Bool → Type 0 = λ l. (c : ℕ) → c < length fs → value_at new c ≡ (if changed_by rising l (cell_at (map cell_of fs) c) then value_at next c else value_at cells c) in
+    let X : List Tri → Type 0 = λ l. (c : ℕ) → c < length fs → value_at new c ≡ (if changed_by rising bs (cell_at (map cell_of fs) c) then value_at l c else value_at cells c) in
+    let O : List Tri → Type 0 = λ l. (c : ℕ) → c < length fs → value_at new c ≡ (if changed_by rising bs (cell_at (map cell_of fs) c) then value_at xs c else value_at l c) in
+    let N : List Tri → Type 0 = λ l. (c : ℕ) → c < length fs → value_at l c ≡ (if changed_by rising bs (cell_at (map cell_of fs) c) then value_at xs c else value_at os c) in
     subst F f (subst B b (subst X x (subst O o (subst N (sym n) each))))
 
--- ---- a pulse
+-- ---- a phase of a pulse
 
-after_case : (l : Logic) (p : Pulse) (view : ℕ → ℕ → Tri) (c : ℕ) (next cell : Tri) (up : Bool) → p.pulsed (l.cell c).domain ≡ up → (p.pulsed (l.cell c).domain ≡ true → next ≡ next_value l p view c) → p.old c ≡ cell →
+after_case : (l : Logic) (p : Pulse) (view : ℕ → ℕ → Tri) (c : ℕ) (next cell : Tri) (up : Bool) → changes l p c ≡ up → (changes l p c ≡ true → next ≡ next_value l p view c) → p.old c ≡ cell →
     (if up then next else cell) ≡ (if up then next_value l p view c else p.old c)
 after_case l p view c next cell true e is old = is e
 after_case l p view c next cell false e is old = sym old
 
-pub pulse_done : (m after : Machine) (x : Circuit) (pulsed : List Bool) (p : Pulse) (poss next : List Tri) → (is : IsCircuit x) → (compiled : logic m ≡ logic_at x) → after.netlist ≡ m.netlist → after.clocks ≡ m.clocks → after.inputs ≡ m.inputs → after.shown ≡ m.shown →
-    (ports : ((k : ℕ) → p.ports k ≡ value_at m.inputs k)) → (ups : ((e : ℕ) → p.pulsed e ≡ pulses m.clocks pulsed e)) → (old : ((c : ℕ) → p.old c ≡ value_at m.cells c)) →
+-- what a phase leaves, by its half
+record HasHalf (l : Logic) (p : Pulse) (new : ℕ → Tri) : Type 0 where
+  half : Half
+  least : IsLeast l p half.poss half.view
+  cells : (c : ℕ) → new c ≡ after_pulse l p half.view c
+
+-- the same of the machine
+half_of : (m : Machine) (x : Circuit) (rising : Bool) (pulsed : List Bool) (p : Pulse) (new : ℕ → Tri) → logic m ≡ logic_at x → p ≡ phase_from m rising pulsed → HasHalf (logic_at x) p new → HasHalf (logic m) (phase_from m rising pulsed) new
+half_of m x rising pulsed p new compiled same has =
+    subst (λ (l : Logic). HasHalf l (phase_from m rising pulsed) new) (sym compiled) (subst (λ (q : Pulse). HasHalf (logic_at x) q new) same has)
+
+pub phase_done : (m after : Machine) (x : Circuit) (rising : Bool) (pulsed : List Bool) (p : Pulse) (poss next : List Tri) → (is : IsCircuit x) → (compiled : logic m ≡ logic_at x) → after.netlist ≡ m.netlist → after.clocks ≡ m.clocks → after.inputs ≡ m.inputs → after.shown ≡ m.shown →
+    (edge : p.rising ≡ rising) → (ports : ((k : ℕ) → p.ports k ≡ value_at m.inputs k)) → (ups : ((e : ℕ) → p.pulsed e ≡ pulses m.clocks pulsed e)) → (old : ((c : ℕ) → p.old c ≡ value_at m.cells c)) →
     length m.cells ≡ length x.flops.items → length after.cells ≡ length m.cells → length next ≡ length x.flops.items →
     (least : ((view : ℕ → ℕ → Tri) → AreViews (logic_at x) p (value_at poss) view → IsLeast (logic_at x) p (value_at poss) view)) →
     (nexts : ((view : ℕ → ℕ → Tri) → AreViews (logic_at x) p (value_at poss) view → AreNext (logic_at x) p view poss next)) →
-    (each : ((c : ℕ) → c < length x.flops.items → value_at after.cells c ≡ (if p.pulsed ((logic_at x).cell c).domain then value_at next c else value_at m.cells c))) → IsPulsed (logic m) m pulsed after
-pulse_done m after x pulsed p poss next is compiled n k i s ports ups old a b d least nexts each =
+    (each : ((c : ℕ) → c < length x.flops.items → value_at after.cells c ≡ (if changes (logic_at x) p c then value_at next c else value_at m.cells c))) → IsPhase (logic m) m rising pulsed after
+phase_done m after x rising pulsed p poss next is compiled n k i s edge ports ups old a b d least nexts each =
     let found = views_exist (logic_at x) (rank_of x) p (value_at poss) (circuit_ranked x is) in
-    let same : p ≡ pulse_from m pulsed = λ t. record { ports = λ q. ports q t; pulsed = λ e. ups e t; old = λ c. old c t } in
-    let P : Pulse → Type 0 = λ q. IsLeast (logic_at x) q (value_at poss) found.0 in
-    let Q : Logic → Type 0 = λ l. IsLeast l (pulse_from m pulsed) (value_at poss) found.0 in
-    record {
-      netlist = n;
-      clocks = k;
-      inputs = i;
-      shown = s;
-      poss = value_at poss;
-      view = found.0;
-      least = subst Q (sym compiled) (subst P same (least found.0 found.1));
-      cells = λ c.
-          (let R : Pulse → Type 0 = λ q. value_at after.cells c ≡ after_pulse (logic_at x) q found.0 c in
-          let S : Logic → Type 0 = λ l. value_at after.cells c ≡ after_pulse l (pulse_from m pulsed) found.0 c in
-          let taken : value_at after.cells c ≡ (if p.pulsed ((logic_at x).cell c).domain then value_at next c else value_at m.cells c) =
-          elim (leb_tells (length x.flops.items) c) [
-            | inl out ↦ (let f : length after.cells ≤ c = omega (arith, out.1) in let g : length m.cells ≤ c = omega (arith, out.1) in let h : length next ≤ c = omega (arith, out.1) in
-                past (value_at after.cells c) (value_at next c) (value_at m.cells c) (p.pulsed ((logic_at x).cell c).domain) (get_or_past after.cells c Unknown f) (get_or_past next c Unknown h) (get_or_past m.cells c Unknown g))
-            | inr live ↦ each c live.1
-          ] in
-          subst S (sym compiled) (subst R same (taken ∙ after_case (logic_at x) p found.0 c (value_at next c) (value_at m.cells c) (p.pulsed ((logic_at x).cell c).domain) refl (λ up. (nexts found.0 found.1 c up).0) (old c))));
-    } where
+    let same : p ≡ phase_from m rising pulsed = λ t. record { rising = edge t; ports = λ q. ports q t; pulsed = λ e. ups e t; old = λ c. old c t } in
+    let cells : (c : ℕ) → value_at after.cells c ≡ after_pulse (logic_at x) p found.0 c = λ c.
+    (let taken : value_at after.cells c ≡ (if changes (logic_at x) p c then value_at next c else value_at m.cells c) =
+    elim (leb_tells (length x.flops.items) c) [
+      | inl out ↦ (let f : length after.cells ≤ c = omega (arith, out.1) in let g : length m.cells ≤ c = omega (arith, out.1) in let h : length next ≤ c = omega (arith, out.1) in
+          past (value_at after.cells c) (value_at next c) (value_at m.cells c) (changes (logic_at x) p c) (get_or_past after.cells c Unknown f) (get_or_past next c Unknown h) (get_or_past m.cells c Unknown g))
+      | inr live ↦ each c live.1
+    ] in
+    taken ∙ after_case (logic_at x) p found.0 c (value_at next c) (value_at m.cells c) (changes (logic_at x) p c) refl (λ up. (nexts found.0 found.1 c up).0) (old c)) in
+    let r : HasHalf (logic m) (phase_from m rising pulsed) (value_at after.cells) =
+    half_of m x rising pulsed p (value_at after.cells) compiled same (record { half = record { poss = value_at poss; view = found.0 }; least = least found.0 found.1; cells = cells }) in
+    record { netlist = n; clocks = k; inputs = i; shown = s; half = r.half; least = r.least; cells = r.cells } where
       past : (u v w : Tri) (up : Bool) → u ≡ Unknown → v ≡ Unknown → w ≡ Unknown → u ≡ (if up then v else w)
       past u v w true e f g = e ∙ sym f
       past u v w false e f g = e ∙ sym g
+
+-- where every cell takes its bit at a rise nothing changes in the falls
+pub phase_rests : (m : Machine) (x : Circuit) (pulsed : List Bool) → IsCircuit x → logic m ≡ logic_at x → IsRising (logic_at x) → IsPhase (logic m) m false pulsed m
+phase_rests m x pulsed is compiled rises =
+    let l : Logic = logic_at x in
+    let q : Pulse = phase_from m false pulsed in
+    let none = none_changes l (rank_of x) q (circuit_ranked x is) (λ c. falls_rest l q c (rises c) refl) in
+    let r : HasHalf (logic m) q (value_at m.cells) =
+    half_of m x false pulsed q (value_at m.cells) compiled refl (record { half = record { poss = q.old; view = none.0 }; least = none.1.0; cells = λ c. sym (none.1.1 c) }) in
+    record { netlist = refl; clocks = refl; inputs = refl; shown = refl; half = r.half; least = r.least; cells = r.cells }
+
+-- the rises and the falls are a pulse
+pub pulsed_of : (m mid after : Machine) (pulsed : List Bool) → IsPhase (logic m) m true pulsed mid → IsPhase (logic mid) mid false pulsed after → IsPulsed (logic m) m pulsed after
+pulsed_of m mid after pulsed rise fall =
+    let l : Logic = logic m in
+    let one : logic mid ≡ l = same_logic m mid rise.netlist rise.clocks in
+    let q : phase_from mid false pulsed ≡ falls_after l (pulse_from m pulsed) rise.half.view = λ t. record { rising = false; ports = value_at (rise.inputs t); pulsed = pulses (rise.clocks t) pulsed; old = λ c. rise.cells c t } in
+    let P : Logic → Pulse → Type 0 = λ k u. IsLeast k u fall.half.poss fall.half.view × ((c : ℕ) → value_at after.cells c ≡ after_pulse k u fall.half.view c) in
+    let all : P l (falls_after l (pulse_from m pulsed) rise.half.view) = subst (P l) q (subst (λ (k : Logic). P k (phase_from mid false pulsed)) one (fall.least, fall.cells)) in
+    record {
+      netlist = fall.netlist ∙ rise.netlist;
+      clocks = fall.clocks ∙ rise.clocks;
+      inputs = fall.inputs ∙ rise.inputs;
+      shown = fall.shown ∙ rise.shown;
+      halves = record { rise = rise.half; fall = fall.half };
+      rise = rise.least;
+      fall = all.0;
+      cells = all.1;
+    }
+
+-- no flip-flop of the list falls
+rises_in : (flops : List FlipFlop) (c d : ℕ) → list_any (λ flop. flop.falling) flops ≡ false → (slice_index_or (map cell_of flops) c (no_cell d)).falling ≡ false
+rises_in [] c d none = refl
+rises_in (f ∷ flops) zero d none = first f.falling (list_any (λ flop. flop.falling) flops) none where
+  first : (a b : Bool) → (a || b) ≡ false → a ≡ false
+  first false b h = refl
+  first true b h = absurd cc
+rises_in (f ∷ flops) (suc c) d none = rises_in flops c d (rest f.falling (list_any (λ flop. flop.falling) flops) none) where
+  rest : (a b : Bool) → (a || b) ≡ false → b ≡ false
+  rest false b h = h
+  rest true b h = absurd cc
+
+pub circuit_rises : (x : Circuit) → list_any (λ flop. flop.falling) x.flops.items ≡ false → IsRising (logic_at x)
+unfolding logic_at
+circuit_rises x none c = rises_in x.flops.items c c none
 
 -- ---- the clocks that pulse
 
@@ -303,37 +366,27 @@ lower_all nets flags j e past old = go (flag_at flags e) (λ up. sym (ap (λ (l 
 after_past : (x : Circuit) (p : Pulse) (view : ℕ → ℕ → Tri) (c : ℕ) → length x.flops.items ≤ c → p.old c ≡ Unknown → after_pulse (logic_at x) p view c ≡ Unknown
 unfolding logic_at
 after_past x p view c out old =
-    let F : Cell → Tri = λ cell. if p.pulsed cell.domain then tri_forced_by cell.force p.ports (tri_taken_by cell.scan (value_from (view cell.domain)) (value_from (view cell.domain) cell.input)) else p.old c in
-    ap F (cell_past x.flops.items c out) ∙ go (p.pulsed 0) where
+    let F : Cell → Tri = λ cell. if p.pulsed cell.domain && takes p.rising cell.falling then tri_forced_by cell.force p.ports (tri_taken_by cell.scan (value_from (view cell.domain)) (value_from (view cell.domain) cell.input)) else p.old c in
+    ap F (cell_past x.flops.items c out) ∙ go (p.pulsed 0 && takes p.rising false) where
       go : (up : Bool) → (if up then Unknown else p.old c) ≡ Unknown
       go true = refl
       go false = old
 
-pub pulse_passed : (m after : Machine) (x : Circuit) (pulsed : List Bool) (p : Pulse) (new : List Tri) → (compiled : logic m ≡ logic_at x) → after.netlist ≡ m.netlist → after.clocks ≡ m.clocks → after.inputs ≡ m.inputs → after.shown ≡ m.shown →
-    (cells : after.cells ≡ new) → (ports : ((k : ℕ) → p.ports k ≡ value_at m.inputs k)) → (ups : ((e : ℕ) → p.pulsed e ≡ pulses m.clocks pulsed e)) → (old : ((c : ℕ) → p.old c ≡ value_at m.cells c)) →
-    length m.cells ≡ length x.flops.items → length new ≡ length m.cells → (passed : IsPassed x p new) → IsPulsed (logic m) m pulsed after
-pulse_passed m after x pulsed p new compiled n k i s cells ports ups old a b passed =
-    let same : p ≡ pulse_from m pulsed = λ t. record { ports = λ q. ports q t; pulsed = λ e. ups e t; old = λ c. old c t } in
-    let P : Pulse → Type 0 = λ q. IsLeast (logic_at x) q passed.poss passed.view in
-    let Q : Logic → Type 0 = λ l. IsLeast l (pulse_from m pulsed) passed.poss passed.view in
-    record {
-      netlist = n;
-      clocks = k;
-      inputs = i;
-      shown = s;
-      poss = passed.poss;
-      view = passed.view;
-      least = subst Q (sym compiled) (subst P same passed.least);
-      cells = λ c.
-          (let R : Pulse → Type 0 = λ q. value_at new c ≡ after_pulse (logic_at x) q passed.view c in
-          let S : Logic → Type 0 = λ l. value_at new c ≡ after_pulse l (pulse_from m pulsed) passed.view c in
-          let taken : value_at new c ≡ after_pulse (logic_at x) p passed.view c = elim (leb_tells (length x.flops.items) c) [
-            | inl out ↦ (let f : length new ≤ c = omega (arith, out.1) in let g : length m.cells ≤ c = omega (arith, out.1) in
-                get_or_past new c Unknown f ∙ sym (after_past x p passed.view c out.1 (old c ∙ get_or_past m.cells c Unknown g)))
-            | inr live ↦ passed.each c live.1
-          ] in
-          ap (λ (l : List Tri). value_at l c) cells ∙ subst S (sym compiled) (subst R same taken));
-    }
+pub phase_passed : (m after : Machine) (x : Circuit) (rising : Bool) (pulsed : List Bool) (p : Pulse) (new : List Tri) → (compiled : logic m ≡ logic_at x) → after.netlist ≡ m.netlist → after.clocks ≡ m.clocks → after.inputs ≡ m.inputs → after.shown ≡ m.shown →
+    (cells : after.cells ≡ new) → (edge : p.rising ≡ rising) → (ports : ((k : ℕ) → p.ports k ≡ value_at m.inputs k)) → (ups : ((e : ℕ) → p.pulsed e ≡ pulses m.clocks pulsed e)) → (old : ((c : ℕ) → p.old c ≡ value_at m.cells c)) →
+    length m.cells ≡ length x.flops.items → length new ≡ length m.cells → (passed : IsPassed x p new) → IsPhase (logic m) m rising pulsed after
+phase_passed m after x rising pulsed p new compiled n k i s cells edge ports ups old a b passed =
+    let same : p ≡ phase_from m rising pulsed = λ t. record { rising = edge t; ports = λ q. ports q t; pulsed = λ e. ups e t; old = λ c. old c t } in
+    let each : (c : ℕ) → value_at after.cells c ≡ after_pulse (logic_at x) p passed.view c = λ c.
+    ap (λ (l : List Tri). value_at l c) cells
+    ∙ elim (leb_tells (length x.flops.items) c) [
+      | inl out ↦ (let f : length new ≤ c = omega (arith, out.1) in let g : length m.cells ≤ c = omega (arith, out.1) in
+          get_or_past new c Unknown f ∙ sym (after_past x p passed.view c out.1 (old c ∙ get_or_past m.cells c Unknown g)))
+      | inr live ↦ passed.each c live.1
+    ] in
+    let r : HasHalf (logic m) (phase_from m rising pulsed) (value_at after.cells) =
+    half_of m x rising pulsed p (value_at after.cells) compiled same (record { half = record { poss = passed.poss; view = passed.view }; least = passed.least; cells = each }) in
+    record { netlist = n; clocks = k; inputs = i; shown = s; half = r.half; least = r.least; cells = r.cells }
 
 -- ---- loose flip-flops stay Unknown
 
@@ -375,16 +428,16 @@ passed_loose x p old new true size olds loose passed same =
     let r = passed refl in
     let cells : ℕ → Cell = cell_at (map cell_of x.flops.items) in
     loose_within x new size
-    (λ c live is. r.each c live ∙ either_unknown (p.pulsed (cells c).domain) _ (p.old c) (λ up. next_loose (cells c) p.ports (r.view (cells c).domain) is) (olds c ∙ loose c is))
+    (λ c live is. r.each c live ∙ either_unknown (changes (logic_at x) p c) _ (p.old c) (λ up. next_loose (cells c) p.ports (r.view (cells c).domain) is) (olds c ∙ loose c is))
 
 -- a pulse by the views
 pub pulsed_loose : (x : Circuit) (p : Pulse) (poss next old new : List Tri) → IsCircuit x → length new ≡ length x.flops.items → LooseAreUnknown x (value_at old) →
     ((view : ℕ → ℕ → Tri) → AreViews (logic_at x) p (value_at poss) view → AreNext (logic_at x) p view poss next) →
-    ((c : ℕ) → c < length x.flops.items → value_at new c ≡ (if p.pulsed ((logic_at x).cell c).domain then value_at next c else value_at old c)) → LooseAreUnknown x (value_at new)
+    ((c : ℕ) → c < length x.flops.items → value_at new c ≡ (if changes (logic_at x) p c then value_at next c else value_at old c)) → LooseAreUnknown x (value_at new)
 unfolding logic_at
 pulsed_loose x p poss next old new is size loose nexts each =
     let cells : ℕ → Cell = cell_at (map cell_of x.flops.items) in
     let found = views_exist (logic_at x) (rank_of x) p (value_at poss) (circuit_ranked x is) in
     loose_within x new size
     (λ c live l. each c live
-    ∙ either_unknown (p.pulsed (cells c).domain) (value_at next c) (value_at old c) (λ up. (nexts found.0 found.1 c up).0 ∙ next_loose (cells c) p.ports (found.0 (cells c).domain) l) (loose c l))
+    ∙ either_unknown (changes (logic_at x) p c) (value_at next c) (value_at old c) (λ up. (nexts found.0 found.1 c up).0 ∙ next_loose (cells c) p.ports (found.0 (cells c).domain) l) (loose c l))

@@ -7,7 +7,8 @@ use Rattle.dft_base.specs.declared.tri.Tri.TheVariants.{Zero, One, Unknown}
 use Rattle.dft_cells.specs.FlipFlops.{tri_forced}
 use Rattle.dft_netlist.specs.Logic.{Logic, Force}
 use Rattle.dft_netlist.specs.Settled.{TriSources, value_from, IsTriSettled}
-use Rattle.dft_abstract.specs.Cycle.{Pulse, tri_forced_by, tri_taken_by, next_value, after_pulse, IsLeast, pulse_of, strobe_sources, Round}
+use Rattle.dft_netlist.specs.Runs.{Vector}
+use Rattle.dft_abstract.specs.Cycle.{Pulse, tri_forced_by, tri_taken_by, changes, next_value, IsLeast, after_pulse, rise_of, falls_after, fall_of, strobe_sources, Halves, after_halves, Round}
 use Rattle.dft_cycle.specs.Machine.{Machine, value_at, logic, acted, at_strobe, pulses, pulse_from}
 use Rattle.dft_cycle.specs.MachineLaws.{IsForced, StartIsForced, SetStands, CallsAreRound}
 
@@ -86,10 +87,16 @@ set_stands start m after net value forced stands unset is =
 
 -- ---- a vector
 
-pub after_forced : (l : Logic) (p : Pulse) (view : ℕ → ℕ → Tri) (c : ℕ) (up : Bool) → p.pulsed (l.cell c).domain ≡ up → p.old c ≡ tri_forced_by (l.cell c).force p.ports (p.old c) →
+after_forced : (l : Logic) (p : Pulse) (view : ℕ → ℕ → Tri) (c : ℕ) (up : Bool) → p.old c ≡ tri_forced_by (l.cell c).force p.ports (p.old c) →
     (if up then next_value l p view c else p.old c) ≡ tri_forced_by (l.cell c).force p.ports (if up then next_value l p view c else p.old c)
-after_forced l p view c true e old = sym (by_twice (l.cell c).force p.ports (tri_taken_by (l.cell c).scan (value_from (view (l.cell c).domain)) (value_from (view (l.cell c).domain) (l.cell c).input)))
-after_forced l p view c false e old = old
+after_forced l p view c true old = sym (by_twice (l.cell c).force p.ports (tri_taken_by (l.cell c).scan (value_from (view (l.cell c).domain)) (value_from (view (l.cell c).domain) (l.cell c).input)))
+after_forced l p view c false old = old
+
+-- the halves of a vector leave what resets and sets leave
+pub halves_forced : (l : Logic) (x : Vector) (old : ℕ → Tri) (h : Halves) (c : ℕ) → after_halves l x old h c ≡ tri_forced_by (l.cell c).force x.ports (after_halves l x old h c)
+halves_forced l x old h c =
+    after_forced l (fall_of l x old h.rise.view) h.fall.view c (changes l (fall_of l x old h.rise.view) c)
+    (after_forced l (rise_of l x old) h.rise.view c (changes l (rise_of l x old) c) (sym (by_twice (l.cell c).force x.ports (old c))))
 
 pub calls_round : CallsAreRound
 calls_round start set strobed after x pulsed stands ports ups strobe pulse =
@@ -98,35 +105,35 @@ calls_round start set strobed after x pulsed stands ports ups strobe pulse =
     let two = same_logic start strobed (strobe.netlist ∙ stands.netlist) (strobe.clocks ∙ stands.clocks) in
     let three = same_logic start after (pulse.netlist ∙ strobe.netlist ∙ stands.netlist) (pulse.clocks ∙ strobe.clocks ∙ stands.clocks) in
     let old : ℕ → Tri = value_at start.cells in
-    let p : Pulse = pulse_of l x old in
+    let p : Pulse = rise_of l x old in
     let inputs : value_at set.inputs ≡ x.ports = λ i k. ports k i in
     let cell : (c : ℕ) → value_at set.cells c ≡ p.old c = λ c. stands.cells c ∙ ap (λ (f : ℕ → Tri). tri_forced_by (l.cell c).force f (old c)) inputs in
     let shown : ℕ → Tri = value_at strobed.shown in
-    let from : at_strobe set shown ≡ strobe_sources l x old shown = λ i. record { ports = inputs i; clocks = λ e. Zero; flops = λ c. cell c i; lockups = λ c e source. value_from shown source } in
+    let from : at_strobe set shown ≡ strobe_sources l x old shown = λ i. record { ports = inputs i; clocks = λ e. Zero; flops = λ c. cell c i; lockups = λ c e high source. if high then cell c i else value_from shown source } in
     let S : TriSources → Type 0 = λ t. IsTriSettled l t shown in
     let T : Logic → Type 0 = λ k. IsTriSettled k (at_strobe set shown) shown in
     let q : Pulse = pulse_from strobed pulsed in
     let qp : q ≡ p = λ i. record {
+      rising = true;
       ports = (ap value_at strobe.inputs ∙ inputs) i;
       pulsed = λ e. (ap (λ (cs : _). pulses cs pulsed e) strobe.clocks ∙ ups e) i;
       old = λ c. (ap (λ (cs : List Tri). value_at cs c) strobe.cells ∙ cell c) i;
     } in
-    let L : Pulse → Type 0 = λ k. IsLeast l k pulse.poss pulse.view in
-    let M : Logic → Type 0 = λ k. IsLeast k q pulse.poss pulse.view in
-    let r : Round = record { strobe = shown; halves = record { rise = record { poss = pulse.poss; view = pulse.view } } } in
-    let A : Logic → Type 0 = λ k. (c : ℕ) → value_at after.cells c ≡ after_pulse k q pulse.view c in
-    let B : Pulse → Type 0 = λ k. (c : ℕ) → value_at after.cells c ≡ after_pulse l k pulse.view c in
-    let cells : (c : ℕ) → value_at after.cells c ≡ after_pulse l p pulse.view c = subst B qp (subst A two pulse.cells) in
+    let P : Logic → Pulse → Type 0 = λ k u. IsLeast k u pulse.halves.rise.poss pulse.halves.rise.view × (IsLeast k (falls_after k u pulse.halves.rise.view) pulse.halves.fall.poss pulse.halves.fall.view
+    × ((c : ℕ) → value_at after.cells c ≡ after_pulse k (falls_after k u pulse.halves.rise.view) pulse.halves.fall.view c)) in
+    let r : Round = record { strobe = shown; halves = pulse.halves } in
+    let all : P l p = subst (P l) qp (subst (λ (k : Logic). P k q) two (pulse.rise, (pulse.fall, pulse.cells))) in
+    let cells : (c : ℕ) → value_at after.cells c ≡ after_halves l x old pulse.halves c = all.1.1 in
     let kept : value_at after.inputs ≡ x.ports = ap value_at (pulse.inputs ∙ strobe.inputs) ∙ inputs in (
       r,
       (
-        record { strobe = subst S from (subst T one strobe.settled); least = record { rise = subst L qp (subst M two pulse.least) } },
+        record { strobe = subst S from (subst T one strobe.settled); least = record { rise = all.0; fall = all.1.0 } },
         refl,
         cells,
         (λ c.
             (let K : Logic → Type 0 = λ k. value_at after.cells c ≡ tri_forced_by (k.cell c).force (value_at after.inputs) (value_at after.cells c) in
             let N : (ℕ → Tri) → Type 0 = λ f. value_at after.cells c ≡ tri_forced_by (l.cell c).force f (value_at after.cells c) in
             let C : Tri → Type 0 = λ t. t ≡ tri_forced_by (l.cell c).force x.ports t in
-            subst K (sym three) (subst N (sym kept) (subst C (sym (cells c)) (after_forced l p pulse.view c (p.pulsed (l.cell c).domain) refl (sym (by_twice (l.cell c).force x.ports (old c)))))))),
+            subst K (sym three) (subst N (sym kept) (subst C (sym (cells c)) (halves_forced l x old pulse.halves c))))),
       ),
     )

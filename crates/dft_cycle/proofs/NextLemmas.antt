@@ -19,7 +19,7 @@ use Rattle.dft_cycle.proofs.RoundLemmas.{IsHeldView, agree, among_before}
 
 -- the settled values are the view
 pub agree_all : (x : Circuit) (p : Pulse) (poss : ℕ → Tri) (view : ℕ → ℕ → Tri) (d : ℕ) (held : List Tri) (t : TriSources) (values : ℕ → Tri) → IsCircuit x → AreViews (logic_at x) p poss view →
-    IsHeldView x p poss view d held t → IsTriSettled (logic_at x) t values → IsHeld x view held (length x.ops.items) → (k : ℕ) → values k ≡ view d k
+    IsHeldView x p poss view d held t values → IsTriSettled (logic_at x) t values → IsHeld x view held (length x.ops.items) → (k : ℕ) → values k ≡ view d k
 unfolding logic_at
 agree_all x p poss view d held t values is views same settled right k = elim (leb_tells (length x.ops.items) k) [
   | inl out ↦ (let free = get_or_past x.ops.items k Free out.1 in
@@ -39,7 +39,7 @@ next_start x p view clocks next c live up among = (let less = among.before in ab
 
 -- one pulsed domain more
 pub next_more : (x : Circuit) (p : Pulse) (poss : ℕ → Tri) (view : ℕ → ℕ → Tri) (clocks : List NetId) (held next new values : List Tri) (j d : ℕ) (t : TriSources) → (is : IsCircuit x) → (views : AreViews (logic_at x) p poss view) →
-    (same : IsHeldView x p poss view d held t) → (settled : IsTriSettled (logic_at x) t (value_at values)) → (right : IsHeld x view held (length x.ops.items)) →
+    (same : IsHeldView x p poss view d held t (value_at values)) → (settled : IsTriSettled (logic_at x) t (value_at values)) → (right : IsHeld x view held (length x.ops.items)) →
     (each : ((c : ℕ) → c < length x.flops.items → value_at new c ≡ next_by ((logic_at x).cell c) d p.ports (value_at values) (value_at next c))) →
     (here : (get_or clocks j (record { 0 = 0 })).0 ≡ d) → (before : HasNext x p view clocks j next) → HasNext x p view clocks (j + 1) new
 next_more x p poss view clocks held next new values j d t is views same settled right each here before c live up among =

@@ -1,5 +1,5 @@
 -- A plan that is made passes every pulse that has its key.
-use Rattle.std.proofs.Common.{ℕ, zero, suc, Bool, true, false, List, [], ◌∷◌, ◌≡◌, ◌<◌, ◌≤◌, inl, inr, Option, None, Some, length, map, take, drop, refl, sym, ap, ◌∙◌, subst, get_or, arith}
+use Rattle.std.proofs.Common.{ℕ, zero, suc, Bool, true, false, List, [], ◌∷◌, ◌≡◌, ◌<◌, ◌≤◌, inl, inr, Option, None, Some, length, map, take, drop, refl, sym, ap, ◌∙◌, subst, get_or, arith, not, ◌&&◌}
 use Rattle.std.specs.Vec.{vec_capacity}
 use Rattle.std.specs.Global.{Vec}
 use Rattle.std.proofs.lemmas.Bool.Decides.{leb_tells}
@@ -11,10 +11,11 @@ use Rattle.dft_netlist.specs.Drivers.{Source, Net, Tied, Loose}
 use Rattle.dft_netlist.specs.Logic.{Cell, Force, Scan, Free}
 use Rattle.dft_netlist.specs.Settled.{value_from, value_given}
 use Rattle.dft_netlist.specs.Orders.{Has, numbers_of}
-use Rattle.dft_abstract.specs.Cycle.{Pulse}
+use Rattle.dft_netlist.specs.Runs.{takes}
+use Rattle.dft_abstract.specs.Cycle.{Pulse, level_before}
 use Rattle.dft_logic.specs.declared.circuit.Circuit.{Circuit}
 use Rattle.dft_logic.specs.declared.takings.Taking.{Taking}
-use Rattle.dft_logic.specs.Needs.{strobe_from, AreSeen}
+use Rattle.dft_logic.specs.Needs.{strobe_from, before_from, AreSeen}
 use Rattle.dft_logic.specs.Shows.{Shown, IsShownOn}
 use Rattle.dft_logic.specs.Takes.{AreOrigins}
 use Rattle.dft_logic.specs.Entries.{Entry, entry_value}
@@ -32,6 +33,7 @@ use Rattle.dft_cycle.specs.declared.looks.Look.{Look}
 use Rattle.dft_cycle.specs.Views.{Among}
 use Rattle.dft_cycle.specs.Looks.{IsListed}
 use Rattle.dft_logic.proofs.LookLemmas.{look_of_marked}
+use Rattle.dft_logic.specs.ShownTables.{edges_of}
 use Rattle.dft_cycle.specs.Plans.{row_of, flags_of, IsNeedList, IsPins, IsMade, IsPlan, IsNoted, IsFilled, LooseAreUnknown, IsPassed}
 
 -- ---- the same key is the same at each pin
@@ -98,18 +100,21 @@ by_takings cells q v table count takings old new are same loose put c live =
 
 pub passed : (x : Circuit) (clocks : List NetId) (pins : Pins) (plan : Plan) (q : Pulse) (values old new : List Tri) → (is : IsCircuit x) → (pinned : IsPins x pins) → IsMade x clocks pins plan →
     (among : ((e : ℕ) → q.pulsed e ≡ true → Among clocks (length clocks) e)) → (past : ((k : ℕ) → length x.ops.items ≤ k → q.ports k ≡ Unknown)) → (olds : ((c : ℕ) → q.old c ≡ value_at old c)) → (loose : LooseAreUnknown x (value_at old)) → (len : length values ≡ length x.ops.items) →
-    (ups : plan.pulsed.items ≡ flags_of q.pulsed clocks) → (ports : plan.ports.items ≡ row_of q.ports pins.ports.items) → (enables : plan.enables.items ≡ row_of (value_at values) pins.enables.items) →
-    (settled : ((k : ℕ) → Has (numbers_of (take plan.count plan.list.items)) k → value_at values k ≡ value_given (strobe_from q.ports q.old (value_at values)) (value_at values) k (meaning (op_at x.ops.items k)))) →
+    (edge : plan.rising ≡ q.rising) → (flagged : plan.pulsed.items ≡ flags_of q.pulsed clocks) → (ports : plan.ports.items ≡ row_of q.ports pins.ports.items) → (enables : plan.enables.items ≡ row_of (value_at values) pins.enables.items) →
+    (settled : ((k : ℕ) → Has (numbers_of (take plan.count plan.list.items)) k → value_at values k ≡ value_given (before_from q (value_at values)) (value_at values) k (meaning (op_at x.ops.items k)))) →
     (put : ArePut plan.takings.items (length plan.takings.items) (taken_by (cell_at (map cell_of x.flops.items)) q (value_at values)) old new) → IsPassed x q new
 unfolding logic_at
-passed x clocks pins plan q values old new is pinned m among past olds loose len ups ports enables settled put =
+passed x clocks pins plan q values old new is pinned m among past olds loose len edge flagged ports enables settled put =
     let v : ℕ → Tri = value_at values in
     let w : ℕ → Tri = value_at m.values in
     let count : ℕ = length x.ops.items in
     let cells : ℕ → Cell = cell_at (map cell_of x.flops.items) in
-    let same : (e : ℕ) → m.pulse.pulsed e ≡ q.pulsed e = pulsed_same clocks m.pulse.pulsed q.pulsed m.key.among among (sym m.key.pulsed ∙ ups) in
+    let same : (e : ℕ) → m.pulse.pulsed e ≡ q.pulsed e = pulsed_same clocks m.pulse.pulsed q.pulsed m.key.among among (sym m.key.pulsed ∙ flagged) in
     let whole : m.pulse.pulsed ≡ q.pulsed = λ t e. same e t in
-    let S : (ℕ → Bool) → Type 0 = λ f. IsShownOn (logic_at x) f (λ net. true) m.shown in
+    let alike : m.pulse.rising ≡ q.rising = sym m.key.edge ∙ edge in
+    let O : (ℕ → Bool) → Type 0 = λ level. AreOrigins (logic_at x) level m.origin in
+    let S : (ℕ → Bool) → Type 0 = λ f. IsShownOn (logic_at x) (edges_of m.pulse.rising f) (λ net. true) m.shown in
+    let R : Bool → Type 0 = λ b. IsShownOn (logic_at x) (edges_of b q.pulsed) (λ net. true) m.shown in
     let beyond : (l : List Tri) → length l ≡ count → (k : ℕ) → count ≤ k → value_at l k ≡ Unknown = λ l e k far. get_or_past l k Unknown (omega arith) in
     let port : (c : ℕ) (force : Force) → c < length x.flops.items → (cells c).force ≡ Some force → m.pulse.ports force.port ≡ q.ports force.port =
     λ c force live at. at_nets m.pulse.ports q.ports pins.ports.items count force.port (sym m.key.ports ∙ ports) m.past past (λ less. pinned.ports c force.port live less (force_here (cells c).force force at)) in
@@ -117,8 +122,8 @@ passed x clocks pins plan q values old new is pinned m among past olds loose len
     λ c scan live at. source_same w v scan.enable
     (λ k net. at_nets w v pins.enables.items count k (sym m.key.enables ∙ enables) (beyond m.values m.size) (beyond values len) (λ less. pinned.enables c k live less (scan_here (cells c).scan scan k at net))) in
     let entries : (c : ℕ) → c < length x.flops.items → entry_for (cells c) q m.origin m.shown v ≡ Some (m.table c) =
-    λ c live. sym (entry_stays (record { net = λ net. Free; cell = λ k. cells c }) m.pulse q m.origin m.shown w v 0 (same (cells c).domain) (λ force at. port c force live at) (λ scan at. enable c scan live at)) ∙ m.entries c live in
-    let pass = planned x q m.origin m.shown m.table m.marked values new is len m.origins (subst S whole m.shows) m.list.closed (λ k up. settled k (m.list.listed k up)) entries m.needed
+    λ c live. sym (entry_stays (record { net = λ net. Free; cell = λ k. cells c }) m.pulse q m.origin m.shown w v 0 (λ t. same (cells c).domain t && takes (alike t) (cells c).falling) (λ force at. port c force live at) (λ scan at. enable c scan live at)) ∙ m.entries c live in
+    let pass = planned x q m.origin m.shown m.table m.marked values new is len (subst O (λ t e. same e t && not (alike t)) m.origins) (subst R alike (subst S whole m.shows)) m.list.closed (λ k up. settled k (m.list.listed k up)) entries m.needed
     (by_takings cells q v m.table (length x.flops.items) plan.takings.items old new m.takings olds loose put) in
     record { poss = pass.0; view = pass.1.0; least = pass.1.1.0; each = pass.1.1.1 }
 
@@ -126,7 +131,7 @@ passed x clocks pins plan q values old new is pinned m among past olds loose len
 
 pub plan_made : (x : Circuit) (clocks : List NetId) (pins : Pins) (p : Pulse) (values : List Tri) (origin : ℕ → Option ℕ) (shown : ℕ → Shown) (table : ℕ → Entry) (old mid new : Plan) →
     (was : IsPlan x clocks pins old) → IsFilled x table old mid → IsNoted clocks pins p (value_at values) Made mid new → (size : length values ≡ length x.ops.items) → (past : ((k : ℕ) → length x.ops.items ≤ k → p.ports k ≡ Unknown)) →
-    (among : ((e : ℕ) → p.pulsed e ≡ true → Among clocks (length clocks) e)) → (origins : AreOrigins (logic_at x) origin) → (shows : IsShownOn (logic_at x) p.pulsed (λ net. true) shown) →
+    (among : ((e : ℕ) → p.pulsed e ≡ true → Among clocks (length clocks) e)) → (origins : AreOrigins (logic_at x) (level_before p) origin) → (shows : IsShownOn (logic_at x) (edges_of p.rising p.pulsed) (λ net. true) shown) →
     (entries : ((c : ℕ) → c < length x.flops.items → entry_for (cell_at (map cell_of x.flops.items) c) p origin shown (value_at values) ≡ Some (table c))) → IsPlan x clocks pins new
 plan_made x clocks pins p values origin shown table old mid new was f n size past among origins shows entries =
     let lists : length new.list.items ≡ length mid.list.items = ap (λ (v : Vec NetId). length v.items) n.list in
@@ -152,7 +157,7 @@ plan_made x clocks pins p values origin shown table old mid new was f n size pas
         table = table;
         size = size;
         past = past;
-        key = record { among = among; pulsed = n.pulsed; ports = n.ports; enables = n.enables };
+        key = record { edge = n.rising; among = among; pulsed = n.pulsed; ports = n.ports; enables = n.enables };
         origins = origins;
         shows = shows;
         entries = entries;

@@ -1,5 +1,5 @@
 -- Each turn joins the next values to the map: it loses known values, and stays below all closed maps.
-use Rattle.std.proofs.Common.{ℕ, zero, suc, Bool, true, false, List, [], ◌∷◌, ◌≡◌, ◌<◌, ◌≤◌, ◌||◌, inl, inr, length, refl, sym, ap, ◌∙◌, subst, get_or, slice_set, count_by, arith}
+use Rattle.std.proofs.Common.{ℕ, zero, suc, Bool, true, false, List, [], ◌∷◌, ◌≡◌, ◌<◌, ◌≤◌, ◌||◌, ◌&&◌, inl, inr, length, refl, sym, ap, ◌∙◌, subst, get_or, slice_set, count_by, arith}
 use Rattle.std.proofs.lemmas.Grind.{common_steps}
 use Rattle.std.proofs.lemmas.Bool.Decides.{leb_tells}
 use Rattle.std.proofs.lemmas.List.{get_or_past}
@@ -10,7 +10,8 @@ use Rattle.dft_cells.proofs.Completions.{above_self, trans}
 use Rattle.dft_netlist.specs.declared.ids.NetId.{NetId}
 use Rattle.dft_netlist.specs.Logic.{Logic, Cell}
 use Rattle.dft_logic.specs.declared.circuit.Circuit.{Circuit}
-use Rattle.dft_abstract.specs.Cycle.{Pulse, AreViews, next_value, IsClosed, IsLeast}
+use Rattle.dft_netlist.specs.Runs.{takes}
+use Rattle.dft_abstract.specs.Cycle.{Pulse, changes, next_value, AreViews, IsClosed, IsLeast}
 use Rattle.dft_cycle.specs.Machine.{value_at}
 use Rattle.dft_logic.specs.Circuit.{logic_at, IsCircuit}
 use Rattle.dft_cycle.specs.Views.{is_known, raised_by, rank_of, Among, HasNext, StaysBelow, AreNext}
@@ -101,18 +102,25 @@ raised_next true Zero One h e = absurd cc
 raised_next true Unknown One h e = absurd cc
 raised_next true next Unknown h e = tt
 
+-- what takes a value has a clock that pulses
+pub pulses : (l : Logic) (p : Pulse) (c : ℕ) → changes l p c ≡ true → p.pulsed (l.cell c).domain ≡ true
+pulses l p c up = and_left (p.pulsed (l.cell c).domain) (takes p.rising (l.cell c).falling) up where
+  and_left : (a b : Bool) → (a && b) ≡ true → a ≡ true
+  and_left true b h = refl
+  and_left false b h = absurd cc
+
 -- what `raise` does to each flip-flop
 abbrev pub IsRaised : Circuit → Pulse → (next old new : List Tri) → Type 0
-IsRaised x p next old new = (c : ℕ) → c < length x.flops.items → value_at new c ≡ raised_by (p.pulsed ((logic_at x).cell c).domain) (value_at next c) (value_at old c)
+IsRaised x p next old new = (c : ℕ) → c < length x.flops.items → value_at new c ≡ raised_by (changes (logic_at x) p c) (value_at next c) (value_at old c)
 
 pub turn_above : (x : Circuit) (p : Pulse) (next old new : List Tri) → length old ≡ length x.flops.items → length new ≡ length old → IsRaised x p next old new → (c : ℕ) → AboveTri (value_at new c) (value_at old c)
 turn_above x p next old new a b each c = elim (leb_tells (length x.flops.items) c) [
   | inl out ↦ (let far : length new ≤ c = omega (arith, out.1) in let P : Tri → Type 0 = λ t. AboveTri t (value_at old c) in subst P (sym (get_or_past new c Unknown far)) tt)
-  | inr live ↦ (let P : Tri → Type 0 = λ t. AboveTri t (value_at old c) in subst P (sym (each c live.1)) (raised_over (p.pulsed ((logic_at x).cell c).domain) (value_at next c) (value_at old c)))
+  | inr live ↦ (let P : Tri → Type 0 = λ t. AboveTri t (value_at old c) in subst P (sym (each c live.1)) (raised_over (changes (logic_at x) p c) (value_at next c) (value_at old c)))
 ]
 
-below_case : (l : Logic) (rank : ℕ → ℕ) (p : Pulse) (poss other : ℕ → Tri) (view its : ℕ → ℕ → Tri) (c : ℕ) (next : Tri) (up : Bool) → p.pulsed (l.cell c).domain ≡ up → (up ≡ true → next ≡ next_value l p view c) →
-    (p.pulsed (l.cell c).domain ≡ true → AboveTri (other c) (join (poss c) (next_value l p view c))) → AboveTri (other c) (poss c) → AboveTri (other c) (raised_by up next (poss c))
+below_case : (l : Logic) (rank : ℕ → ℕ) (p : Pulse) (poss other : ℕ → Tri) (view its : ℕ → ℕ → Tri) (c : ℕ) (next : Tri) (up : Bool) → changes l p c ≡ up → (up ≡ true → next ≡ next_value l p view c) →
+    (changes l p c ≡ true → AboveTri (other c) (join (poss c) (next_value l p view c))) → AboveTri (other c) (poss c) → AboveTri (other c) (raised_by up next (poss c))
 below_case l rank p poss other view its c next true e is joined over = let P : Tri → Type 0 = λ t. AboveTri (other c) (join (poss c) t) in subst P (sym (is refl)) (joined e)
 below_case l rank p poss other view its c next false e is joined over = over
 
@@ -126,8 +134,8 @@ turn_below x p clocks next old new is a b each among has other its closed over c
       | inl out ↦ (let far : length new ≤ c = omega (arith, out.1) in let there : length old ≤ c = omega (arith, out.1) in
           subst P (get_or_past old c Unknown there ∙ sym (get_or_past new c Unknown far)) (over c))
       | inr live ↦ subst P (sym (each c live.1))
-          (below_case (logic_at x) (rank_of x) p (value_at old) other found.0 its c (value_at next c) (p.pulsed ((logic_at x).cell c).domain) refl
-          (λ up. has found.0 found.1 c live.1 up (among ((logic_at x).cell c).domain up))
+          (below_case (logic_at x) (rank_of x) p (value_at old) other found.0 its c (value_at next c) (changes (logic_at x) p c) refl
+          (λ up. (let own = pulses (logic_at x) p c up in has found.0 found.1 c live.1 own (among ((logic_at x).cell c).domain own)))
           (step_below (logic_at x) (rank_of x) p (value_at old) other found.0 its (circuit_ranked x is) found.1 closed over c) (over c))
     ]
 
@@ -145,10 +153,10 @@ turn_done x p clocks next old new view a b each among same has c up =
         (let far : length next ≤ c = omega (arith, out.1) in get_or_past next c Unknown far ∙ sym (past_next x p view c out.1)),
         (let far : length new ≤ c = (let e = ap length same in omega (arith, out.1)) in subst P (sym (get_or_past new c Unknown far)) tt),
       )
-      | inr live ↦ (let is = has c live.1 up (among ((logic_at x).cell c).domain up) in
+      | inr live ↦ (let own = pulses (logic_at x) p c up in let is = has c live.1 own (among ((logic_at x).cell c).domain own) in
           let kept : value_at new c ≡ value_at old c = ap (λ (l : List Tri). value_at l c) same in
           let Q : Tri → Type 0 = λ t. AboveTri (value_at old c) t in
-          (is, subst P (sym kept) (subst Q is (raised_next (p.pulsed ((logic_at x).cell c).domain) (value_at next c) (value_at old c) up (sym (each c live.1) ∙ kept)))))
+          (is, subst P (sym kept) (subst Q is (raised_next (changes (logic_at x) p c) (value_at next c) (value_at old c) up (sym (each c live.1) ∙ kept)))))
     ]
 
 -- ---- the least map

@@ -1,5 +1,5 @@
 -- Marked nets are evaluated one after another; every net that is not marked has its driver's value.
-use Rattle.std.proofs.Common.{ℕ, zero, suc, Bool, true, false, List, [], ◌∷◌, ◌≡◌, ◌<◌, ◌≤◌, ◌+◌, ◌≢◌, ◌⊎◌, inl, inr, Option, length, drop, drop-cons, add-one, refl, sym, ap, ◌∙◌, subst, get_or, slice_set, get_or-set_same, get_or-set_other, true≢false, arith}
+use Rattle.std.proofs.Common.{ℕ, zero, suc, Bool, true, false, List, [], ◌∷◌, ◌≡◌, ◌<◌, ◌≤◌, ◌+◌, ◌≢◌, ◌⊎◌, inl, inr, length, drop, drop-cons, add-one, refl, sym, ap, ◌∙◌, subst, get_or, slice_set, get_or-set_same, get_or-set_other, true≢false, arith}
 use Rattle.std.specs.List.{AllByRecursion}
 use Rattle.std.proofs.lemmas.Bool.Decides.{eqb_tells, leb_tells}
 use Rattle.std.proofs.lemmas.List.{get_or_past, drop_all}
@@ -7,14 +7,14 @@ use Rattle.dft_base.specs.declared.tri.Tri.{Tri}
 use Rattle.dft_base.specs.declared.tri.Tri.TheVariants.{Unknown}
 use Rattle.dft_netlist.specs.declared.ids.NetId.{NetId}
 use Rattle.dft_netlist.specs.Logic.{reads}
-use Rattle.dft_netlist.specs.Settled.{TriSources, value_given}
+use Rattle.dft_netlist.specs.Settled.{value_given}
 use Rattle.dft_netlist.specs.Orders.{Has, numbers_of}
 use Rattle.dft_netlist.proofs.RankLemmas.{has_all}
 use Rattle.dft_logic.specs.declared.circuit.Op.{Op}
 use Rattle.dft_logic.specs.declared.circuit.Op.TheVariants.{Free}
 use Rattle.dft_logic.specs.declared.circuit.Circuit.{Circuit}
 use Rattle.dft_cycle.specs.Machine.{value_at}
-use Rattle.dft_logic.specs.Circuit.{meaning, op_at, leaves_from, AreOrdered, IsCircuit, flag_at}
+use Rattle.dft_logic.specs.Circuit.{meaning, op_at, Supply, leaves_from, AreOrdered, IsCircuit, flag_at}
 use Rattle.dft_logic.specs.Tables.{list_at}
 use Rattle.dft_logic.proofs.Settlings.{IsGiven, given_agree, all_more}
 
@@ -62,17 +62,17 @@ all_other net [] none = tt
 all_other net (x ∷ xs) none = (λ e. none (inl (sym e)), all_other net xs (λ h. none (inr h)))
 
 -- nets that do not read it keep their drivers' values
-pub written : (ops : List Op) (base : TriSources) (held : Option (List Tri)) (values : List Tri) (net k : ℕ) (t : Tri) → net < length values →
-    t ≡ value_given (leaves_from base held (value_at values)) (value_at values) net (meaning (op_at ops net)) → (Has (reads (meaning (op_at ops k))) net → ⊥) → (k ≡ net) ⊎ IsGiven ops base held values k →
-    IsGiven ops base held (slice_set values net t) k
-written ops base held values net k t live given blind before =
+pub written : (ops : List Op) (base : Supply) (values : List Tri) (net k : ℕ) (t : Tri) → net < length values →
+    t ≡ value_given (leaves_from base (value_at values)) (value_at values) net (meaning (op_at ops net)) → (Has (reads (meaning (op_at ops k))) net → ⊥) → (k ≡ net) ⊎ IsGiven ops base values k →
+    IsGiven ops base (slice_set values net t) k
+written ops base values net k t live given blind before =
     let now : List Tri = slice_set values net t in
     let P : ℕ → Type 0 = λ m. m ≢ net in
     let same : (m : ℕ) → m ≢ net → value_at values m ≡ value_at now m = λ m ne. sym (get_or-set_other values net m t Unknown ne) in
-    let agree : value_given (leaves_from base held (value_at values)) (value_at values) k (meaning (op_at ops k)) ≡ value_given (leaves_from base held (value_at now)) (value_at now) k (meaning (op_at ops k)) =
-    given_agree P base held (value_at values) (value_at now) k (meaning (op_at ops k)) (all_other net (reads (meaning (op_at ops k))) blind) same in
-    let fresh : k ≡ net → IsGiven ops base held now k =
-    λ q. (let F : ℕ → Tri = value_at now in let G : ℕ → Tri = λ n. value_given (leaves_from base held (value_at values)) (value_at values) n (meaning (op_at ops n)) in
+    let agree : value_given (leaves_from base (value_at values)) (value_at values) k (meaning (op_at ops k)) ≡ value_given (leaves_from base (value_at now)) (value_at now) k (meaning (op_at ops k)) =
+    given_agree P base (value_at values) (value_at now) k (meaning (op_at ops k)) (all_other net (reads (meaning (op_at ops k))) blind) same in
+    let fresh : k ≡ net → IsGiven ops base now k =
+    λ q. (let F : ℕ → Tri = value_at now in let G : ℕ → Tri = λ n. value_given (leaves_from base (value_at values)) (value_at values) n (meaning (op_at ops n)) in
     ap F q ∙ get_or-set_same values net t Unknown live ∙ given ∙ sym (ap G q) ∙ agree) in
     elim (eqb_tells k net) [
       | inl q ↦ fresh q.1
@@ -82,31 +82,31 @@ written ops base held values net k t live given blind before =
 -- ---- the order
 
 -- the nets before a place of the order are not marked, and each net that is not marked has its driver's value
-pub record Sweeping (ops : List Op) (base : TriSources) (held : Option (List Tri)) (order : List NetId) (values : List Tri) (marked : List Bool) (j : ℕ) : Type 0 where
+pub record Sweeping (ops : List Op) (base : Supply) (order : List NetId) (values : List Tri) (marked : List Bool) (j : ℕ) : Type 0 where
   pub before : List ℕ
   pub rest : AreOrdered ops before (numbers_of (drop j order))
   pub closed : (k : ℕ) → Has before k → AllByRecursion (Has before) (reads (meaning (op_at ops k)))
   pub clean : (k : ℕ) → Has before k → flag_at marked k ≡ false
-  pub given : (k : ℕ) → flag_at marked k ≡ false → IsGiven ops base held values k
+  pub given : (k : ℕ) → flag_at marked k ≡ false → IsGiven ops base values k
   pub either : (k : ℕ) → k < length ops → Has before k ⊎ Has (numbers_of (drop j order)) k
 
-pub sweeping_starts : (x : Circuit) (base : TriSources) (held : Option (List Tri)) (values : List Tri) (marked : List Bool) → IsCircuit x →
-    ((k : ℕ) → flag_at marked k ≡ false → IsGiven x.ops.items base held values k) → Sweeping x.ops.items base held x.order.items values marked 0
-sweeping_starts x base held values marked is given = record { before = []; rest = is.after; closed = λ k h. absurd h; clean = λ k h. absurd h; given = given; either = λ k less. inr (is.whole k less) }
+pub sweeping_starts : (x : Circuit) (base : Supply) (values : List Tri) (marked : List Bool) → IsCircuit x →
+    ((k : ℕ) → flag_at marked k ≡ false → IsGiven x.ops.items base values k) → Sweeping x.ops.items base x.order.items values marked 0
+sweeping_starts x base values marked is given = record { before = []; rest = is.after; closed = λ k h. absurd h; clean = λ k h. absurd h; given = given; either = λ k less. inr (is.whole k less) }
 
-front : (ops : List Op) (base : TriSources) (held : Option (List Tri)) (order : List NetId) (values : List Tri) (marked : List Bool) (j : ℕ) (net d : NetId) → j < length order → net ≡ get_or order j d →
-    Sweeping ops base held order values marked j → drop j order ≡ net ∷ drop (j + 1) order
-front ops base held order values marked j net d less is s = rw (add-one) (drop-cons order j d less ∙ ap (λ (n : NetId). n ∷ drop (suc j) order) (sym is))
+front : (ops : List Op) (base : Supply) (order : List NetId) (values : List Tri) (marked : List Bool) (j : ℕ) (net d : NetId) → j < length order → net ≡ get_or order j d →
+    Sweeping ops base order values marked j → drop j order ≡ net ∷ drop (j + 1) order
+front ops base order values marked j net d less is s = rw (add-one) (drop-cons order j d less ∙ ap (λ (n : NetId). n ∷ drop (suc j) order) (sym is))
 
-pub swept_live : (ops : List Op) (base : TriSources) (held : Option (List Tri)) (order : List NetId) (values : List Tri) (marked : List Bool) (j : ℕ) (net d : NetId) → j < length order → net ≡ get_or order j d →
-    Sweeping ops base held order values marked j → net.0 < length ops
-swept_live ops base held order values marked j net d less is s = (let P : List NetId → Type 0 = λ l. AreOrdered ops s.before (numbers_of l) in (subst P (front ops base held order values marked j net d less is s) s.rest).1)
+pub swept_live : (ops : List Op) (base : Supply) (order : List NetId) (values : List Tri) (marked : List Bool) (j : ℕ) (net d : NetId) → j < length order → net ≡ get_or order j d →
+    Sweeping ops base order values marked j → net.0 < length ops
+swept_live ops base order values marked j net d less is s = (let P : List NetId → Type 0 = λ l. AreOrdered ops s.before (numbers_of l) in (subst P (front ops base order values marked j net d less is s) s.rest).1)
 
-pub sweeping_more : (ops : List Op) (base : TriSources) (held : Option (List Tri)) (order : List NetId) (values new : List Tri) (marked now : List Bool) (j : ℕ) (net d : NetId) → (less : j < length order) → (is : net ≡ get_or order j d) →
-    Sweeping ops base held order values marked j → (given : ((k : ℕ) → flag_at now k ≡ false → IsGiven ops base held new k)) →
-    (raised : ((k : ℕ) → flag_at now k ≡ true → ((flag_at marked k ≡ true) × (k ≡ net.0 → ⊥)) ⊎ Has (reads (meaning (op_at ops k))) net.0)) → Sweeping ops base held order new now (j + 1)
-sweeping_more ops base held order values new marked now j net d less is s given raised =
-    let e = front ops base held order values marked j net d less is s in
+pub sweeping_more : (ops : List Op) (base : Supply) (order : List NetId) (values new : List Tri) (marked now : List Bool) (j : ℕ) (net d : NetId) → (less : j < length order) → (is : net ≡ get_or order j d) →
+    Sweeping ops base order values marked j → (given : ((k : ℕ) → flag_at now k ≡ false → IsGiven ops base new k)) →
+    (raised : ((k : ℕ) → flag_at now k ≡ true → ((flag_at marked k ≡ true) × (k ≡ net.0 → ⊥)) ⊎ Has (reads (meaning (op_at ops k))) net.0)) → Sweeping ops base order new now (j + 1)
+sweeping_more ops base order values new marked now j net d less is s given raised =
+    let e = front ops base order values marked j net d less is s in
     let P : List NetId → Type 0 = λ l. AreOrdered ops s.before (numbers_of l) in
     let Q : List NetId → Type 0 = λ l. (k : ℕ) → k < length ops → Has s.before k ⊎ Has (numbers_of l) k in
     let here = subst P e s.rest in
@@ -135,9 +135,9 @@ sweeping_more ops base held order values new marked now j net d less is s given 
       down k false is never = is
       down k true is never = absurd (never is)
 
-pub swept : (x : Circuit) (base : TriSources) (held : Option (List Tri)) (values : List Tri) (marked : List Bool) (j : ℕ) → length x.order.items ≤ j → length marked ≡ length x.ops.items →
-    Sweeping x.ops.items base held x.order.items values marked j → (k : ℕ) → flag_at marked k ≡ false
-swept x base held values marked j past len s k = elim (leb_tells (length x.ops.items) k) [
+pub swept : (x : Circuit) (base : Supply) (values : List Tri) (marked : List Bool) (j : ℕ) → length x.order.items ≤ j → length marked ≡ length x.ops.items →
+    Sweeping x.ops.items base x.order.items values marked j → (k : ℕ) → flag_at marked k ≡ false
+swept x base values marked j past len s k = elim (leb_tells (length x.ops.items) k) [
   | inl out ↦ (let far : length marked ≤ k = omega (arith, out.1) in get_or_past marked k false far)
   | inr live ↦ (let Q : List NetId → Type 0 = λ l. Has s.before k ⊎ Has (numbers_of l) k in
       elim (subst Q (drop_all j x.order.items past) (s.either k live.1)) [ inl older ↦ s.clean k older | inr none ↦ absurd none ])
@@ -145,16 +145,16 @@ swept x base held values marked j past len s k = elim (leb_tells (length x.ops.i
 
 -- ---- these nets, one after another
 
-pub record Refreshing (ops : List Op) (base : TriSources) (held : Option (List Tri)) (nets : List ℕ) (start values : List Tri) (first marked : List Bool) (any : Bool) (j : ℕ) : Type 0 where
-  pub given : (others : List ℕ) → ((k : ℕ) → flag_at first k ≡ false → Has nets k ⊎ (Has others k ⊎ IsGiven ops base held start k)) → (k : ℕ) → flag_at marked k ≡ false →
-      Has (drop j nets) k ⊎ (Has others k ⊎ IsGiven ops base held values k)
+pub record Refreshing (ops : List Op) (base : Supply) (nets : List ℕ) (start values : List Tri) (first marked : List Bool) (any : Bool) (j : ℕ) : Type 0 where
+  pub given : (others : List ℕ) → ((k : ℕ) → flag_at first k ≡ false → Has nets k ⊎ (Has others k ⊎ IsGiven ops base start k)) → (k : ℕ) → flag_at marked k ≡ false →
+      Has (drop j nets) k ⊎ (Has others k ⊎ IsGiven ops base values k)
   pub none : any ≡ false → (k : ℕ) → flag_at first k ≡ false → flag_at marked k ≡ false
 
-pub refreshed_more : (ops : List Op) (base : TriSources) (held : Option (List Tri)) (nets : List ℕ) (start values new : List Tri) (first marked now : List Bool) (any : Bool) (j net d : ℕ) → (less : j < length nets) → (is : net ≡ get_or nets j d) →
-    Refreshing ops base held nets start values first marked any j → (given : ((k : ℕ) → flag_at now k ≡ false → (k ≡ net) ⊎ IsGiven ops base held values k → IsGiven ops base held new k)) →
+pub refreshed_more : (ops : List Op) (base : Supply) (nets : List ℕ) (start values new : List Tri) (first marked now : List Bool) (any : Bool) (j net d : ℕ) → (less : j < length nets) → (is : net ≡ get_or nets j d) →
+    Refreshing ops base nets start values first marked any j → (given : ((k : ℕ) → flag_at now k ≡ false → (k ≡ net) ⊎ IsGiven ops base values k → IsGiven ops base new k)) →
     (lowered : ((k : ℕ) → flag_at now k ≡ false → flag_at marked k ≡ false)) → (others : List ℕ) →
-    (near : ((k : ℕ) → flag_at first k ≡ false → Has nets k ⊎ (Has others k ⊎ IsGiven ops base held start k))) → (k : ℕ) → (down : flag_at now k ≡ false) → Has (drop (j + 1) nets) k ⊎ (Has others k ⊎ IsGiven ops base held new k)
-refreshed_more ops base held nets start values new first marked now any j net d less is s given lowered others near k down =
+    (near : ((k : ℕ) → flag_at first k ≡ false → Has nets k ⊎ (Has others k ⊎ IsGiven ops base start k))) → (k : ℕ) → (down : flag_at now k ≡ false) → Has (drop (j + 1) nets) k ⊎ (Has others k ⊎ IsGiven ops base new k)
+refreshed_more ops base nets start values new first marked now any j net d less is s given lowered others near k down =
     elim (s.given others near k (lowered k down)) [
       | inl left ↦ elim (has_front nets j d k less left) [ inl e ↦ inr (inr (given k down (inl (e ∙ sym is)))) | inr rest ↦ inl rest ]
       | inr right ↦ elim right [ inl other ↦ inr (inl other) | inr is ↦ inr (inr (given k down (inr is))) ]

@@ -1,5 +1,5 @@
 -- The abstract machine of replay: what it keeps, and what each call does to it.
-use Rattle.std.specs.Prelude.{ℕ, Bool, false, not, ◌≡◌, ◌<◌, ◌==◌, ◌&&◌, ◌||◌, List, [], ◌∷◌, Option, None, Some, slice_get, if◌then◌else◌}
+use Rattle.std.specs.Prelude.{ℕ, Bool, true, false, not, ◌≡◌, ◌<◌, ◌==◌, ◌&&◌, ◌||◌, List, [], ◌∷◌, Option, None, Some, slice_get, if◌then◌else◌}
 use Rattle.dft_base.specs.declared.tri.Tri.{Tri}
 use Rattle.dft_base.specs.declared.tri.Tri.TheVariants.{Zero, Unknown}
 use Rattle.dft_cells.specs.FlipFlops.{tri_forced}
@@ -7,7 +7,7 @@ use Rattle.dft_netlist.specs.declared.ids.NetId.{NetId}
 use Rattle.dft_netlist.specs.Netlist.{Netlist}
 use Rattle.dft_netlist.specs.Logic.{Ports, Logic, Force, logic_of}
 use Rattle.dft_netlist.specs.Settled.{TriSources, value_from, IsTriSettled}
-use Rattle.dft_abstract.specs.Cycle.{Pulse, IsLeast, after_pulse}
+use Rattle.dft_abstract.specs.Cycle.{Pulse, IsLeast, after_pulse, falls_after, Half, Halves}
 pub use Rattle.dft_logic.specs.Values.{value_at}
 
 pub record Machine : Type 0 where
@@ -62,9 +62,9 @@ pub record IsSet (l : Logic) (m : Machine) (net : ℕ) (value : Tri) (after : Ma
   pub cells : (c : ℕ) → value_at after.cells c ≡ acted (l.cell c).force net value (value_at m.cells c)
   pub shown : after.shown ≡ m.shown
 
--- for a strobe clocks are 0, inputs and flip-flops have their values and lock-ups are wires
+-- for a strobe clocks are 0, inputs and flip-flops have their values, high lock-ups hold and others are wires
 abbrev pub at_strobe : Machine → (values : ℕ → Tri) → TriSources
-at_strobe m values = record { ports = value_at m.inputs; clocks = λ e. Zero; flops = value_at m.cells; lockups = λ c e source. value_from values source }
+at_strobe m values = record { ports = value_at m.inputs; clocks = λ e. Zero; flops = value_at m.cells; lockups = λ c e high source. if high then value_at m.cells c else value_from values source }
 
 -- the nets show their settled values
 pub record IsStrobed (l : Logic) (m after : Machine) : Type 0 where
@@ -80,17 +80,30 @@ pulses [] pulsed e = false
 pulses (clock ∷ clocks) [] e = false
 pulses (clock ∷ clocks) (up ∷ pulsed) e = (up && (clock.0 == e)) || pulses clocks pulsed e
 
--- the pulse from the machine's values
-abbrev pub pulse_from : Machine → (pulsed : List Bool) → Pulse
-pulse_from m pulsed = record { ports = value_at m.inputs; pulsed = pulses m.clocks pulsed; old = value_at m.cells }
+-- a phase of a pulse from the machine's values, and its rises
+abbrev pub phase_from : Machine → (rising : Bool) → (pulsed : List Bool) → Pulse
+phase_from m rising pulsed = record { rising = rising; ports = value_at m.inputs; pulsed = pulses m.clocks pulsed; old = value_at m.cells }
 
--- the flip-flops of the pulsed domains have their next values at the least map
+abbrev pub pulse_from : Machine → (pulsed : List Bool) → Pulse
+pulse_from m pulsed = phase_from m true pulsed
+
+-- in the phase the cells that take a value have their next values at the least map
+pub record IsPhase (l : Logic) (m : Machine) (rising : Bool) (pulsed : List Bool) (after : Machine) : Type 0 where
+  pub netlist : after.netlist ≡ m.netlist
+  pub clocks : after.clocks ≡ m.clocks
+  pub inputs : after.inputs ≡ m.inputs
+  pub shown : after.shown ≡ m.shown
+  pub half : Half
+  pub least : IsLeast l (phase_from m rising pulsed) half.poss half.view
+  pub cells : (c : ℕ) → value_at after.cells c ≡ after_pulse l (phase_from m rising pulsed) half.view c
+
+-- in each half the cells that take a value have their next values at the least map
 pub record IsPulsed (l : Logic) (m : Machine) (pulsed : List Bool) (after : Machine) : Type 0 where
   pub netlist : after.netlist ≡ m.netlist
   pub clocks : after.clocks ≡ m.clocks
   pub inputs : after.inputs ≡ m.inputs
   pub shown : after.shown ≡ m.shown
-  pub poss : ℕ → Tri
-  pub view : ℕ → ℕ → Tri
-  pub least : IsLeast l (pulse_from m pulsed) poss view
-  pub cells : (c : ℕ) → value_at after.cells c ≡ after_pulse l (pulse_from m pulsed) view c
+  pub halves : Halves
+  pub rise : IsLeast l (pulse_from m pulsed) halves.rise.poss halves.rise.view
+  pub fall : IsLeast l (falls_after l (pulse_from m pulsed) halves.rise.view) halves.fall.poss halves.fall.view
+  pub cells : (c : ℕ) → value_at after.cells c ≡ after_pulse l (falls_after l (pulse_from m pulsed) halves.rise.view) halves.fall.view c

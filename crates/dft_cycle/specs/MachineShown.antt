@@ -1,6 +1,7 @@
 -- What an `AbstractMachine` shows, and what holds of it.
 use Rattle.std.specs.Prelude.{ℕ, true, false, ◌≡◌, ◌<◌, Some, length, slice_get}
 use Rattle.dft_netlist.specs.declared.ids.NetId.{NetId}
+use Rattle.dft_netlist.specs.Logic.{IsRising}
 use Rattle.dft_cycle.specs.declared.machine.AbstractMachine.TheInside.{Inside}
 use Rattle.dft_cycle.specs.Machine.{Machine, logic, is_one_of, value_at}
 use Rattle.dft_logic.specs.Circuit.{logic_at, flag_at, IsCircuit, IsReady}
@@ -15,6 +16,8 @@ machine_of d = record { netlist = d.design.now; clocks = d.clocks.items; inputs 
 pub record IsMachine (d : Inside) : Type 0 where
   pub circuit : IsCircuit d.circuit
   pub compiled : logic (machine_of d) ≡ logic_at d.circuit
+  -- where no flip-flop falls they all take their bits at rises
+  pub rests : d.falls ≡ false → IsRising (logic_at d.circuit)
   pub owned : OwnsLatches d.circuit d.clocks.items
   pub live : (place : ℕ) (clock : NetId) → slice_get d.clocks.items place ≡ Some clock → clock.0 < length d.pulsed.items
   pub nets : length d.circuit.ops.items ≡ length d.design.now.nets

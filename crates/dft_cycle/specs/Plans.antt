@@ -5,7 +5,7 @@ use Rattle.dft_base.specs.declared.tri.Tri.{Tri}
 use Rattle.dft_base.specs.declared.tri.Tri.TheVariants.{Unknown}
 use Rattle.dft_netlist.specs.declared.ids.NetId.{NetId}
 use Rattle.dft_netlist.specs.Orders.{Has, numbers_of}
-use Rattle.dft_abstract.specs.Cycle.{Pulse, IsLeast, after_pulse}
+use Rattle.dft_abstract.specs.Cycle.{Pulse, level_before, IsLeast, after_pulse}
 use Rattle.dft_logic.specs.declared.circuit.Circuit.{Circuit}
 use Rattle.dft_logic.specs.Needs.{IsStrobeClosed}
 use Rattle.dft_logic.specs.Shows.{Shown, IsShownOn}
@@ -13,8 +13,9 @@ use Rattle.dft_logic.specs.Takes.{AreOrigins}
 use Rattle.dft_logic.specs.Entries.{Entry}
 use Rattle.dft_logic.specs.Values.{value_at}
 use Rattle.dft_logic.specs.Circuit.{logic_at, cell_of, cell_at, flag_at, force_nets, AreOrdered}
-use Rattle.dft_logic.specs.EntryTables.{origin_at, scan_needs, entry_for, entry_needs}
+use Rattle.dft_logic.specs.EntryTables.{scan_needs, entry_for, entry_needs}
 use Rattle.dft_logic.specs.Takings.{AreTakings, is_loose}
+use Rattle.dft_logic.specs.ShownTables.{edges_of}
 use Rattle.dft_cycle.specs.declared.plans.Pins.{Pins}
 use Rattle.dft_cycle.specs.declared.plans.Plan.{Plan}
 use Rattle.dft_cycle.specs.declared.plans.Stage.{Stage}
@@ -43,8 +44,9 @@ pub record IsPins (x : Circuit) (pins : Pins) : Type 0 where
   pub count : pins.count ≤ length pins.list.items
   pub ordered : AreOrdered x.ops.items [] (numbers_of (take pins.count pins.list.items))
 
--- these are the flags of the clocks, where all clocks that pulse are among them, and the values of the pins' ports and of their scan enables
-pub record IsKey (clocks : List NetId) (pins : Pins) (p : Pulse) (values : ℕ → Tri) (flags : List Bool) (forces scans : List Tri) : Type 0 where
+-- these are the edge and the flags of the clocks, where all clocks that pulse are among them, and the values of the pins' ports and of their scan enables
+pub record IsKey (clocks : List NetId) (pins : Pins) (p : Pulse) (values : ℕ → Tri) (rising : Bool) (flags : List Bool) (forces scans : List Tri) : Type 0 where
+  pub edge : rising ≡ p.rising
   pub among : (e : ℕ) → p.pulsed e ≡ true → Among clocks (length clocks) e
   pub pulsed : flags ≡ flags_of p.pulsed clocks
   pub ports : forces ≡ row_of p.ports pins.ports.items
@@ -60,9 +62,9 @@ pub record IsMade (x : Circuit) (clocks : List NetId) (pins : Pins) (plan : Plan
   pub table : ℕ → Entry
   pub size : length values ≡ length x.ops.items
   pub past : (k : ℕ) → length x.ops.items ≤ k → pulse.ports k ≡ Unknown
-  pub key : IsKey clocks pins pulse (value_at values) plan.pulsed.items plan.ports.items plan.enables.items
-  pub origins : AreOrigins (logic_at x) origin
-  pub shows : IsShownOn (logic_at x) pulse.pulsed (λ net. true) shown
+  pub key : IsKey clocks pins pulse (value_at values) plan.rising plan.pulsed.items plan.ports.items plan.enables.items
+  pub origins : AreOrigins (logic_at x) (level_before pulse) origin
+  pub shows : IsShownOn (logic_at x) (edges_of pulse.rising pulse.pulsed) (λ net. true) shown
   pub entries : (c : ℕ) → c < length x.flops.items → entry_for (cell_at (map cell_of x.flops.items) c) pulse origin shown (value_at values) ≡ Some (table c)
   pub needed : (c : ℕ) → c < length x.flops.items → (k : ℕ) → k < length x.ops.items → Has (entry_needs (cell_at (map cell_of x.flops.items) c) (table c)) k → flag_at marked k ≡ true
   pub list : IsNeedList x marked (take plan.count plan.list.items)
@@ -82,6 +84,7 @@ pub record IsPlan (x : Circuit) (clocks : List NetId) (pins : Pins) (plan : Plan
 -- the plan has this key, and the rest of it is as before
 pub record IsNoted (clocks : List NetId) (pins : Pins) (p : Pulse) (values : ℕ → Tri) (how : Stage) (old new : Plan) : Type 0 where
   pub stage : new.stage ≡ how
+  pub rising : new.rising ≡ p.rising
   pub pulsed : new.pulsed.items ≡ flags_of p.pulsed clocks
   pub ports : new.ports.items ≡ row_of p.ports pins.ports.items
   pub enables : new.enables.items ≡ row_of values pins.enables.items
@@ -93,6 +96,7 @@ pub record IsNoted (clocks : List NetId) (pins : Pins) (p : Pulse) (values : ℕ
 pub record IsFilled (x : Circuit) (table : ℕ → Entry) (old new : Plan) : Type 0 where
   pub marked : List Bool
   pub stage : new.stage ≡ old.stage
+  pub rising : new.rising ≡ old.rising
   pub pulsed : new.pulsed ≡ old.pulsed
   pub ports : new.ports ≡ old.ports
   pub enables : new.enables ≡ old.enables
@@ -114,13 +118,13 @@ LooseAreUnknown x values = (c : ℕ) → is_loose (cell_at (map cell_of x.flops.
 -- the plans of a circuit with these clocks, and what they are made from
 pub record ArePlans (x : Circuit) (clocks : List NetId) (p : Plans) : Type 0 where
   pub pins : IsPins x p.pins
-  pub origins : AreOrigins (logic_at x) (origin_at p.origins.items)
+  pub origins : length p.origins.items ≡ length x.ops.items
   pub plans : All (IsPlan x clocks p.pins) p.plans.items
   pub some : 0 < length p.plans.items
   pub shown : length p.shown.items ≡ length x.ops.items
   pub entries : length p.entries.items ≡ length x.flops.items
 
--- a pulse was found by one pass: these are the values of flip-flops after it, at a least map that is there
+-- a phase of a pulse was found by one pass: these are the values of flip-flops after it, at a least map that is there
 pub record IsPassed (x : Circuit) (p : Pulse) (new : List Tri) : Type 0 where
   pub poss : ℕ → Tri
   pub view : ℕ → ℕ → Tri

@@ -8,7 +8,7 @@ use Rattle.dft_netlist.specs.Drivers.{Source}
 use Rattle.dft_netlist.specs.Logic.{Logic, Lockup, Cell}
 use Rattle.dft_netlist.specs.Settled.{value_from}
 use Rattle.dft_logic.specs.declared.circuit.Circuit.{Circuit}
-use Rattle.dft_abstract.specs.Cycle.{next_value, IsClosed}
+use Rattle.dft_abstract.specs.Cycle.{next_value, changes, IsClosed}
 use Rattle.dft_abstract.specs.Cycle as Cycle
 use Rattle.dft_logic.specs.Values.{value_at}
 pub use Rattle.dft_logic.specs.Ranks.{rank_from, rank_of}
@@ -36,11 +36,11 @@ pub record Among (clocks : List NetId) (count net : ℕ) : Type 0 where
 
 -- lock-ups whose nets have lower ranks are held at their inputs in the views of their domains
 abbrev pub IsHeld : Circuit → (view : ℕ → ℕ → Tri) → (held : List Tri) → (rank : ℕ) → Type 0
-IsHeld x view held r = (net c e : ℕ) (source : Source) → (logic_at x).net net ≡ Lockup c e source → rank_of x net < r → value_at held c ≡ value_from (view e) source
+IsHeld x view held r = (net c e : ℕ) (high : Bool) (source : Source) → (logic_at x).net net ≡ Lockup c e high source → rank_of x net < r → value_at held c ≡ value_from (view e) source
 
 -- each lock-up's domain is one of these clocks
 abbrev pub OwnsLatches : Circuit → List NetId → Type 0
-OwnsLatches x clocks = (c e : ℕ) (source : Source) → latch_at x.latches.items c ≡ Some (e, source) → Among clocks (length clocks) e
+OwnsLatches x clocks = (c e : ℕ) (high : Bool) (source : Source) → latch_at x.latches.items c ≡ Some (e, source) → Among clocks (length clocks) e
 
 -- each flip-flop whose domain is pulsed and one of the first clocks has its next value
 abbrev pub HasNext : Circuit → Cycle.Pulse → (view : ℕ → ℕ → Tri) → List NetId → (count : ℕ) → (next : List Tri) → Type 0
@@ -58,7 +58,7 @@ is_known Zero = true
 is_known One = true
 is_known Unknown = false
 
--- the map, with the next value joined where the domain pulses
+-- the map, with the next value joined where the flip-flop takes one
 abbrev pub raised_by : (up : Bool) → (next old : Tri) → Tri
 raised_by up next old = if up then join old next else old
 
@@ -67,12 +67,12 @@ abbrev pub StaysBelow : Logic → Cycle.Pulse → (poss raised : List Tri) → T
 StaysBelow l p poss raised =
     (other : ℕ → Tri) (its : ℕ → ℕ → Tri) → IsClosed l p other its → ((c : ℕ) → AboveTri (other c) (value_at poss c)) → (c : ℕ) → AboveTri (other c) (value_at raised c)
 
--- these are the next values of the pulsed domains' flip-flops, and the map is above them
+-- these are the next values of the flip-flops that take one, and the map is above them
 abbrev pub AreNext : Logic → Cycle.Pulse → (view : ℕ → ℕ → Tri) → (poss next : List Tri) → Type 0
 AreNext l p view poss next =
-    (c : ℕ) → p.pulsed (l.cell c).domain ≡ true → (value_at next c ≡ next_value l p view c) × AboveTri (value_at poss c) (next_value l p view c)
+    (c : ℕ) → changes l p c ≡ true → (value_at next c ≡ next_value l p view c) × AboveTri (value_at poss c) (next_value l p view c)
 
 -- one domain pulses at most, and there is no lock-up
 pub record IsAlone (l : Logic) (pulsed : ℕ → Bool) : Type 0 where
-  pub none : (net c e : ℕ) (source : Source) → l.net net ≡ Lockup c e source → ⊥
+  pub none : (net c e : ℕ) (high : Bool) (source : Source) → l.net net ≡ Lockup c e high source → ⊥
   pub one : (e f : ℕ) → pulsed e ≡ true → pulsed f ≡ true → e ≡ f

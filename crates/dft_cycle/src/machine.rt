@@ -1,8 +1,10 @@
 //! The abstract machine of replay.
 
-ghost use Rattle.std.specs.Prelude.{◌≡◌, ℕ, ◌<◌, length, map, replicate, true, false, Some, None, slice_get, IfOk, if◌then◌else◌};
-ghost use Rattle.dft_cycle.specs.Machine.{logic, AreNets, is_one_of, IsStart, IsSet, IsStrobed, IsPulsed, pulses, acted};
+ghost use Rattle.std.specs.Prelude.{◌≡◌, ◌&&◌, ℕ, ◌<◌, length, map, replicate, true, false, Some, None, slice_get, IfOk, if◌then◌else◌};
+ghost use Rattle.dft_cycle.specs.Machine.{logic, AreNets, is_one_of, IsStart, IsSet, IsStrobed, IsPhase, IsPulsed, pulses, acted};
 ghost use Rattle.dft_cycle.specs.Machine as spec;
+ghost use Rattle.std.specs.List.{list_any};
+ghost use Rattle.dft_netlist.specs.Runs.{takes};
 ghost use Rattle.dft_logic.specs.Needs.{AreSeen};
 ghost use Rattle.dft_logic.specs.Circuit.{cell_of, cell_at, force_at, IsCircuit, flag_at as is_up};
 
@@ -12,8 +14,8 @@ use crate::rounds::find_least;
 use crate::sweeping::settle_again;
 use dft_base::Tri;
 use dft_logic::{
-    Acting, Circuit, FlipFlop, Pulse, compile, flag_at, forced, list_of, read_list, settle,
-    strobe_view, value_at,
+    Acting, Circuit, FlipFlop, Pulse, compile, forced, list_of, read_list, settle, strobe_view,
+    value_at,
 };
 use dft_netlist::{Design, NetId};
 use std::alloc::{AllocError, Global};
@@ -26,6 +28,7 @@ pub struct AbstractMachine<'a> {
     design: &'a Design,
     clocks: Vec<NetId>,
     circuit: Circuit,
+    falls: bool,
     inputs: Vec<Tri>,
     cells: Vec<Tri>,
     shown: Vec<Tri>,
@@ -80,7 +83,9 @@ impl<'a> AbstractMachine<'a> {
         let quick = unknown(alloc, nets)?;
         let looks = Looks::prepare(alloc, &circuit)?;
         let plans = Plans::prepare(alloc, &circuit, &clocks, &mut marked)?;
+        let falls = has_falling(&circuit.flops);
         let pulse = Pulse {
+            rising: false,
             ports: &inputs,
             pulsed: &[],
             old: &bits,
@@ -90,6 +95,7 @@ impl<'a> AbstractMachine<'a> {
             design,
             clocks,
             circuit,
+            falls,
             inputs,
             cells: bits,
             shown,
@@ -127,6 +133,7 @@ impl<'a> AbstractMachine<'a> {
         ensures { IsStrobed (logic self.old) self.old self.new }
     {
         let pulse = Pulse {
+            rising: false,
             ports: &self.inputs,
             pulsed: &[],
             old: &self.cells,
@@ -174,6 +181,7 @@ impl<'a> AbstractMachine<'a> {
         ensures seen { AreSeen (logic self.old) (spec.value_at self.old.inputs) (spec.value_at self.old.cells) nets.now values.new }
     {
         let pulse = Pulse {
+            rising: false,
             ports: &self.inputs,
             pulsed: &[],
             old: &self.cells,
@@ -187,16 +195,26 @@ impl<'a> AbstractMachine<'a> {
         read_list(nets, &self.values, values);
     }
 
-    /// Pulses some clocks, with an entry for each in their order: the flip-flops of their domains take what they may
-    /// take in any order of the edges.
+    /// Pulses some clocks, with an entry for each in their order: they rise, then they fall, and the flip-flops of their
+    /// domains take what they may take in any order of the edges.
     pub fn pulse(&mut self, pulsed: &[bool])
         requires { length pulsed.now ≡ length self.old.clocks }
         ensures { IsPulsed (logic self.old) self.old pulsed.now self.new }
+    {
+        self.phase(true, pulsed);
+        self.fall(pulsed);
+    }
+
+    // A phase of a pulse, by a plan or by the views.
+    fn phase(&mut self, rising: bool, pulsed: &[bool])
+        requires { length pulsed.now ≡ length self.old.clocks }
+        ensures { IsPhase (logic self.old) self.old rising pulsed.now self.new }
     {
         mark(&self.clocks, pulsed, &mut self.pulsed);
         let taken = self.plans.take(
             &self.circuit,
             &self.clocks,
+            rising,
             &self.inputs,
             &self.pulsed,
             &mut self.quick,
@@ -205,18 +223,29 @@ impl<'a> AbstractMachine<'a> {
             &mut self.cells,
         );
         if !taken {
-            self.pulse_by_views(pulsed);
+            self.phase_by_views(rising, pulsed);
         }
     }
 
-    // The same by the views of all domains and the least map.
-    fn pulse_by_views(&mut self, pulsed: &[bool])
+    // The falls of a pulse. Nothing changes where every flip-flop takes its bit at a rise.
+    fn fall(&mut self, pulsed: &[bool])
         requires { length pulsed.now ≡ length self.old.clocks }
-        ensures { IsPulsed (logic self.old) self.old pulsed.now self.new }
+        ensures { IsPhase (logic self.old) self.old false pulsed.now self.new }
+    {
+        if self.falls {
+            self.phase(false, pulsed);
+        }
+    }
+
+    // A phase by the views of all domains and the least map.
+    fn phase_by_views(&mut self, rising: bool, pulsed: &[bool])
+        requires { length pulsed.now ≡ length self.old.clocks }
+        ensures { IsPhase (logic self.old) self.old rising pulsed.now self.new }
     {
         mark(&self.clocks, pulsed, &mut self.pulsed);
         self.poss.as_mut_slice().copy_from_slice(&self.cells);
         let pulse = Pulse {
+            rising,
             ports: &self.inputs,
             pulsed: &self.pulsed,
             old: &self.cells,
@@ -233,6 +262,7 @@ impl<'a> AbstractMachine<'a> {
         );
         take(
             &self.circuit.flops,
+            rising,
             &self.pulsed,
             &self.next,
             &mut self.cells,
@@ -294,18 +324,25 @@ fn mark(clocks: &[NetId], pulsed: &[bool], flags: &mut [bool])
     }
 }
 
-// The flip-flops of the domains that pulse take their next values.
-fn take(flops: &[FlipFlop], pulsed: &[bool], next: &[Tri], cells: &mut [Tri])
+// Whether a flip-flop takes its bit at a fall.
+fn has_falling(flops: &[FlipFlop]) -> bool
+    ensures { result ≡ list_any (λ flop. flop.falling) flops.now }
+{
+    flops.iter().any(|flop| flop.falling)
+}
+
+// The flip-flops that take a value in a phase take their next values.
+fn take(flops: &[FlipFlop], rising: bool, pulsed: &[bool], next: &[Tri], cells: &mut [Tri])
     requires cells { length cells.old ≡ length flops.now }
     requires next { length next.now ≡ length flops.now }
-    ensures { (c : ℕ) → c < length flops.now → spec.value_at cells.new c ≡ (if is_up pulsed.now (cell_at (map cell_of flops.now) c).domain then spec.value_at next.now c else spec.value_at cells.old c) }
+    ensures { (c : ℕ) → c < length flops.now → spec.value_at cells.new c ≡ (if is_up pulsed.now (cell_at (map cell_of flops.now) c).domain && takes rising (cell_at (map cell_of flops.now) c).falling then spec.value_at next.now c else spec.value_at cells.old c) }
 {
     for (place, flop) in flops.iter().enumerate() {
-        cells[place] = taken(flag_at(pulsed, flop.domain.0), next[place], cells[place]);
+        cells[place] = taken(flop.changes(rising, pulsed), next[place], cells[place]);
     }
 }
 
-// The next value where the domain pulses.
+// The next value where one is taken.
 fn taken(up: bool, next: Tri, old: Tri) -> Tri
     ensures { result ≡ (if up then next else old) }
 {

@@ -8,11 +8,11 @@ ghost use Rattle.dft_cycle.specs.Plans.{ArePlans, LooseAreUnknown, IsPassed};
 
 use crate::plans::{Pins, Plan, Stage};
 use dft_base::Tri;
-use dft_logic::{Circuit, Entry, Pulse, Shown, settle_strobe};
+use dft_logic::{Circuit, Entry, Pulse, Shown, settle_list};
 use dft_netlist::{InstanceId, NetId};
 
-// The plans of the last pulses that came again, and what they are made from: the pins, the flip-flop that each net
-// shows, and room for what nets show and for entries. Then the places of the plan that was noted last and of the one
+// The plans of the last phases that came again, and what they are made from: the pins, and room for the flip-flop that
+// each net shows, for what else nets show and for entries. Then the places of the plan that was noted last and of the one
 // that was taken last.
 #[derive(Drop)]
 pub(crate) struct Plans {
@@ -102,7 +102,7 @@ impl Plans {
             clocks,
             &self.pins,
             pulse,
-            &self.origins,
+            &mut self.origins,
             values,
             &mut self.shown,
             &mut self.entries,
@@ -131,7 +131,7 @@ impl Plans {
         ensures clear { (k : ℕ) → is_up marked.new k ≡ false }
     {
         let nets = &self.pins.list[..self.pins.count];
-        settle_strobe(circuit, pulse.ports, pulse.old, nets, values);
+        settle_list(circuit, pulse, nets, values);
         match find_plan(&self.plans, clocks, &self.pins, pulse, values) {
             Some(place) => {
                 self.taken = place;
@@ -152,6 +152,7 @@ impl Plans {
         &mut self,
         circuit: &Circuit,
         clocks: &[NetId],
+        rising: bool,
         ports: &[Tri],
         pulsed: &[bool],
         values: &mut [Tri],
@@ -171,17 +172,18 @@ impl Plans {
         requires loose { LooseAreUnknown circuit.now (spec.value_at cells.old) }
         ensures plans { ArePlans circuit.now clocks.now self.new }
         ensures clear { (k : ℕ) → is_up marked.new k ≡ false }
-        ensures passed { result ≡ true → IsPassed circuit.now (record { ports = spec.value_at ports.now; pulsed = is_up pulsed.now; old = spec.value_at cells.old }) cells.new }
+        ensures passed { result ≡ true → IsPassed circuit.now (record { rising = rising; ports = spec.value_at ports.now; pulsed = is_up pulsed.now; old = spec.value_at cells.old }) cells.new }
         ensures same { result ≡ false → cells.new ≡ cells.old }
     {
         let pulse = Pulse {
+            rising,
             ports,
             pulsed,
             old: cells,
         };
         match self.choose(circuit, clocks, pulse, values, marked) {
             Some(place) => self.plans[place].take(
-                circuit, clocks, &self.pins, ports, pulsed, values, next, cells,
+                circuit, clocks, &self.pins, rising, ports, pulsed, values, next, cells,
             ),
             None => false,
         }

@@ -6,8 +6,9 @@ ghost use Rattle.dft_netlist.specs.Orders.{Has, numbers_of};
 ghost use Rattle.dft_logic.specs.Values as spec;
 ghost use Rattle.dft_logic.specs.Circuit.{IsCircuit, logic_at, cell_of, cell_at, flag_at as is_up, pulse_at};
 ghost use Rattle.dft_logic.specs.Shows.{IsShownOn};
+ghost use Rattle.dft_abstract.specs.Cycle.{level_before};
 ghost use Rattle.dft_logic.specs.Takes.{AreOrigins};
-ghost use Rattle.dft_logic.specs.ShownTables.{shown_at};
+ghost use Rattle.dft_logic.specs.ShownTables.{shown_at, edges_of};
 ghost use Rattle.dft_logic.specs.EntryTables.{origin_at, entry_for, entry_needs, entry_at};
 ghost use Rattle.dft_cycle.specs.declared.plans.Stage.TheVariants.{Noted, Made};
 ghost use Rattle.dft_cycle.specs.Views.{PulsesAmong};
@@ -15,9 +16,9 @@ ghost use Rattle.dft_cycle.specs.Plans.{row_of, flags_of, IsPins, IsNeedList, Is
 
 use dft_base::Tri;
 use dft_logic::{
-    Circuit, Entry, Pulse, Shown, Sights, Taking, find_entries, flag_at, has_row, list_marked,
-    list_takings, lower, mark_entries, mark_needed, read_list, settle, settle_strobe, show_all,
-    strobe_view, take_all,
+    Circuit, Entry, Pulse, Shown, Sights, Taking, find_entries, find_origins, flag_at, has_row,
+    list_marked, list_takings, lower, mark_entries, mark_needed, read_list, settle_list, show_all,
+    take_all,
 };
 use dft_netlist::{InstanceId, NetId};
 
@@ -41,11 +42,12 @@ pub(crate) struct Pins {
     pub count: usize,
 }
 
-// A pulse that is found in one pass: the clocks that pulse, and the values of ports and of scan enables, in the order
+// A phase that is found in one pass: whether its clocks rise, those that pulse, and the values of ports and of scan enables, in the order
 // of the pins; then the nets to settle, at the front of a list, and what flip-flops take.
 #[derive(Drop)]
 pub(crate) struct Plan {
     pub stage: Stage,
+    pub rising: bool,
     pub pulsed: Vec<bool>,
     pub ports: Vec<Tri>,
     pub enables: Vec<Tri>,
@@ -79,8 +81,15 @@ fn read_flags(nets: &[NetId], flags: &[bool], row: &mut [bool])
     }
 }
 
+// Whether two flags are the same.
+fn agree(one: bool, other: bool) -> bool
+    ensures { result ≡ true → one ≡ other }
+{
+    if one { other } else { !other }
+}
+
 impl Plan {
-    // Whether it is for this pulse, where nets have these values.
+    // Whether it is for this phase, where nets have these values.
     pub(crate) fn fits(
         &self,
         clocks: &[NetId],
@@ -88,10 +97,14 @@ impl Plan {
         pulse: Pulse<'_>,
         values: &[Tri],
     ) -> bool
+        ensures edge { result ≡ true → self.now.rising ≡ pulse.entry.rising }
         ensures pulsed { result ≡ true → self.now.pulsed.items ≡ flags_of (pulse_at pulse.entry).pulsed clocks.now }
         ensures ports { result ≡ true → self.now.ports.items ≡ row_of (pulse_at pulse.entry).ports pins.now.ports.items }
         ensures enables { result ≡ true → self.now.enables.items ≡ row_of (spec.value_at values.now) pins.now.enables.items }
     {
+        if !agree(self.rising, pulse.rising) {
+            return false;
+        }
         if !has_flags(clocks, &self.pulsed, pulse.pulsed) {
             return false;
         }
@@ -122,24 +135,27 @@ impl Plan {
     }
 }
 
-// Settles all nets for the strobe of a pulse, and finds what flip-flops take. Whether all take what is still.
+// Settles all nets before the edges of a phase, and finds what flip-flops take. Whether all take what is still.
 fn draw(
     circuit: &Circuit,
     pulse: Pulse<'_>,
-    origins: &[Option<InstanceId>],
+    origins: &mut [Option<InstanceId>],
     values: &mut [Tri],
     shown: &mut [Shown],
     entries: &mut [Entry],
 ) -> bool
     requires circuit { IsCircuit circuit.now }
+    requires origins { length origins.old ≡ length circuit.now.ops.items }
     requires values { length values.old ≡ length circuit.now.ops.items }
     requires shown { length shown.old ≡ length circuit.now.ops.items }
     requires entries { length entries.old ≡ length circuit.now.flops.items }
-    ensures shows { IsShownOn (logic_at circuit.now) (is_up pulse.entry.pulsed.now) (λ net. true) (shown_at shown.new) }
-    ensures entries { result ≡ true → (c : ℕ) → c < length circuit.now.flops.items → entry_for (cell_at (map cell_of circuit.now.flops.items) c) (pulse_at pulse.entry) (origin_at origins.now) (shown_at shown.new) (spec.value_at values.new) ≡ Some (entry_at entries.new c) }
+    ensures origins { AreOrigins (logic_at circuit.now) (level_before (pulse_at pulse.entry)) (origin_at origins.new) }
+    ensures shows { IsShownOn (logic_at circuit.now) (edges_of pulse.entry.rising (is_up pulse.entry.pulsed.now)) (λ net. true) (shown_at shown.new) }
+    ensures entries { result ≡ true → (c : ℕ) → c < length circuit.now.flops.items → entry_for (cell_at (map cell_of circuit.now.flops.items) c) (pulse_at pulse.entry) (origin_at origins.new) (shown_at shown.new) (spec.value_at values.new) ≡ Some (entry_at entries.new c) }
 {
-    settle(circuit, &strobe_view(pulse), values);
-    show_all(circuit, pulse.pulsed, shown);
+    settle_list(circuit, pulse, &circuit.order, values);
+    find_origins(circuit, pulse, origins);
+    show_all(circuit, pulse.rising, pulse.pulsed, shown);
     let sights = Sights { origins, shown };
     find_entries(&circuit.flops, pulse, &sights, values, entries)
 }
@@ -180,6 +196,7 @@ impl Plan {
         ensures { IsNoted clocks.now pins.now (pulse_at pulse.entry) (spec.value_at values.now) stage self.old self.new }
     {
         self.stage = stage;
+        self.rising = pulse.rising;
         read_flags(clocks, pulse.pulsed, &mut self.pulsed);
         read_list(&pins.ports, pulse.ports, &mut self.ports);
         read_list(&pins.enables, values, &mut self.enables);
@@ -207,7 +224,7 @@ impl Plan {
         clocks: &[NetId],
         pins: &Pins,
         pulse: Pulse<'_>,
-        origins: &[Option<InstanceId>],
+        origins: &mut [Option<InstanceId>],
         values: &mut [Tri],
         shown: &mut [Shown],
         entries: &mut [Entry],
@@ -216,7 +233,7 @@ impl Plan {
         requires circuit { IsCircuit circuit.now }
         requires among { PulsesAmong pulse.pulsed.now clocks.now }
         requires ports { length pulse.ports.now ≡ length circuit.now.ops.items }
-        requires origins { AreOrigins (logic_at circuit.now) (origin_at origins.now) }
+        requires origins { length origins.old ≡ length circuit.now.ops.items }
         requires values { length values.old ≡ length circuit.now.ops.items }
         requires shown { length shown.old ≡ length circuit.now.ops.items }
         requires entries { length entries.old ≡ length circuit.now.flops.items }
@@ -234,12 +251,13 @@ impl Plan {
         }
     }
 
-    // Takes a pulse by it, if it is made and the pulse is the one that it is for. Whether it was taken.
+    // Takes a phase by it, if it is made and the phase is the one that it is for. Whether it was taken.
     pub(crate) fn take(
         &self,
         circuit: &Circuit,
         clocks: &[NetId],
         pins: &Pins,
+        rising: bool,
         ports: &[Tri],
         pulsed: &[bool],
         values: &mut [Tri],
@@ -255,18 +273,19 @@ impl Plan {
         requires next { length next.old ≡ length circuit.now.flops.items }
         requires cells { length cells.old ≡ length circuit.now.flops.items }
         requires loose { LooseAreUnknown circuit.now (spec.value_at cells.old) }
-        ensures passed { result ≡ true → IsPassed circuit.now (record { ports = spec.value_at ports.now; pulsed = is_up pulsed.now; old = spec.value_at cells.old }) cells.new }
+        ensures passed { result ≡ true → IsPassed circuit.now (record { rising = rising; ports = spec.value_at ports.now; pulsed = is_up pulsed.now; old = spec.value_at cells.old }) cells.new }
         ensures same { result ≡ false → cells.new ≡ cells.old }
     {
         if !self.is_made() {
             return false;
         }
-        settle_strobe(circuit, ports, cells, &self.list[..self.count], values);
         let pulse = Pulse {
+            rising,
             ports,
             pulsed,
             old: cells,
         };
+        settle_list(circuit, pulse, &self.list[..self.count], values);
         if !self.fits(clocks, pins, pulse, values) {
             return false;
         }

@@ -14,7 +14,7 @@ use crate::planning::Plans;
 use crate::plans::{Pins, Plan, Stage};
 use dft_base::Tri;
 use dft_logic::{
-    Circuit, Entry, Shown, find_origins, list_marked, lower, mark_entries, mark_forces, mark_needed,
+    Circuit, Entry, Shown, list_marked, lower, mark_entries, mark_forces, mark_needed,
 };
 use dft_netlist::NetId;
 use std::alloc::{AllocError, Global};
@@ -100,6 +100,7 @@ fn plan(alloc: Global, circuit: &Circuit, clocks: &[NetId], pins: &Pins) -> Resu
     let takings = Vec::with_capacity(alloc, circuit.flops.len())?;
     Ok(Plan {
         stage: Stage::Noted,
+        rising: true,
         pulsed,
         ports,
         enables,
@@ -140,8 +141,7 @@ impl Plans {
         ensures plans { IfOk result (ArePlans circuit.now clocks.now) }
         ensures clear { IfOk result (λ _. (k : ℕ) → is_up marked.new k ≡ false) }
     {
-        let mut origins = vec![in alloc; None; circuit.ops.len()]?;
-        find_origins(circuit, &mut origins);
+        let origins = vec![in alloc; None; circuit.ops.len()]?;
         let shown = vec![in alloc; Shown::Nothing; circuit.ops.len()]?;
         let entries = vec![in alloc; Entry::Keeps; circuit.flops.len()]?;
         let pins = pins(alloc, circuit, &entries, marked)?;

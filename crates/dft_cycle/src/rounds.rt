@@ -1,8 +1,9 @@
 //! The views of a pulse: lock-ups by rounds over the domains, then the next values of flip-flops.
 
-ghost use Rattle.std.specs.Prelude.{◌≡◌, ◌⊎◌, ℕ, suc, ◌<◌, length, map, count_by, is_some, true, false};
+ghost use Rattle.std.specs.Prelude.{◌≡◌, ◌⊎◌, ◌&&◌, ℕ, suc, ◌<◌, length, map, count_by, is_some, true, false};
 ghost use Rattle.std.specs.List.{list_any};
 ghost use Rattle.dft_base.specs.Tri.{AboveTri};
+ghost use Rattle.dft_netlist.specs.Runs.{takes};
 ghost use Rattle.dft_abstract.specs.Cycle.{AreViews, IsLeast};
 ghost use Rattle.dft_cycle.specs.Machine.{AreNets};
 ghost use Rattle.dft_cycle.specs.Machine as spec;
@@ -53,7 +54,7 @@ fn round(
         pulse,
         domain: last,
         poss,
-        held: Some(held),
+        held,
     };
     settle_again(circuit, &view, values, marked);
     let mut changed = false;
@@ -62,7 +63,7 @@ fn round(
             pulse,
             domain: *clock,
             poss,
-            held: Some(held),
+            held,
         };
         change_view(circuit, &view, last, values, marked);
         last = *clock;
@@ -139,7 +140,7 @@ fn next_values(
         pulse,
         domain: last,
         poss,
-        held: Some(held),
+        held,
     };
     settle_again(circuit, &view, values, marked);
     for clock in clocks {
@@ -148,7 +149,7 @@ fn next_values(
                 pulse,
                 domain: *clock,
                 poss,
-                held: Some(held),
+                held,
             };
             enter(circuit, &view, last, values, marked);
             last = *clock;
@@ -157,25 +158,25 @@ fn next_values(
     }
 }
 
-// The map with the next value where its domain pulses.
+// The map with the next value where the flip-flop takes one.
 fn raised(up: bool, next: Tri, old: Tri) -> Tri
     ensures { result ≡ raised_by up next old }
 {
     if up { old.join(next) } else { old }
 }
 
-// Joins the next values of the flip-flops of the pulsed domains to the map. Whether one changed.
-fn raise(flops: &[FlipFlop], pulsed: &[bool], next: &[Tri], poss: &mut [Tri]) -> bool
+// Joins the next values of the flip-flops that take one to the map. Whether one changed.
+fn raise(flops: &[FlipFlop], rising: bool, pulsed: &[bool], next: &[Tri], poss: &mut [Tri]) -> bool
     requires poss { length poss.old ≡ length flops.now }
     requires next { length next.now ≡ length flops.now }
-    ensures each { (c : ℕ) → c < length flops.now → spec.value_at poss.new c ≡ raised_by (is_up pulsed.now (cell_at (map cell_of flops.now) c).domain) (spec.value_at next.now c) (spec.value_at poss.old c) }
+    ensures each { (c : ℕ) → c < length flops.now → spec.value_at poss.new c ≡ raised_by (is_up pulsed.now (cell_at (map cell_of flops.now) c).domain && takes rising (cell_at (map cell_of flops.now) c).falling) (spec.value_at next.now c) (spec.value_at poss.old c) }
     ensures same { result ≡ false → poss.new ≡ poss.old }
     ensures fewer { result ≡ true → count_by is_known poss.new < count_by is_known poss.old }
 {
     let mut changed = false;
     for (place, flop) in flops.iter().enumerate() {
         let old = poss[place];
-        let value = raised(flag_at(pulsed, flop.domain.0), next[place], old);
+        let value = raised(flop.changes(rising, pulsed), next[place], old);
         let moved = differ(value, old);
         poss[place] = value;
         changed = changed || moved;
@@ -245,12 +246,12 @@ fn turn(
 {
     hold_lockups(circuit, pulse, clocks, poss, held, values, marked);
     next_values(circuit, pulse, clocks, poss, held, values, marked, next);
-    let changed = raise(&circuit.flops, pulse.pulsed, next, poss);
+    let changed = raise(&circuit.flops, pulse.rising, pulse.pulsed, next, poss);
     goes_on(changed, alone)
 }
 
-// Finds the least map above the old values and above the next value of each flip-flop of a pulsed domain, and these
-// next values.
+// Finds the least map above the old values and above the next value of each flip-flop that takes one, and these next
+// values.
 pub(crate) fn find_least(
     circuit: &Circuit,
     pulse: Pulse<'_>,

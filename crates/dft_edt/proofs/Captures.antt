@@ -1,5 +1,5 @@
 -- The capture, by rank of the original's nets.
-use Rattle.std.proofs.Common.{ℕ, zero, suc, Bool, true, false, List, [], ◌∷◌, ◌≡◌, ◌==◌, ◌<◌, inl, inr, refl, sym, subst, ap, arith, map, ◌∙◌, Option, None, Some}
+use Rattle.std.proofs.Common.{ℕ, zero, suc, Bool, true, false, List, [], ◌∷◌, ◌≡◌, ◌==◌, ◌<◌, inl, inr, refl, sym, subst, ap, arith, map, ◌∙◌, Option, None, Some, not}
 use Rattle.std.specs.Prelude.{if◌then◌else◌}
 use Rattle.std.proofs.lemmas.Bool.{eq-eqb, eqb-false}
 use Rattle.dft_base.specs.declared.tri.Tri.{Tri}
@@ -15,8 +15,10 @@ use Rattle.dft_netlist.specs.Settled.{TriSources, value_from, value_given, IsTri
 use Rattle.dft_netlist.specs.Runs.{Vector}
 use Rattle.dft_netlist.proofs.SettledLemmas.{value_at}
 use Rattle.dft_netlist.proofs.Meanings.{pin_monotone}
-use Rattle.dft_abstract.specs.Cycle.{Pulse, tri_forced_by, tri_taken_by, view_sources, AreViews, next_value, after_pulse, pulse_of, strobe_sources}
+use Rattle.dft_abstract.specs.Cycle.{Pulse, tri_forced_by, tri_taken_by, changes, view_sources, AreViews, next_value, after_pulse, rise_of, strobe_sources}
 use Rattle.dft_abstract.specs.Laws.{next_from}
+use Rattle.dft_abstract.proofs.Phases.{of_both}
+use Rattle.dft_abstract.proofs.Halves.{rises_change, rising_after}
 use Rattle.dft_abstract.proofs.OneDomain.{flop_old}
 use Rattle.dft_chains.specs.ScanOff.{moved_source, moved_force, moved_meaning, Places, IsWithin, IsForceWithin, IsEnabledBy, KeepsFlop}
 use Rattle.dft_edt.specs.Captures.{Covers, ContainingCovers, WideningCovers, StandsOver, StrobeLaw, IsCapture, CaptureLaw}
@@ -45,14 +47,14 @@ record SourcesOver (p : Places) (s t : TriSources) : Type 0 where
 
 given_over : (rank : ℕ → ℕ) (p : Places) (s t : TriSources) (a b : ℕ → Tri) (net : ℕ) → net < p.size → SourcesOver p s t → ((k : ℕ) → k < p.size → rank k < rank net → AboveTri (a k) (b (p.moved k))) →
     (m : Meaning) → AreBelow (λ k. k) p.size (reads m) → AreBelow rank (rank net) (reads m) → ((cell : ℕ) (inverted : Bool) → m ≡ Flop cell inverted → p.is_flop cell ≡ true) →
-    ((cell domain : ℕ) (source : Source) → m ≡ Lockup cell domain source → ⊥) → AboveTri (value_given s a net m) (value_given t b (p.moved net) (moved_meaning p.moved m))
+    ((cell domain : ℕ) (high : Bool) (source : Source) → m ≡ Lockup cell domain high source → ⊥) → AboveTri (value_given s a net m) (value_given t b (p.moved net) (moved_meaning p.moved m))
 given_over rank p s t a b net here over ih Input inside below shown no_lockup = over.ports net here
 given_over rank p s t a b net here over ih Clock inside below shown no_lockup = over.clocks net
 given_over rank p s t a b net here over ih (Gate kind inputs) inside below shown no_lockup =
     shared_monotone (bit_of kind) (map (value_from a) inputs) (map (value_from b) (map (moved_source p.moved) inputs)) (inputs_over rank (rank net) p a b ih inputs inside below)
 given_over rank p s t a b net here over ih (Joined source) inside below shown no_lockup = source_over rank (rank net) p a b ih source inside below
 given_over rank p s t a b net here over ih (Flop cell inverted) inside below shown no_lockup = pin_monotone inverted (s.flops cell) (t.flops cell) (over.flops cell (shown cell inverted refl))
-given_over rank p s t a b net here over ih (Lockup cell domain source) inside below shown no_lockup = absurd (no_lockup cell domain source refl)
+given_over rank p s t a b net here over ih (Lockup cell domain high source) inside below shown no_lockup = absurd (no_lockup cell domain high source refl)
 given_over rank p s t a b net here over ih Free inside below shown no_lockup = tt
 
 same_over : (t u v w : Tri) → t ≡ u → v ≡ w → AboveTri u w → AboveTri t v
@@ -67,7 +69,7 @@ values_by original written rank p s t a b ranked has over settled its_settled (s
       | inr same ↦ same_over (a net) (value_given s a net (original.net net)) (b (p.moved net)) (value_given t b (p.moved net) (moved_meaning p.moved (original.net net))) (settled net)
           (value_at written t b (p.moved net) (moved_meaning p.moved (original.net net)) its_settled same)
           (given_over rank p s t a b net inside over (λ k k_inside below. values_by original written rank p s t a b ranked has over settled its_settled fuel k (omega (arith, less, below)) k_inside)
-          (original.net net) (has.closed net inside) (ranked.order net) (λ cell inverted is. has.shown net cell inverted inside is) (λ cell domain source is. has.no_lockup net cell domain source inside is))
+          (original.net net) (has.closed net inside) (ranked.order net) (λ cell inverted is. has.shown net cell inverted inside is) (λ cell domain high source is. has.no_lockup net cell domain high source inside is))
     ]
 
 values_over : (original written : Logic) (rank : ℕ → ℕ) (p : Places) (s t : TriSources) (a b : ℕ → Tri) → IsRanked original rank → Covers original written p → SourcesOver p s t → IsTriSettled original s a → IsTriSettled written t b →
@@ -82,10 +84,10 @@ forced_over p (Some force) a b t u inside over h = forced_monotone force.value (
 
 -- what stands before a pulse
 old_over : (original written : Logic) (p : Places) (y x : Vector) (its old : ℕ → Tri) → Covers original written p → StandsOver p y x its old → (cell : ℕ) → p.is_flop cell ≡ true →
-    AboveTri ((pulse_of original y its).old cell) ((pulse_of written x old).old cell)
+    AboveTri ((rise_of original y its).old cell) ((rise_of written x old).old cell)
 old_over original written p y x its old has over cell is =
     let kept : KeepsFlop p (original.cell cell) (written.cell cell) = has.flops cell is in
-    subst (λ t. AboveTri ((pulse_of original y its).old cell) t) (sym (ap (λ (f : Option Force). tri_forced_by f x.ports (old cell)) kept.force))
+    subst (λ t. AboveTri ((rise_of original y its).old cell) t) (sym (ap (λ (f : Option Force). tri_forced_by f x.ports (old cell)) kept.force))
     (forced_over p (original.cell cell).force y.ports x.ports (its cell) (old cell) kept.force_within over.ports (over.flops cell is))
 
 pub strobe_law : StrobeLaw
@@ -110,11 +112,11 @@ taken_off port None at t enabled off = refl
 taken_off port (Some scan) at t enabled off = ap (λ e. tri_chosen (at e) (at scan.input) t) enabled ∙ ap (λ e. tri_chosen e (at scan.input) t) off ∙ chosen_zero (at scan.input) t
 
 -- a flip-flop after a pulse of its domain
-cell_after : (l : Logic) (q : Pulse) (view : ℕ → ℕ → Tri) (c d : ℕ) → (l.cell c).domain ≡ d → q.pulsed d ≡ true →
+cell_after : (l : Logic) (q : Pulse) (view : ℕ → ℕ → Tri) (c d : ℕ) → (l.cell c).domain ≡ d → changes l q c ≡ true →
     after_pulse l q view c ≡ tri_forced_by (l.cell c).force q.ports (tri_taken_by (l.cell c).scan (value_from (view d)) (value_from (view d) (l.cell c).input))
-cell_after l q view c d here pulsed =
-    ap (λ (e : ℕ). if q.pulsed e then tri_forced_by (l.cell c).force q.ports (tri_taken_by (l.cell c).scan (value_from (view e)) (value_from (view e) (l.cell c).input)) else q.old c) here
-    ∙ ap (λ (b : Bool). if b then tri_forced_by (l.cell c).force q.ports (tri_taken_by (l.cell c).scan (value_from (view d)) (value_from (view d) (l.cell c).input)) else q.old c) pulsed
+cell_after l q view c d here turn =
+    ap (λ (b : Bool). if b then next_value l q view c else q.old c) turn
+    ∙ ap (λ (e : ℕ). tri_forced_by (l.cell c).force q.ports (tri_taken_by (l.cell c).scan (value_from (view e)) (value_from (view e) (l.cell c).input))) here
 
 within_source : (p : Places) (a b : ℕ → Tri) → ((net : ℕ) → net < p.size → AboveTri (a net) (b (p.moved net))) → (source : Source) → IsWithin p.size source → AboveTri (value_from a source) (value_from b (moved_source p.moved source))
 within_source p a b over (Net net) inside = over net inside
@@ -122,25 +124,26 @@ within_source p a b over (Tied bit) inside = above_self (known bit)
 within_source p a b over (Loose i pin) inside = tt
 
 captured : (original written : Logic) (rank : ℕ → ℕ) (p : Places) (d : ℕ) (y x : Vector) (its old poss : ℕ → Tri) (view : ℕ → ℕ → Tri) (values : ℕ → Tri) →
-    (ranked : IsRanked original rank) → (has : Covers original written p) → (capture : IsCapture p d x) → (over : StandsOver p y x its old) → (settled : IsTriSettled original (strobe_sources original y its values) values) → (views : AreViews written (pulse_of written x old) poss view) →
-    (cell : ℕ) → (is : p.is_flop cell ≡ true) → (own : (original.cell cell).domain ≡ d) → AboveTri (next_from original y values cell) (after_pulse written (pulse_of written x old) view cell)
-captured original written rank p d y x its old poss view values ranked has capture over settled views cell is own =
-    let q : Pulse = pulse_of written x old in
+    (ranked : IsRanked original rank) → (has : Covers original written p) → (capture : IsCapture p d x) → (over : StandsOver p y x its old) → (settled : IsTriSettled original (strobe_sources original y its values) values) → (views : AreViews written (rise_of written x old) poss view) →
+    (cell : ℕ) → (is : p.is_flop cell ≡ true) → (rises : (original.cell cell).falling ≡ false) → (own : (original.cell cell).domain ≡ d) → AboveTri (next_from original y values cell) (after_pulse written (rise_of written x old) view cell)
+captured original written rank p d y x its old poss view values ranked has capture over settled views cell is rises own =
+    let q : Pulse = rise_of written x old in
     let e : ℕ = p.moved d in
     let kept : KeepsFlop p (original.cell cell) (written.cell cell) = has.flops cell is in
     let all : SourcesOver p (strobe_sources original y its values) (view_sources written q poss view e) = record {
       ports = over.ports;
       clocks = λ f. view_clock (x.pulsed (p.moved f)) (p.moved f == e) (λ up. eq-eqb (p.moved f) e (ap p.moved (capture.alone f up)));
-      flops = λ c flop. subst (λ t. AboveTri ((pulse_of original y its).old c) t)
-          (sym (flop_old (x.pulsed (written.cell c).domain) ((written.cell c).domain == e) (q.old c) (poss c)
-          (λ up. eq-eqb (written.cell c).domain e ((has.flops c flop).domain ∙ ap p.moved (capture.alone (original.cell c).domain (sym (ap x.pulsed (has.flops c flop).domain) ∙ up))))))
+      flops = λ c flop. subst (λ t. AboveTri ((rise_of original y its).old c) t)
+          (sym (flop_old (changes written q c) ((written.cell c).domain == e) (q.old c) (poss c)
+          (λ ch. (let up = (of_both (x.pulsed (written.cell c).domain) (not (written.cell c).falling) ch).0 in eq-eqb (written.cell c).domain e ((has.flops c flop).domain ∙ ap p.moved (capture.alone (original.cell c).domain (sym (ap x.pulsed (has.flops c flop).domain) ∙ up)))))))
           (old_over original written p y x its old has over c flop);
     } in
     let at : Source → Tri = value_from (view e) in
     let seen = values_over original written rank p (strobe_sources original y its values) (view_sources written q poss view e) values (view e) ranked has all settled (views e) in
     let low : view e p.enable ≡ Zero = value_at written (view_sources written q poss view e) (view e) p.enable Input (views e) has.enable ∙ capture.off in
     let new : after_pulse written q view cell ≡ tri_forced_by (moved_force p.moved (original.cell cell).force) x.ports (at (moved_source p.moved (original.cell cell).input)) =
-    cell_after written q view cell e (kept.domain ∙ ap p.moved own) capture.pulsed
+    cell_after written q view cell e (kept.domain ∙ ap p.moved own)
+    (rises_change written q cell (kept.falling ∙ rises) refl ∙ ap x.pulsed (kept.domain ∙ ap p.moved own) ∙ capture.pulsed)
     ∙ ap (λ (f : Option Force). tri_forced_by f x.ports (tri_taken_by (written.cell cell).scan at (at (written.cell cell).input))) kept.force
     ∙ ap (tri_forced_by (moved_force p.moved (original.cell cell).force) x.ports) (taken_off p.enable (written.cell cell).scan at (at (written.cell cell).input) kept.scan low ∙ ap at kept.input) in
     same_over (next_from original y values cell) (tri_forced_by (original.cell cell).force y.ports (value_from values (original.cell cell).input)) (after_pulse written q view cell)
@@ -155,17 +158,19 @@ pick_false true x y h = absurd (h refl)
 pick_false false x y h = refl
 
 stays : (original written : Logic) (p : Places) (d : ℕ) (y x : Vector) (its old : ℕ → Tri) (view : ℕ → ℕ → Tri) → Covers original written p → IsCapture p d x → StandsOver p y x its old →
-    (cell : ℕ) → p.is_flop cell ≡ true → ((original.cell cell).domain == d) ≡ false → AboveTri ((pulse_of original y its).old cell) (after_pulse written (pulse_of written x old) view cell)
+    (cell : ℕ) → p.is_flop cell ≡ true → ((original.cell cell).domain == d) ≡ false → AboveTri ((rise_of original y its).old cell) (after_pulse written (rise_of written x old) view cell)
 stays original written p d y x its old view has capture over cell is other =
-    let q : Pulse = pulse_of written x old in
+    let q : Pulse = rise_of written x old in
     let low : x.pulsed (written.cell cell).domain ≡ true → ⊥ = λ up. eqb-false (original.cell cell).domain d other (capture.alone (original.cell cell).domain (sym (ap x.pulsed (has.flops cell is).domain) ∙ up)) in
-    subst (λ t. AboveTri ((pulse_of original y its).old cell) t) (sym (pick_false (x.pulsed (written.cell cell).domain) (next_value written q view cell) (q.old cell) low)) (old_over original written p y x its old has over cell is)
+    subst (λ t. AboveTri ((rise_of original y its).old cell) t) (sym (pick_false (changes written q cell) (next_value written q view cell) (q.old cell) (λ ch. low (of_both (x.pulsed (written.cell cell).domain) (not (written.cell cell).falling) ch).0))) (old_over original written p y x its old has over cell is)
 
 pub capture_law : CaptureLaw
-capture_law original written rank p d y x its old h values ranked has capture over settled halves cell is = (
-  λ own. captured original written rank p d y x its old h.rise.poss h.rise.view values ranked has capture over settled halves.rise cell is own,
-  λ other. stays original written p d y x its old h.rise.view has capture over cell is other,
-)
+capture_law original written rank p d y x its old h values ranked has capture over settled halves cell is rises =
+    let low : (written.cell cell).falling ≡ false = (has.flops cell is).falling ∙ rises in
+    let after = sym (rising_after written x old h cell low) in (
+      λ own. subst (AboveTri (next_from original y values cell)) after (captured original written rank p d y x its old h.rise.poss h.rise.view values ranked has capture over settled halves.rise cell is rises own),
+      λ other. subst (AboveTri ((rise_of original y its).old cell)) after (stays original written p d y x its old h.rise.view has capture over cell is other),
+    )
 
 pub containing_covers : ContainingCovers
 containing_covers original written p has = record {
@@ -183,7 +188,7 @@ free_before moved Clock h = absurd cc
 free_before moved (Gate kind inputs) h = absurd cc
 free_before moved (Joined source) h = absurd cc
 free_before moved (Flop cell inverted) h = absurd cc
-free_before moved (Lockup cell domain source) h = absurd cc
+free_before moved (Lockup cell domain high source) h = absurd cc
 free_before moved Free h = refl
 
 pub widening_covers : WideningCovers

@@ -1,5 +1,5 @@
 -- The small design has the hardware.
-use Rattle.std.proofs.Common.{ℕ, zero, suc, ◌≡◌, ◌<◌, Some, [], ◌∷◌, refl, subst, arith, sym, ap, ◌∙◌}
+use Rattle.std.proofs.Common.{ℕ, zero, suc, ◌≡◌, ◌<◌, Some, [], ◌∷◌, refl, subst, arith, sym, ap, ◌∙◌, Bool, false}
 use Rattle.std.proofs.lemmas.Option.{none-some, same_Some}
 use Rattle.dft_netlist.specs.declared.ids.InstanceId.{InstanceId}
 use Rattle.std.specs.Prelude.{◌&&◌, not, IsTrue, List}
@@ -58,40 +58,40 @@ order (suc (suc (suc (suc (suc (suc (suc (suc (suc (suc (suc (suc (suc (suc (suc
 
 -- what a net that is a lock-up shows is the cell of its instance
 abbrev IsStored : Meaning → Type 0
-IsStored m = (c e : ℕ) (source : Source) → m ≡ Lockup c e source → small.cell c ≡ lockup_cell e source
+IsStored m = (c e : ℕ) (high : Bool) (source : Source) → m ≡ Lockup c e high source → small.cell c ≡ lockup_cell e high source
 
-locked_in : (i d : ℕ) (from : Source) → small.cell i ≡ lockup_cell d from → IsStored (Lockup i d from)
-locked_in i d from is c e source h =
-    (let p : i ≡ c = cc in let q : d ≡ e = cc in let r : from ≡ source = cc in sym (ap small.cell p) ∙ is ∙ (λ t. lockup_cell (q t) (r t)))
+locked_in : (i d : ℕ) (up : Bool) (from : Source) → small.cell i ≡ lockup_cell d up from → IsStored (Lockup i d up from)
+locked_in i d up from is c e high source h =
+    (let p : i ≡ c = cc in let q : d ≡ e = cc in let u : up ≡ high = cc in let r : from ≡ source = cc in sym (ap small.cell p) ∙ is ∙ (λ t. lockup_cell (q t) (u t) (r t)))
 
 stored_at : (net : ℕ) → IsStored (small.net net)
-stored_at zero c e source is = absurd cc
-stored_at (suc zero) c e source is = absurd cc
-stored_at (suc (suc zero)) c e source is = absurd cc
-stored_at (suc (suc (suc zero))) c e source is = absurd cc
-stored_at (suc (suc (suc (suc zero)))) c e source is = absurd cc
-stored_at (suc (suc (suc (suc (suc zero))))) c e source is = absurd cc
-stored_at (suc (suc (suc (suc (suc (suc zero)))))) c e source is = absurd cc
-stored_at (suc (suc (suc (suc (suc (suc (suc zero))))))) c e source is = absurd cc
-stored_at (suc (suc (suc (suc (suc (suc (suc (suc zero)))))))) c e source is = absurd cc
-stored_at (suc (suc (suc (suc (suc (suc (suc (suc (suc zero))))))))) c e source is = absurd cc
-stored_at (suc (suc (suc (suc (suc (suc (suc (suc (suc (suc zero)))))))))) c e source is = absurd cc
-stored_at (suc (suc (suc (suc (suc (suc (suc (suc (suc (suc (suc zero))))))))))) c e source is = absurd cc
-stored_at (suc (suc (suc (suc (suc (suc (suc (suc (suc (suc (suc (suc zero)))))))))))) c e source is = absurd cc
-stored_at (suc (suc (suc (suc (suc (suc (suc (suc (suc (suc (suc (suc (suc zero))))))))))))) c e source is = absurd cc
-stored_at (suc (suc (suc (suc (suc (suc (suc (suc (suc (suc (suc (suc (suc (suc zero)))))))))))))) c e source is = locked_in 2 3 (Net 13) refl c e source is
-stored_at (suc (suc (suc (suc (suc (suc (suc (suc (suc (suc (suc (suc (suc (suc (suc zero))))))))))))))) c e source is = absurd cc
-stored_at (suc (suc (suc (suc (suc (suc (suc (suc (suc (suc (suc (suc (suc (suc (suc (suc zero)))))))))))))))) c e source is = locked_in 4 4 (Net 15) refl c e source is
-stored_at (suc (suc (suc (suc (suc (suc (suc (suc (suc (suc (suc (suc (suc (suc (suc (suc (suc zero))))))))))))))))) c e source is = absurd cc
-stored_at (suc (suc (suc (suc (suc (suc (suc (suc (suc (suc (suc (suc (suc (suc (suc (suc (suc (suc zero)))))))))))))))))) c e source is = absurd cc
-stored_at (suc (suc (suc (suc (suc (suc (suc (suc (suc (suc (suc (suc (suc (suc (suc (suc (suc (suc (suc zero))))))))))))))))))) c e source is = absurd cc
-stored_at (suc (suc (suc (suc (suc (suc (suc (suc (suc (suc (suc (suc (suc (suc (suc (suc (suc (suc (suc (suc zero)))))))))))))))))))) c e source is = absurd cc
-stored_at (suc (suc (suc (suc (suc (suc (suc (suc (suc (suc (suc (suc (suc (suc (suc (suc (suc (suc (suc (suc (suc zero))))))))))))))))))))) c e source is = absurd cc
-stored_at (suc (suc (suc (suc (suc (suc (suc (suc (suc (suc (suc (suc (suc (suc (suc (suc (suc (suc (suc (suc (suc (suc zero)))))))))))))))))))))) c e source is = absurd cc
-stored_at (suc (suc (suc (suc (suc (suc (suc (suc (suc (suc (suc (suc (suc (suc (suc (suc (suc (suc (suc (suc (suc (suc (suc zero))))))))))))))))))))))) c e source is = absurd cc
-stored_at (suc (suc (suc (suc (suc (suc (suc (suc (suc (suc (suc (suc (suc (suc (suc (suc (suc (suc (suc (suc (suc (suc (suc (suc zero)))))))))))))))))))))))) c e source is = absurd cc
-stored_at (suc (suc (suc (suc (suc (suc (suc (suc (suc (suc (suc (suc (suc (suc (suc (suc (suc (suc (suc (suc (suc (suc (suc (suc (suc zero))))))))))))))))))))))))) c e source is = absurd cc
-stored_at (suc (suc (suc (suc (suc (suc (suc (suc (suc (suc (suc (suc (suc (suc (suc (suc (suc (suc (suc (suc (suc (suc (suc (suc (suc (suc k)))))))))))))))))))))))))) c e source is = absurd cc
+stored_at zero c e high source is = absurd cc
+stored_at (suc zero) c e high source is = absurd cc
+stored_at (suc (suc zero)) c e high source is = absurd cc
+stored_at (suc (suc (suc zero))) c e high source is = absurd cc
+stored_at (suc (suc (suc (suc zero)))) c e high source is = absurd cc
+stored_at (suc (suc (suc (suc (suc zero))))) c e high source is = absurd cc
+stored_at (suc (suc (suc (suc (suc (suc zero)))))) c e high source is = absurd cc
+stored_at (suc (suc (suc (suc (suc (suc (suc zero))))))) c e high source is = absurd cc
+stored_at (suc (suc (suc (suc (suc (suc (suc (suc zero)))))))) c e high source is = absurd cc
+stored_at (suc (suc (suc (suc (suc (suc (suc (suc (suc zero))))))))) c e high source is = absurd cc
+stored_at (suc (suc (suc (suc (suc (suc (suc (suc (suc (suc zero)))))))))) c e high source is = absurd cc
+stored_at (suc (suc (suc (suc (suc (suc (suc (suc (suc (suc (suc zero))))))))))) c e high source is = absurd cc
+stored_at (suc (suc (suc (suc (suc (suc (suc (suc (suc (suc (suc (suc zero)))))))))))) c e high source is = absurd cc
+stored_at (suc (suc (suc (suc (suc (suc (suc (suc (suc (suc (suc (suc (suc zero))))))))))))) c e high source is = absurd cc
+stored_at (suc (suc (suc (suc (suc (suc (suc (suc (suc (suc (suc (suc (suc (suc zero)))))))))))))) c e high source is = locked_in 2 3 false (Net 13) refl c e high source is
+stored_at (suc (suc (suc (suc (suc (suc (suc (suc (suc (suc (suc (suc (suc (suc (suc zero))))))))))))))) c e high source is = absurd cc
+stored_at (suc (suc (suc (suc (suc (suc (suc (suc (suc (suc (suc (suc (suc (suc (suc (suc zero)))))))))))))))) c e high source is = locked_in 4 4 false (Net 15) refl c e high source is
+stored_at (suc (suc (suc (suc (suc (suc (suc (suc (suc (suc (suc (suc (suc (suc (suc (suc (suc zero))))))))))))))))) c e high source is = absurd cc
+stored_at (suc (suc (suc (suc (suc (suc (suc (suc (suc (suc (suc (suc (suc (suc (suc (suc (suc (suc zero)))))))))))))))))) c e high source is = absurd cc
+stored_at (suc (suc (suc (suc (suc (suc (suc (suc (suc (suc (suc (suc (suc (suc (suc (suc (suc (suc (suc zero))))))))))))))))))) c e high source is = absurd cc
+stored_at (suc (suc (suc (suc (suc (suc (suc (suc (suc (suc (suc (suc (suc (suc (suc (suc (suc (suc (suc (suc zero)))))))))))))))))))) c e high source is = absurd cc
+stored_at (suc (suc (suc (suc (suc (suc (suc (suc (suc (suc (suc (suc (suc (suc (suc (suc (suc (suc (suc (suc (suc zero))))))))))))))))))))) c e high source is = absurd cc
+stored_at (suc (suc (suc (suc (suc (suc (suc (suc (suc (suc (suc (suc (suc (suc (suc (suc (suc (suc (suc (suc (suc (suc zero)))))))))))))))))))))) c e high source is = absurd cc
+stored_at (suc (suc (suc (suc (suc (suc (suc (suc (suc (suc (suc (suc (suc (suc (suc (suc (suc (suc (suc (suc (suc (suc (suc zero))))))))))))))))))))))) c e high source is = absurd cc
+stored_at (suc (suc (suc (suc (suc (suc (suc (suc (suc (suc (suc (suc (suc (suc (suc (suc (suc (suc (suc (suc (suc (suc (suc (suc zero)))))))))))))))))))))))) c e high source is = absurd cc
+stored_at (suc (suc (suc (suc (suc (suc (suc (suc (suc (suc (suc (suc (suc (suc (suc (suc (suc (suc (suc (suc (suc (suc (suc (suc (suc zero))))))))))))))))))))))))) c e high source is = absurd cc
+stored_at (suc (suc (suc (suc (suc (suc (suc (suc (suc (suc (suc (suc (suc (suc (suc (suc (suc (suc (suc (suc (suc (suc (suc (suc (suc (suc k)))))))))))))))))))))))))) c e high source is = absurd cc
 
 ranked : IsRanked small (λ net. net)
 ranked = record { order = order; lockups = stored_at }
@@ -105,9 +105,13 @@ scan_cell (suc chain) place cell is = absurd (none-some cell is)
 link : (chain place : ℕ) (cell next : InstanceId) → cell_at small_chains chain place ≡ Some cell → cell_at small_chains chain (suc place) ≡ Some next → Leads small cell.0 next.0 (small_scan.into chain (suc place))
 link zero zero cell next is follows =
     subst (λ (c : InstanceId). Leads small c.0 next.0 (small_scan.into 0 1)) (same_Some (record { 0 = 3 }) cell is)
-    (subst (λ (c : InstanceId). Leads small 3 c.0 (small_scan.into 0 1)) (same_Some (record { 0 = 5 }) next follows) (ByLockup {net = 16} {lockup = 4} {output = 15} refl refl))
+    (subst (λ (c : InstanceId). Leads small 3 c.0 (small_scan.into 0 1)) (same_Some (record { 0 = 5 }) next follows) (ByLockup {net = 16} {lockup = 4} {output = 15} {high = false} refl refl refl refl))
 link zero (suc place) cell next is follows = absurd (none-some next follows)
 link (suc chain) place cell next is follows = absurd (none-some next follows)
+
+head : (chain : ℕ) (cell : InstanceId) → cell_at small_chains chain zero ≡ Some cell → (small.cell cell.0).falling ≡ false
+head zero cell is = sym (ap (λ (c : InstanceId). (small.cell c.0).falling) (same_Some (record { 0 = 3 }) cell is))
+head (suc chain) cell is = absurd (none-some cell is)
 
 phase : (chain : ℕ) (cell : InstanceId) → cell_at small_chains chain zero ≡ Some cell → HasPhase small small_config.ring small_edt (small_scan.into chain zero) chain
 phase zero cell is = record { sum = 13; lockup = 2; entry = 14; sums = Joined {left = 8 ∷ []} refl Term Term; latch = refl; leads = refl }
@@ -123,6 +127,7 @@ ring = record {
   stages = two (HasStage small small_config.ring small_edt)
       (record { sum = 9; kept = 10; sums = Term; gate = refl; flop = record { cell = refl; net = refl } })
       (record { sum = 11; kept = 12; sums = Joined {left = 8 ∷ []} refl Term Term; gate = refl; flop = record { cell = refl; net = refl } });
+  heads = head;
   phases = phase;
 }
 

@@ -8,7 +8,7 @@ use Rattle.dft_config.specs.declared.config.RingConfig.{RingConfig}
 use Rattle.dft_config.specs.Config.{Config}
 use Rattle.dft_runs.specs.WiderPorts.{MeansMore}
 use Rattle.dft_chains.specs.Hardware.{ChainNets}
-use Rattle.dft_chains.proofs.Staying.{net_stays, chains_stay}
+use Rattle.dft_chains.proofs.Staying.{net_stays, chains_stay, cell_stays}
 use Rattle.dft_edt.specs.Hardware.{EdtNets, HasStage, HasPhase, HasRing, HasHold, HasEnd, HasOutput, HasCompactor, before_in, HardwareStays}
 use Rattle.dft_config.specs.Segments.{chain_in}
 use Rattle.dft_parts.specs.SumTrees.{IsSum, Term, Joined}
@@ -47,7 +47,7 @@ phase_stays l m ring hw into chain more h = record {
   lockup = h.lockup;
   entry = h.entry;
   sums = sum_stays l m h.sum _ more h.sums;
-  latch = net_stays l m h.entry (Lockup h.lockup hw.clock (Net h.sum)) more h.latch (λ free. free);
+  latch = net_stays l m h.entry (Lockup h.lockup hw.clock false (Net h.sum)) more h.latch (λ free. free);
   leads = h.leads;
 }
 
@@ -59,6 +59,8 @@ ring_stays l m ports config chains w hw more h = record {
   channels = λ j less. net_stays l m (hw.channel j) Input more (h.channels j less) (λ free. free);
   run = net_stays l m hw.run (Gate Inv (Net hw.update ∷ [])) more h.run (λ free. free);
   stages = λ i less. stage_stays l m config.ring hw i more (h.stages i less);
+  heads = λ chain cell stands.
+      ap (λ (c : Cell). c.falling) (cell_stays l m cell.0 (record { enable = Net w.enable; input = w.into chain zero }) more (h.chained.cells chain zero cell stands).scan) ∙ h.heads chain cell stands;
   phases = λ chain cell stands. phase_stays l m config.ring hw (w.into chain zero) chain more (h.phases chain cell stands);
 }
 

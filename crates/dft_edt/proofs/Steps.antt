@@ -2,7 +2,7 @@
 use Rattle.std.proofs.Common.{ℕ, zero, suc, ◌+◌, ◌-◌, ◌*◌, ◌/◌, ◌%◌, min, Bool, true, false, List, [], ◌∷◌, ◌++◌, ◌≡◌, ◌==◌, ◌<◌, ◌≤◌, refl, sym, subst, ap, arith, map, length, ◌∙◌, Some, get_or, inl, inr}
 use Rattle.std.specs.Prelude.{if◌then◌else◌, nat_lt, not, ◌&&◌}
 use Rattle.std.specs.List.{All}
-use Rattle.std.proofs.lemmas.Bool.{eq-eqb, cases_lt}
+use Rattle.std.proofs.lemmas.Bool.{cases_lt}
 use Rattle.std.proofs.lemmas.Bool.Decides.{nat_tests}
 use Rattle.dft_base.specs.declared.tri.Tri.{Tri}
 use Rattle.dft_base.specs.Tri.{known}
@@ -10,9 +10,10 @@ use Rattle.dft_netlist.specs.declared.ids.InstanceId.{InstanceId}
 use Rattle.dft_netlist.specs.Drivers.{Net}
 use Rattle.dft_netlist.specs.Logic.{Logic, Ports, Cell, Flop, Lockup}
 use Rattle.dft_netlist.specs.Settled.{Sources, TriSources, value_from, IsTriSettled}
-use Rattle.dft_netlist.specs.Runs.{Now, Vector, next_now, set_step, set_ports, sources_of, port_bits, forced_by}
+use Rattle.dft_netlist.specs.Runs.{Now, Vector, next_now, set_step, set_ports, sources_of, port_bits, forced_by, takes}
 use Rattle.dft_netlist.proofs.SettledLemmas.{value_at}
-use Rattle.dft_abstract.specs.Cycle.{Pulse, tri_forced_by, tri_taken_by, view_sources, AreViews, after_pulse, pulse_of, strobe_sources, after_halves}
+use Rattle.dft_abstract.specs.Cycle.{Pulse, tri_forced_by, tri_taken_by, view_sources, AreViews, after_pulse, rise_of, strobe_sources, Halves, AreHalves, after_halves}
+use Rattle.dft_abstract.proofs.Halves.{rising_after}
 use Rattle.dft_config.specs.declared.config.Tap.{Tap}
 use Rattle.dft_config.specs.declared.config.Injector.{Injector}
 use Rattle.dft_config.specs.declared.config.RingConfig.{RingConfig}
@@ -21,7 +22,7 @@ use Rattle.dft_config.specs.Range.{IsInRange}
 use Rattle.dft_config.specs.Ring.{sum_of, phase_of}
 use Rattle.dft_stitch.specs.Plans.{cell_at}
 use Rattle.dft_chains.specs.Hardware.{ChainNets}
-use Rattle.dft_chains.proofs.Shiftings.{own_choice, port_value, not_forced, takes_source, link_law}
+use Rattle.dft_chains.proofs.Shiftings.{own_net, port_value, not_forced, rise_takes, link_law}
 use Rattle.dft_edt.specs.Feeds.{Feed, Stage, Channel, at_feed, tap_feeds, injector_feeds, feeds}
 use Rattle.dft_parts.specs.SumTrees.{tri_sum}
 use Rattle.dft_edt.specs.Hardware.{EdtNets, HasStage, HasRing, HasHold, HasEnd, HasCompactor, before_in, group_of}
@@ -75,25 +76,29 @@ phase_below config chain range = elim (cases_lt chain (length config.ring.phase)
 -- ---- flip-flops of edt_clock
 
 -- what a net of such a flip-flop has in the view of edt_clock, and what the flip-flop has after the vector
-pub flop_net : (l : Logic) (x : Vector) (old poss : ℕ → Tri) (view : ℕ → ℕ → Tri) (clock flop output input : ℕ) → AreViews l (pulse_of l x old) poss view → IsFlop l clock flop output input → view clock output ≡ old flop
+pub flop_net : (l : Logic) (x : Vector) (old poss : ℕ → Tri) (view : ℕ → ℕ → Tri) (clock flop output input : ℕ) → AreViews l (rise_of l x old) poss view → IsFlop l clock flop output input → view clock output ≡ old flop
 flop_net l x old poss view clock flop output input views is =
-    let p : Pulse = pulse_of l x old in
-    value_at l (view_sources l p poss view clock) (view clock) output (Flop flop false) (views clock) is.net
-    ∙ own_choice (p.pulsed (l.cell flop).domain) ((l.cell flop).domain == clock) (p.old flop) (poss flop) (eq-eqb (l.cell flop).domain clock (ap (λ (c : Cell). c.domain) is.cell))
+    own_net l (rise_of l x old) poss view clock flop output views is.net (ap (λ (c : Cell). c.domain) is.cell)
     ∙ ap (λ (c : Cell). tri_forced_by c.force x.ports (old flop)) is.cell
 
-pub flop_after : (l : Logic) (x : Vector) (old : ℕ → Tri) (view : ℕ → ℕ → Tri) (clock flop output input : ℕ) → x.pulsed clock ≡ true → IsFlop l clock flop output input →
-    after_pulse l (pulse_of l x old) view flop ≡ value_from (view clock) (l.cell flop).input
-flop_after l x old view clock flop output input pulsed is =
-    let p : Pulse = pulse_of l x old in
-    ap (λ (c : Cell). if p.pulsed c.domain then tri_forced_by c.force p.ports (tri_taken_by c.scan (value_from (view c.domain)) (value_from (view c.domain) c.input)) else p.old flop) is.cell
-    ∙ ap (λ (b : Bool). if b then view clock input else p.old flop) pulsed
+-- they are rising cells
+flop_halves : (l : Logic) (x : Vector) (old : ℕ → Tri) (h : Halves) (clock flop output input : ℕ) → IsFlop l clock flop output input → after_halves l x old h flop ≡ after_pulse l (rise_of l x old) h.rise.view flop
+flop_halves l x old h clock flop output input is = rising_after l x old h flop (ap (λ (c : Cell). c.falling) is.cell)
+
+pub flop_after : (l : Logic) (x : Vector) (old : ℕ → Tri) (h : Halves) (clock flop output input : ℕ) → x.pulsed clock ≡ true → IsFlop l clock flop output input →
+    after_halves l x old h flop ≡ value_from (h.rise.view clock) (l.cell flop).input
+flop_after l x old h clock flop output input pulsed is =
+    let p : Pulse = rise_of l x old in
+    let view : ℕ → ℕ → Tri = h.rise.view in
+    flop_halves l x old h clock flop output input is
+    ∙ ap (λ (c : Cell). if p.pulsed c.domain && takes p.rising c.falling then tri_forced_by c.force p.ports (tri_taken_by c.scan (value_from (view c.domain)) (value_from (view c.domain) c.input)) else p.old flop) is.cell
+    ∙ ap (λ (b : Bool). if b && true then view clock input else p.old flop) pulsed
     ∙ sym (ap (λ (c : Cell). value_from (view clock) c.input) is.cell)
 
 -- ---- the ring
 
 stage_net_value : (l : Logic) (ports : Ports) (config : Config) (chains : List (List InstanceId)) (w : ChainNets) (hw : EdtNets) (x : Vector) (old poss : ℕ → Tri) (view : ℕ → ℕ → Tri) →
-    HasRing l ports config chains w hw → AreViews l (pulse_of l x old) poss view → (i : ℕ) → i < config.ring.stages → view hw.clock (hw.stage_net i) ≡ old (hw.stage i)
+    HasRing l ports config chains w hw → AreViews l (rise_of l x old) poss view → (i : ℕ) → i < config.ring.stages → view hw.clock (hw.stage_net i) ≡ old (hw.stage i)
 stage_net_value l ports config chains w hw x old poss view has views i less =
     let h : HasStage l config.ring hw i = has.stages i less in
     flop_net l x old poss view hw.clock (hw.stage i) (hw.stage_net i) h.kept views h.flop
@@ -102,20 +107,23 @@ pub clear_law : ClearLaw
 clear_law l ports config chains w hw x old halves has clearing are i less =
     let poss : ℕ → Tri = halves.rise.poss in
     let view : ℕ → ℕ → Tri = halves.rise.view in
-    let views : AreViews l (pulse_of l x old) poss view = are.rise in
+    let views : AreViews l (rise_of l x old) poss view = are.rise in
     let h : HasStage l config.ring hw i = has.stages i less in
-    let p : Pulse = pulse_of l x old in
-    flop_after l x old view hw.clock (hw.stage i) (hw.stage_net i) h.kept clearing.clock h.flop
+    let p : Pulse = rise_of l x old in
+    flop_after l x old halves hw.clock (hw.stage i) (hw.stage_net i) h.kept clearing.clock h.flop
     ∙ (stage_values l ports config chains w hw (view_sources l p poss view hw.clock) (view hw.clock) has (views hw.clock) i less).1
     (port_value l p poss view hw.clock hw.update views has.update ∙ clearing.update)
 
-stage_after : (l : Logic) (ports : Ports) (config : Config) (chains : List (List InstanceId)) (w : ChainNets) (hw : EdtNets) (x : Vector) (old poss : ℕ → Tri) (view : ℕ → ℕ → Tri) →
-    (has : HasRing l ports config chains w hw) → (range : IsInRange config) → (shift : IsEdtShift ports w hw x) → (views : AreViews l (pulse_of l x old) poss view) → (i : ℕ) → (less : i < config.ring.stages) →
-    after_pulse l (pulse_of l x old) view (hw.stage i) ≡ tri_sum (map (at_feed (λ k. old (hw.stage k)) (λ j. x.ports (hw.channel j))) (feeds config.ring i))
-stage_after l ports config chains w hw x old poss view has range shift views i less =
+stage_after : (l : Logic) (ports : Ports) (config : Config) (chains : List (List InstanceId)) (w : ChainNets) (hw : EdtNets) (x : Vector) (old : ℕ → Tri) (halves : Halves) →
+    (has : HasRing l ports config chains w hw) → (range : IsInRange config) → (shift : IsEdtShift ports w hw x) → (are : AreHalves l x old halves) → (i : ℕ) → (less : i < config.ring.stages) →
+    after_halves l x old halves (hw.stage i) ≡ tri_sum (map (at_feed (λ k. old (hw.stage k)) (λ j. x.ports (hw.channel j))) (feeds config.ring i))
+stage_after l ports config chains w hw x old halves has range shift are i less =
+    let poss : ℕ → Tri = halves.rise.poss in
+    let view : ℕ → ℕ → Tri = halves.rise.view in
+    let views : AreViews l (rise_of l x old) poss view = are.rise in
     let h : HasStage l config.ring hw i = has.stages i less in
-    let p : Pulse = pulse_of l x old in
-    flop_after l x old view hw.clock (hw.stage i) (hw.stage_net i) h.kept shift.clock h.flop
+    let p : Pulse = rise_of l x old in
+    flop_after l x old halves hw.clock (hw.stage i) (hw.stage_net i) h.kept shift.clock h.flop
     ∙ (stage_values l ports config chains w hw (view_sources l p poss view hw.clock) (view hw.clock) has (views hw.clock) i less).0
     (port_value l p poss view hw.clock hw.update views has.update ∙ shift.update)
     ∙ ap tri_sum (same_feeds config.ring (λ k. view hw.clock (hw.stage_net k)) (λ j. view hw.clock (hw.channel j)) (λ k. old (hw.stage k)) (λ j. x.ports (hw.channel j)) (feeds config.ring i) (feeds_there config i range)
@@ -124,47 +132,50 @@ stage_after l ports config chains w hw x old poss view has range shift views i l
 
 -- ---- the first cells of chains
 
-first_after : (l : Logic) (ports : Ports) (config : Config) (chains : List (List InstanceId)) (w : ChainNets) (hw : EdtNets) (x : Vector) (old poss : ℕ → Tri) (view : ℕ → ℕ → Tri) →
-    (has : HasRing l ports config chains w hw) → (range : IsInRange config) → (shift : IsEdtShift ports w hw x) → (views : AreViews l (pulse_of l x old) poss view) → (chain : ℕ) (cell : InstanceId) → (stands : cell_at chains chain zero ≡ Some cell) →
-    after_pulse l (pulse_of l x old) view cell.0 ≡ tri_sum (map (λ k. old (hw.stage k)) (phase_of config.ring chain))
-first_after l ports config chains w hw x old poss view has range shift views chain cell stands =
-    let p : Pulse = pulse_of l x old in
+first_after : (l : Logic) (ports : Ports) (config : Config) (chains : List (List InstanceId)) (w : ChainNets) (hw : EdtNets) (x : Vector) (old : ℕ → Tri) (halves : Halves) →
+    (has : HasRing l ports config chains w hw) → (range : IsInRange config) → (shift : IsEdtShift ports w hw x) → (are : AreHalves l x old halves) → (chain : ℕ) (cell : InstanceId) → (stands : cell_at chains chain zero ≡ Some cell) →
+    after_halves l x old halves cell.0 ≡ tri_sum (map (λ k. old (hw.stage k)) (phase_of config.ring chain))
+first_after l ports config chains w hw x old halves has range shift are chain cell stands =
+    let poss : ℕ → Tri = halves.rise.poss in
+    let view : ℕ → ℕ → Tri = halves.rise.view in
+    let views : AreViews l (rise_of l x old) poss view = are.rise in
+    let p : Pulse = rise_of l x old in
     let d : ℕ = (l.cell cell.0).domain in
     let h = has.phases chain cell stands in
-    takes_source l ports chains w x old poss view (w.into chain zero) cell.0 has.chained shift.shift views (has.chained.cells chain zero cell stands)
+    rise_takes l ports chains w x old halves (w.into chain zero) cell.0 has.chained shift.shift are (has.heads chain cell stands) (has.chained.cells chain zero cell stands)
     ∙ ap (value_from (view d)) h.leads
-    ∙ value_at l (view_sources l p poss view d) (view d) h.entry (Lockup h.lockup hw.clock (Net h.sum)) (views d) h.latch
+    ∙ value_at l (view_sources l p poss view d) (view d) h.entry (Lockup h.lockup hw.clock false (Net h.sum)) (views d) h.latch
     ∙ phase_values l ports config chains w hw (view_sources l p poss view hw.clock) (view hw.clock) has (views hw.clock) chain cell stands
     ∙ ap tri_sum (same_sum config.ring.stages (λ k. view hw.clock (hw.stage_net k)) (λ k. old (hw.stage k)) (phase_of config.ring chain) (phase_below config chain range)
     (stage_net_value l ports config chains w hw x old poss view has views))
 
 pub shift_law : ShiftLaw
 shift_law l ports config chains w hw x old halves has range shift are = record {
-  stages = stage_after l ports config chains w hw x old halves.rise.poss halves.rise.view has range shift are.rise;
-  firsts = first_after l ports config chains w hw x old halves.rise.poss halves.rise.view has range shift are.rise;
+  stages = stage_after l ports config chains w hw x old halves has range shift are;
+  firsts = first_after l ports config chains w hw x old halves has range shift are;
   others = link_law l ports chains w x old halves has.chained shift.shift are;
 }
 
 -- ---- masks and hold bits
 
-mask_net_value : (l : Logic) (config : Config) (chains : List (List InstanceId)) (hw : EdtNets) (x : Vector) (old poss : ℕ → Tri) (view : ℕ → ℕ → Tri) → HasCompactor l config chains hw → AreViews l (pulse_of l x old) poss view →
+mask_net_value : (l : Logic) (config : Config) (chains : List (List InstanceId)) (hw : EdtNets) (x : Vector) (old poss : ℕ → Tri) (view : ℕ → ℕ → Tri) → HasCompactor l config chains hw → AreViews l (rise_of l x old) poss view →
     (m k : ℕ) → m < config.compactor.mask_inputs → k < segment_length config m → view hw.clock (hw.mask_net (chain_in config m k)) ≡ old (hw.mask (chain_in config m k))
 mask_net_value l config chains hw x old poss view has views m k m_less k_less =
     flop_net l x old poss view hw.clock (hw.mask (chain_in config m k)) (hw.mask_net (chain_in config m k)) (before_in config hw.mask_port hw.mask_net m k) views (has.masks m k m_less k_less)
 
-before_value : (l : Logic) (config : Config) (chains : List (List InstanceId)) (hw : EdtNets) (x : Vector) (old poss : ℕ → Tri) (view : ℕ → ℕ → Tri) → HasCompactor l config chains hw → AreViews l (pulse_of l x old) poss view →
+before_value : (l : Logic) (config : Config) (chains : List (List InstanceId)) (hw : EdtNets) (x : Vector) (old poss : ℕ → Tri) (view : ℕ → ℕ → Tri) → HasCompactor l config chains hw → AreViews l (rise_of l x old) poss view →
     (m k : ℕ) → m < config.compactor.mask_inputs → k < segment_length config m →
     view hw.clock (before_in config hw.mask_port hw.mask_net m k) ≡ before_in config (λ i. x.ports (hw.mask_port i)) (λ chain. old (hw.mask chain)) m k
-before_value l config chains hw x old poss view has views m zero m_less k_less = port_value l (pulse_of l x old) poss view hw.clock (hw.mask_port m) views (has.ports m m_less)
+before_value l config chains hw x old poss view has views m zero m_less k_less = port_value l (rise_of l x old) poss view hw.clock (hw.mask_port m) views (has.ports m m_less)
 before_value l config chains hw x old poss view has views m (suc k) m_less k_less = mask_net_value l config chains hw x old poss view has views m k m_less (omega arith)
 
 pub mask_law : MaskLaw
 mask_law l config chains hw x old halves has pulsed are m k m_less k_less =
     let poss : ℕ → Tri = halves.rise.poss in
     let view : ℕ → ℕ → Tri = halves.rise.view in
-    let views : AreViews l (pulse_of l x old) poss view = are.rise in
+    let views : AreViews l (rise_of l x old) poss view = are.rise in
     let is = has.masks m k m_less k_less in
-    flop_after l x old view hw.clock (hw.mask (chain_in config m k)) (hw.mask_net (chain_in config m k)) (before_in config hw.mask_port hw.mask_net m k) pulsed is
+    flop_after l x old halves hw.clock (hw.mask (chain_in config m k)) (hw.mask_net (chain_in config m k)) (before_in config hw.mask_port hw.mask_net m k) pulsed is
     ∙ ap (λ (c : Cell). value_from (view hw.clock) c.input) is.cell
     ∙ before_value l config chains hw x old poss view has views m k m_less k_less
 
@@ -212,7 +223,7 @@ pub standing : (config : Config) (chain : ℕ) → IsInRange config → chain < 
 standing config chain range less =
     standing_before config config.compactor.mask_inputs chain (omega arith) (let all = all_segments config range.compactor.mask_inputs.0 in omega arith)
 
-chain_mask : (l : Logic) (config : Config) (chains : List (List InstanceId)) (hw : EdtNets) (x : Vector) (old poss : ℕ → Tri) (view : ℕ → ℕ → Tri) → HasCompactor l config chains hw → IsInRange config → AreViews l (pulse_of l x old) poss view →
+chain_mask : (l : Logic) (config : Config) (chains : List (List InstanceId)) (hw : EdtNets) (x : Vector) (old poss : ℕ → Tri) (view : ℕ → ℕ → Tri) → HasCompactor l config chains hw → IsInRange config → AreViews l (rise_of l x old) poss view →
     (chain : ℕ) → chain < config.chains → view hw.clock (hw.mask_net chain) ≡ old (hw.mask chain)
 chain_mask l config chains hw x old poss view has range views chain less =
     let at : Standing config chain = standing config chain range less in
@@ -222,10 +233,10 @@ pub hold_law : HoldLaw
 hold_law l ports config chains w hw x old halves ring has range pulsed are =
     let poss : ℕ → Tri = halves.rise.poss in
     let view : ℕ → ℕ → Tri = halves.rise.view in
-    let views : AreViews l (pulse_of l x old) poss view = are.rise in
-    let p : Pulse = pulse_of l x old in
+    let views : AreViews l (rise_of l x old) poss view = are.rise in
+    let p : Pulse = rise_of l x old in
     let values = λ (chain : ℕ) (less : chain < config.chains). hold_values l ports config chains w hw (view_sources l p poss view hw.clock) (view hw.clock) ring has (views hw.clock) chain less in
-    let after = λ (chain : ℕ) (less : chain < config.chains). (let h : HasHold l hw chain = has.holds chain less in flop_after l x old view hw.clock (hw.hold chain) (hw.hold_net chain) h.next pulsed h.flop) in (
+    let after = λ (chain : ℕ) (less : chain < config.chains). (let h : HasHold l hw chain = has.holds chain less in flop_after l x old halves hw.clock (hw.hold chain) (hw.hold_net chain) h.next pulsed h.flop) in (
       λ off chain less. (let h : HasHold l hw chain = has.holds chain less in
           after chain less ∙ (values chain less).0 (port_value l p poss view hw.clock hw.update views ring.update ∙ off) ∙ flop_net l x old poss view hw.clock (hw.hold chain) (hw.hold_net chain) h.next views h.flop),
       λ on chain less. after chain less ∙ (values chain less).1 (port_value l p poss view hw.clock hw.update views ring.update ∙ on) ∙ chain_mask l config chains hw x old poss view has range views chain less,
@@ -233,22 +244,24 @@ hold_law l ports config chains w hw x old halves ring has range pulsed are =
 
 -- ---- a vector in which edt_clock rests
 
-flop_rests : (l : Logic) (x : Vector) (old : ℕ → Tri) (view : ℕ → ℕ → Tri) (clock flop output input : ℕ) → x.pulsed clock ≡ false → IsFlop l clock flop output input → after_pulse l (pulse_of l x old) view flop ≡ old flop
-flop_rests l x old view clock flop output input rests is =
-    let p : Pulse = pulse_of l x old in
-    ap (λ (c : Cell). if p.pulsed c.domain then tri_forced_by c.force p.ports (tri_taken_by c.scan (value_from (view c.domain)) (value_from (view c.domain) c.input)) else tri_forced_by c.force x.ports (old flop)) is.cell
-    ∙ ap (λ (b : Bool). if b then view clock input else old flop) rests
+flop_rests : (l : Logic) (x : Vector) (old : ℕ → Tri) (h : Halves) (clock flop output input : ℕ) → x.pulsed clock ≡ false → IsFlop l clock flop output input → after_halves l x old h flop ≡ old flop
+flop_rests l x old h clock flop output input rests is =
+    let p : Pulse = rise_of l x old in
+    let view : ℕ → ℕ → Tri = h.rise.view in
+    flop_halves l x old h clock flop output input is
+    ∙ ap (λ (c : Cell). if p.pulsed c.domain && takes p.rising c.falling then tri_forced_by c.force p.ports (tri_taken_by c.scan (value_from (view c.domain)) (value_from (view c.domain) c.input)) else tri_forced_by c.force x.ports (old flop)) is.cell
+    ∙ ap (λ (b : Bool). if b && true then view clock input else old flop) rests
 
 pub rest_law : RestLaw
 rest_law l ports config chains w hw x old halves ring has range rests = (
-  λ i less. (let h : HasStage l config.ring hw i = ring.stages i less in flop_rests l x old halves.rise.view hw.clock (hw.stage i) (hw.stage_net i) h.kept rests h.flop),
+  λ i less. (let h : HasStage l config.ring hw i = ring.stages i less in flop_rests l x old halves hw.clock (hw.stage i) (hw.stage_net i) h.kept rests h.flop),
   λ chain less. (
       let at : Standing config chain = standing config chain range less in
       subst (λ (c : ℕ). after_halves l x old halves (hw.mask c) ≡ old (hw.mask c)) at.there
-      (flop_rests l x old halves.rise.view hw.clock (hw.mask (chain_in config at.segment at.place)) (hw.mask_net (chain_in config at.segment at.place)) (before_in config hw.mask_port hw.mask_net at.segment at.place) rests
+      (flop_rests l x old halves hw.clock (hw.mask (chain_in config at.segment at.place)) (hw.mask_net (chain_in config at.segment at.place)) (before_in config hw.mask_port hw.mask_net at.segment at.place) rests
       (has.masks at.segment at.place at.in_segments at.in_segment))
       ),
-  λ chain less. (let h : HasHold l hw chain = has.holds chain less in flop_rests l x old halves.rise.view hw.clock (hw.hold chain) (hw.hold_net chain) h.next rests h.flop),
+  λ chain less. (let h : HasHold l hw chain = has.holds chain less in flop_rests l x old halves hw.clock (hw.hold chain) (hw.hold_net chain) h.next rests h.flop),
 )
 
 -- ---- the outputs at a strobe

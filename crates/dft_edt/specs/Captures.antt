@@ -7,7 +7,7 @@ use Rattle.dft_netlist.specs.Drivers.{Source, AreBelow}
 use Rattle.dft_netlist.specs.Logic.{Logic, Input, Flop, Lockup, Free, reads, IsRanked}
 use Rattle.dft_netlist.specs.Settled.{IsTriSettled}
 use Rattle.dft_netlist.specs.Runs.{Vector}
-use Rattle.dft_abstract.specs.Cycle.{pulse_of, strobe_sources, Halves, AreHalves, after_halves}
+use Rattle.dft_abstract.specs.Cycle.{rise_of, strobe_sources, Halves, AreHalves, after_halves}
 use Rattle.dft_abstract.specs.Laws.{next_from}
 use Rattle.dft_runs.specs.WiderPorts.{MeansMore}
 use Rattle.dft_chains.specs.ScanOff.{moved_meaning, Places, KeepsFlop, Contains}
@@ -20,7 +20,7 @@ pub record Covers (original written : Logic) (p : Places) : Type 0 where
   pub closed : (net : ℕ) → net < p.size → AreBelow (λ k. k) p.size (reads (original.net net))
   pub shown : (net cell : ℕ) (inverted : Bool) → net < p.size → original.net net ≡ Flop cell inverted → p.is_flop cell ≡ true
   pub flops : (cell : ℕ) → p.is_flop cell ≡ true → KeepsFlop p (original.cell cell) (written.cell cell)
-  pub no_lockup : (net cell domain : ℕ) (source : Source) → net < p.size → original.net net ≡ Lockup cell domain source → ⊥
+  pub no_lockup : (net cell domain : ℕ) (high : Bool) (source : Source) → net < p.size → original.net net ≡ Lockup cell domain high source → ⊥
 
 -- a design that contains another covers it
 abbrev pub ContainingCovers : Type 0
@@ -50,12 +50,11 @@ pub record IsCapture (p : Places) (d : ℕ) (x : Vector) : Type 0 where
   pub alone : (e : ℕ) → x.pulsed (p.moved e) ≡ true → e ≡ d
   pub off : x.ports p.enable ≡ Zero
 
--- A flip-flop of the capture domain takes no more than the original's next value from the values of its strobe; another one keeps
--- what it had.
+-- A flip-flop of the capture domain that takes its bit at a rise takes no more than the original's next value from the values of its strobe; one of another domain keeps what it had.
 abbrev pub CaptureLaw : Type 0
 CaptureLaw =
     (original written : Logic) (rank : ℕ → ℕ) (p : Places) (d : ℕ) (y x : Vector) (its old : ℕ → Tri) (h : Halves) (values : ℕ → Tri) →
     IsRanked original rank → Covers original written p → IsCapture p d x → StandsOver p y x its old → IsTriSettled original (strobe_sources original y its values) values →
-    AreHalves written x old h → (cell : ℕ) → p.is_flop cell ≡ true →
+    AreHalves written x old h → (cell : ℕ) → p.is_flop cell ≡ true → (original.cell cell).falling ≡ false →
     ((original.cell cell).domain ≡ d → AboveTri (next_from original y values cell) (after_halves written x old h cell))
-    × (((original.cell cell).domain == d) ≡ false → AboveTri ((pulse_of original y its).old cell) (after_halves written x old h cell))
+    × (((original.cell cell).domain == d) ≡ false → AboveTri ((rise_of original y its).old cell) (after_halves written x old h cell))

@@ -44,15 +44,15 @@ abbrev pub small_nets : List Meaning
 small_nets =
     Input ∷ Input ∷ Input ∷ Clock ∷ Clock ∷ Clock ∷ Input ∷ Gate Inv (Net 1 ∷ [])
     ∷ Flop 0 false ∷ Flop 1 false ∷ Gate And (Net 9 ∷ Net 7 ∷ []) ∷ Gate Xor (Net 8 ∷ Net 2 ∷ []) ∷ Gate And (Net 11 ∷ Net 7 ∷ []) ∷ Gate Xor (Net 8 ∷ Net 9 ∷ [])
-    ∷ Lockup 2 3 (Net 13) ∷ Flop 3 false ∷ Lockup 4 4 (Net 15) ∷ Flop 5 false
+    ∷ Lockup 2 3 false (Net 13) ∷ Flop 3 false ∷ Lockup 4 4 false (Net 15) ∷ Flop 5 false
     ∷ Flop 6 false ∷ Flop 7 false ∷ Gate And (Net 1 ∷ Net 18 ∷ []) ∷ Gate And (Net 7 ∷ Net 19 ∷ []) ∷ Gate Or (Net 20 ∷ Net 21 ∷ [])
     ∷ Gate Inv (Net 19 ∷ []) ∷ Gate And (Net 23 ∷ Net 17 ∷ []) ∷ Gate Buf (Net 24 ∷ []) ∷ []
 
 abbrev pub small_cells : List Cell
 small_cells =
-    plain_cell 3 10 ∷ plain_cell 3 12 ∷ lockup_cell 3 (Net 13)
-    ∷ record { domain = 4; input = Net 17; scan = Some (record { enable = Net 0; input = Net 14 }); force = None } ∷ lockup_cell 4 (Net 15)
-    ∷ record { domain = 5; input = Net 15; scan = Some (record { enable = Net 0; input = Net 16 }); force = None }
+    plain_cell 3 10 ∷ plain_cell 3 12 ∷ lockup_cell 3 false (Net 13)
+    ∷ record { domain = 4; falling = false; input = Net 17; scan = Some (record { enable = Net 0; input = Net 14 }); force = None } ∷ lockup_cell 4 false (Net 15)
+    ∷ record { domain = 5; falling = false; input = Net 15; scan = Some (record { enable = Net 0; input = Net 16 }); force = None }
     ∷ plain_cell 3 6 ∷ plain_cell 3 22 ∷ []
 
 abbrev pub small : Logic

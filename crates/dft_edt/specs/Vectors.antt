@@ -7,7 +7,7 @@ use Rattle.dft_netlist.specs.declared.ids.InstanceId.{InstanceId}
 use Rattle.dft_netlist.specs.Logic.{Logic, Ports, IsRanked}
 use Rattle.dft_netlist.specs.Settled.{IsTriSettled}
 use Rattle.dft_netlist.specs.Runs.{Now, Vector, Turn, IsTurn, after_turn, AreLow}
-use Rattle.dft_abstract.specs.Cycle.{pulse_of, strobe_sources, Halves, AreHalves, after_halves}
+use Rattle.dft_abstract.specs.Cycle.{rise_of, strobe_sources, Halves, AreHalves, after_halves}
 use Rattle.dft_abstract.specs.Laws.{bits, shown}
 use Rattle.dft_config.specs.Config.{Config}
 use Rattle.dft_config.specs.Range.{IsInRange}
@@ -102,7 +102,7 @@ abbrev pub OutputLaw : Type 0
 OutputLaw =
     (l : Logic) (config : Config) (chains : List (List InstanceId)) (hw : EdtNets) (x : Vector) (old values : ℕ → Tri) →
     (has : HasCompactor l config chains hw) → IsInRange config → IsTriSettled l (strobe_sources l x old values) values →
-    (last : ℕ → Tri) → ((chain : ℕ) (less : chain < config.chains) → last chain ≡ (pulse_of l x old).old ((has.ends chain less).cell.0)) → (j : ℕ) → j < length config.compactor.groups →
+    (last : ℕ → Tri) → ((chain : ℕ) (less : chain < config.chains) → last chain ≡ (rise_of l x old).old ((has.ends chain less).cell.0)) → (j : ℕ) → j < length config.compactor.groups →
     values (hw.output j) ≡ tri_sum (map (λ chain. shown_by (old (hw.hold chain)) (last chain)) (group_of config j))
 
 -- ---- in every run

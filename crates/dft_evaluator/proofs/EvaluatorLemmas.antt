@@ -117,7 +117,7 @@ given_same s given values net Clock is = is
 given_same s given values net (Gate kind inputs) is = refl
 given_same s given values net (Joined source) is = refl
 given_same s given values net (Flop c inverted) is = is
-given_same s given values net (Lockup c e source) is = is
+given_same s given values net (Lockup c e high source) is = is
 given_same s given values net Free is = is
 
 pub from_sources : SettledFromSources

@@ -28,7 +28,7 @@ set_agree P given v w net Clock all same = refl
 set_agree P given v w net (Gate kind inputs) all same = ap (tri_of kind) (inputs_agree P v w inputs all same)
 set_agree P given v w net (Joined source) all same = source_agree P v w source all same
 set_agree P given v w net (Flop c inverted) all same = refl
-set_agree P given v w net (Lockup c e source) all same = refl
+set_agree P given v w net (Lockup c e high source) all same = refl
 set_agree P given v w net Free all same = refl
 
 -- of what is given a net takes what is given at it
@@ -38,7 +38,7 @@ given_agree given other v net Clock same = same
 given_agree given other v net (Gate kind inputs) same = refl
 given_agree given other v net (Joined source) same = refl
 given_agree given other v net (Flop c inverted) same = same
-given_agree given other v net (Lockup c e source) same = same
+given_agree given other v net (Lockup c e high source) same = same
 given_agree given other v net Free same = same
 
 -- ---- one net after another

@@ -16,7 +16,7 @@ value_set given values net Clock = given net
 value_set given values net (Gate kind inputs) = tri_of kind (map (value_from values) inputs)
 value_set given values net (Joined source) = value_from values source
 value_set given values net (Flop cell inverted) = given net
-value_set given values net (Lockup cell domain source) = given net
+value_set given values net (Lockup cell domain high source) = given net
 value_set given values net Free = given net
 
 -- every net has its gate's or join's value, and a source what is given there; what is given at other nets counts for nothing
@@ -30,7 +30,7 @@ IsGiven s given net Clock = given net ≡ s.clocks net
 IsGiven s given net (Gate kind inputs) = Unit {0}
 IsGiven s given net (Joined source) = Unit {0}
 IsGiven s given net (Flop cell inverted) = given net ≡ (if inverted then inverse (s.flops cell) else s.flops cell)
-IsGiven s given net (Lockup cell domain source) = given net ≡ s.lockups cell domain source
+IsGiven s given net (Lockup cell domain high source) = given net ≡ s.lockups cell domain high source
 IsGiven s given net Free = given net ≡ Unknown
 
 abbrev pub AreGiven : (ℕ → Meaning) → TriSources → (given : ℕ → Tri) → Type 0

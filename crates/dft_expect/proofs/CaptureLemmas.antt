@@ -1,5 +1,6 @@
 -- A capture is one, and stands above what more is known of.
 use Rattle.std.proofs.Common.{ℕ, zero, suc, Bool, List, ◌≡◌, ◌<◌, ◌⊎◌, inl, inr, refl, sym, subst, ap, arith, map, ◌∙◌}
+use Rattle.std.specs.Prelude.{if◌then◌else◌}
 use Rattle.dft_base.specs.declared.tri.Tri.{Tri}
 use Rattle.dft_base.specs.Tri.{AboveTri}
 use Rattle.dft_netlist.specs.declared.ids.NetId.{NetId}
@@ -10,7 +11,7 @@ use Rattle.dft_netlist.specs.Logic.{Logic, Meaning, Free, IsRanked}
 use Rattle.dft_netlist.specs.Settled.{TriSources, value_given, IsTriSettled}
 use Rattle.dft_netlist.proofs.Meanings.{source_same, meaning_monotone, at_nets}
 use Rattle.dft_netlist.proofs.Ranks.{order_is_rank}
-use Rattle.dft_abstract.specs.Cycle.{strobe_sources}
+use Rattle.dft_abstract.specs.Cycle.{strobe_sources, rise_of}
 use Rattle.dft_abstract.proofs.Views.{settled_same}
 use Rattle.dft_config.specs.Config.{Config}
 use Rattle.dft_cubes.specs.declared.cube.Merged.{Merged}
@@ -32,7 +33,7 @@ stands_by l m rank s t values shows ranked means above settled its (suc fuel) ne
     elim (means net) [
       | inl free ↦ at_nets (values net) (shows net) (value_given s values net (l.net net)) (shows net) (settled net) refl (free_over s values net (l.net net) (shows net) free)
       | inr same ↦ at_nets (values net) (shows net) (value_given s values net (l.net net)) (value_given t shows net (l.net net)) (settled net) (its net ∙ ap (value_given t shows net) same)
-          (meaning_monotone rank s t values shows net above.ports above.clocks above.flops (l.net net) (ranked.order net) ih (λ c e source below. above.lockups (rank net) c e source ih below))
+          (meaning_monotone rank s t values shows net above.ports above.clocks above.flops (l.net net) (ranked.order net) ih (λ c e high source below. above.lockups (rank net) c e high source ih below))
     ]
 
 pub stands_above : SettledStandsAbove
@@ -46,7 +47,8 @@ values_same n rank config chains merged loaded a b ordered sa sb =
     let l = original n config in
     let x = capture_vector n config merged in
     settled_same l rank (strobe_sources l x (loaded_values chains loaded) a) (strobe_sources l x (loaded_values chains loaded) b) a b (order_is_rank n (config_ports n config) rank ordered) sa sb
-    (λ k. refl) (λ e. refl) (λ c. refl) (λ net c e source is same below. source_same rank (rank net) a b source below same)
+    (λ k. refl) (λ e. refl) (λ c. refl) (λ net c e high source is same below.
+    ap (λ (t : Tri). if high then (rise_of l x (loaded_values chains loaded)).old c else t) (source_same rank (rank net) a b source below same))
 
 pub one_capture : CaptureIsOne
 one_capture n rank config chains merged loaded r q ordered rc qc =

@@ -140,7 +140,7 @@ read_is n config merged loaded values number cell read can at is =
     let captures : Option NetId = capture_clock n config merged.domain in
     let m : IsModelled n config i = number_modelled n config number i can at in
     let input : Source = or_loose i (pin_of role.Din i (pins_of n i)) in
-    let q : Cell = record { domain = m.clock; input = input; scan = None; force = m.force } in
+    let q : Cell = record { domain = m.clock; falling = false; input = input; scan = None; force = m.force } in
     let e : (original n config).cell i ≡ q = flop_cell n (config_ports n config) i q m.flop in
     let idle : tri_forced_by m.force x.ports (value_from values input) ≡ value_from values input =
     ap (λ (c : Cell). tri_forced_by c.force x.ports (value_from values input)) (sym e) ∙ stays n config merged i (value_from values input) in

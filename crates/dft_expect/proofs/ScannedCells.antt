@@ -199,7 +199,7 @@ pub record IsModelled (n : Netlist) (config : Config) (i : ℕ) : Type 0 where
   pub clock : ℕ
   pub root : root_of n source ≡ Port clock
   pub force : Option Force
-  pub flop : flip_flop n (config_ports n config) i ≡ Some (record { domain = clock; input = or_loose i (pin_of role.Din i (pins_of n i)); scan = None; force = force })
+  pub flop : flip_flop n (config_ports n config) i ≡ Some (record { domain = clock; falling = false; input = or_loose i (pin_of role.Din i (pins_of n i)); scan = None; force = force })
 
 pub cell_modelled : (n : Netlist) (config : Config) (chain place : ℕ) (cell : InstanceId) → CanCapture n config → cell_at (plan_of n config).chains chain place ≡ Some cell → IsModelled n config cell.0
 cell_modelled n config chain place cell can stands =

@@ -26,8 +26,8 @@ pub record AreAbove (rank : ℕ → ℕ) (s t : TriSources) (values shows : ℕ 
   pub ports : (net : ℕ) → AboveTri (s.ports net) (t.ports net)
   pub clocks : (net : ℕ) → AboveTri (s.clocks net) (t.clocks net)
   pub flops : (cell : ℕ) → AboveTri (s.flops cell) (t.flops cell)
-  pub lockups : (r cell domain : ℕ) (source : Source) → ((k : ℕ) → rank k < r → AboveTri (values k) (shows k)) → AreBelow rank r (nets_of (source ∷ [])) →
-      AboveTri (s.lockups cell domain source) (t.lockups cell domain source)
+  pub lockups : (r cell domain : ℕ) (high : Bool) (source : Source) → ((k : ℕ) → rank k < r → AboveTri (values k) (shows k)) → AreBelow rank r (nets_of (source ∷ [])) →
+      AboveTri (s.lockups cell domain high source) (t.lockups cell domain high source)
 
 -- What is known of settled values stands above what they are where more is known: let another logic mean the same at each net, or anything where
 -- the net is free, and let its sources' values stand below; then each of its settled values stands below.

@@ -1,5 +1,5 @@
 -- Lists that are built place by place.
-use Rattle.std.proofs.Common.{ℕ, List, [], ◌∷◌, ◌++◌, ◌≡◌, ◌<◌, ◌+◌, Option, None, length, map, sym, ap, ◌∙◌, subst, get_or, below_more, length-append, arith}
+use Rattle.std.proofs.Common.{false, ℕ, List, [], ◌∷◌, ◌++◌, ◌≡◌, ◌<◌, ◌+◌, Option, None, length, map, sym, ap, ◌∙◌, subst, get_or, below_more, length-append, arith}
 use Rattle.std.proofs.Math.ListN.{get_or-append}
 use Rattle.std.proofs.Math.Seq.{get_or-append_seam}
 use Rattle.dft_netlist.specs.Netlist.{Netlist}
@@ -33,7 +33,7 @@ pub op_pushed : (n : Netlist) (ports : Ports) (ops new : List Op) (o : Op) (net 
 op_pushed n ports ops new o net size grown each here = (let both = pushed (IsOpOf n ports) ops new o Free net size grown each here in record { count = both.0; each = both.1 })
 
 pub flop_pushed : (n : Netlist) (ports : Ports) (flops new : List FlipFlop) (f : FlipFlop) (count : ℕ) → new ≡ flops ++ f ∷ [] → AreFlops n ports count flops → IsFlopOf n ports count f → AreFlops n ports (count + 1) new
-flop_pushed n ports flops new f count grown before here = (let both = pushed (IsFlopOf n ports) flops new f (record { domain = record { 0 = 0 }; input = Net (record { 0 = 0 }); scan = None; force = None }) count before.size grown before.each here in
+flop_pushed n ports flops new f count grown before here = (let both = pushed (IsFlopOf n ports) flops new f (record { domain = record { 0 = 0 }; falling = false; input = Net (record { 0 = 0 }); scan = None; force = None }) count before.size grown before.each here in
     record { size = both.0; each = both.1 })
 
 pub latch_pushed : (n : Netlist) (ports : Ports) (latches new : List (Option Latch)) (x : Option Latch) (count : ℕ) → new ≡ latches ++ x ∷ [] → AreLatches n ports count latches → IsLatchOf n ports count x → AreLatches n ports (count + 1) new

@@ -172,16 +172,16 @@ circuit_of n ports x sound order size each flops latches tables =
         whole = λ k live. order.whole k (omega arith);
         after = ordered_from n ports x.ops.items size means (numbers_of x.order.items) [] order.after;
         count = sym (length-map x.order.items (λ (net : NetId). net.0)) ∙ order.count ∙ sym size;
-        latched = λ k c e source h. elim (leb_tells (length n.nets) k) [
-          | inl out ↦ (let far : length x.ops.items ≤ k = omega (arith, out.1) in let f = ap meaning (get_or_past x.ops.items k Free far) in let g : meaning Free ≡ meanings.Lockup c e source = sym f ∙ h in absurd cc)
-          | inr live ↦ (let found = (each k live.1).latch c e source h in latches.each c found.0 ∙ found.1)
+        latched = λ k c e high source h. elim (leb_tells (length n.nets) k) [
+          | inl out ↦ (let far : length x.ops.items ≤ k = omega (arith, out.1) in let f = ap meaning (get_or_past x.ops.items k Free far) in let g : meaning Free ≡ meanings.Lockup c e high source = sym f ∙ h in absurd cc)
+          | inr live ↦ (let found = (each k live.1).latch c e high source h in latches.each c found.0 ∙ found.1)
         ];
-        stored = λ k c e source h. cells c ∙ lockup_stored n ports k c e source (sym (means k) ∙ h);
+        stored = λ k c e high source h. cells c ∙ lockup_stored n ports k c e high source (sym (means k) ∙ h);
         instances = latches.size ∙ sym flops.size;
         tables = tables;
       };
       compiled = λ i. record { net = λ k. sym (means k) i; cell = λ c. sym (cells c) i };
-      clocked = λ c e source h.
+      clocked = λ c e high source h.
           (let less = latch_live x.latches.items c (e, source) h in
           let s = latches.size in
           let live : c < length n.instances = omega arith in

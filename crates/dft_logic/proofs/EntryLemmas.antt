@@ -10,15 +10,15 @@ use Rattle.dft_cells.proofs.TriLemmas.{forced_one, chosen_one, chosen_zero}
 use Rattle.dft_netlist.specs.Drivers.{Source, Net, Tied, Loose, nets_of}
 use Rattle.dft_netlist.specs.Logic.{Logic, Force, Scan, reads}
 use Rattle.dft_netlist.specs.Settled.{value_from}
-use Rattle.dft_abstract.specs.Cycle.{Pulse, tri_forced_by, tri_taken_by, next_value}
+use Rattle.dft_abstract.specs.Cycle.{Pulse, changes, level_before, tri_forced_by, tri_taken_by, next_value}
 use Rattle.dft_logic.specs.Needs.{HasAll, chosen_reads, taken_reads, reads_at, forced_reads}
 use Rattle.dft_logic.specs.Shows.{Shown, still_needs, HasStillReads}
 use Rattle.dft_logic.specs.Entries.{Entry, Keeps, Takes, Follows, Reads, Computes, entry_value, net_entry, source_entry, is_still_source, entry_if, chosen_entry, taken_entry, computed, entry_at, forced_entry, entry_given}
 use Rattle.dft_logic.specs.Laws.{EntryIsNext, PassOfEntries, PassOfNeeded, EntryStays}
 use Rattle.dft_logic.proofs.ReadLemmas.{source_agrees, set_agrees}
-use Rattle.dft_logic.proofs.NeededLemmas.{needed_is_strobe}
+use Rattle.dft_logic.proofs.NeededLemmas.{needed_before}
 use Rattle.dft_logic.proofs.TakeLemmas.{forced_known, origin_is_shown, next_of_strobe}
-use Rattle.dft_logic.proofs.ShownLemmas.{strobe_there, pass_of_shown}
+use Rattle.dft_logic.proofs.ShownLemmas.{before_there, pass_of_shown}
 
 -- ---- an entry that is there
 
@@ -91,8 +91,8 @@ pub entry_is_next : EntryIsNext
 entry_is_next l rank p origin shown settled ranked origins strobe c entry is =
     let d : ℕ = (l.cell c).domain in
     let still : Source → Bool = is_still_source d shown in
-    let same : (net k : ℕ) → origin net ≡ Some k → settled net ≡ p.old k = origin_is_shown l rank origin p.ports p.old settled ranked origins strobe in
-    after_entry p.old settled c (p.pulsed d) (next_value l p (λ e. settled) c) (forced_entry (l.cell c).force p.ports (taken_entry still origin (l.cell c).scan (value_from settled) (l.cell c).input)) entry is
+    let same : (net k : ℕ) → origin net ≡ Some k → settled net ≡ p.old k = origin_is_shown l rank origin (level_before p) p.ports p.old settled ranked origins strobe in
+    after_entry p.old settled c (changes l p c) (next_value l p (λ e. settled) c) (forced_entry (l.cell c).force p.ports (taken_entry still origin (l.cell c).scan (value_from settled) (l.cell c).input)) entry is
     (λ there. forced_value p.old settled c (l.cell c).force p.ports (tri_taken_by (l.cell c).scan (value_from settled) (value_from settled (l.cell c).input))
     (taken_entry still origin (l.cell c).scan (value_from settled) (l.cell c).input) entry there
     (λ found. taken_value still origin p.old settled c (l.cell c).scan (l.cell c).input entry same found))
@@ -138,13 +138,13 @@ where_up : (up : Bool) (found : Option Entry) (entry : Entry) → up ≡ true �
 where_up true found entry up is = is
 where_up false found entry up is = absurd cc
 
-entry_still : (l : Logic) (p : Pulse) (origin : ℕ → Option ℕ) (shown : ℕ → Shown) (settled : ℕ → Tri) (c : ℕ) (entry : Entry) → entry_given l p origin shown settled c ≡ Some entry → p.pulsed (l.cell c).domain ≡ true →
+entry_still : (l : Logic) (p : Pulse) (origin : ℕ → Option ℕ) (shown : ℕ → Shown) (settled : ℕ → Tri) (c : ℕ) (entry : Entry) → entry_given l p origin shown settled c ≡ Some entry → changes l p c ≡ true →
     HasStillReads l p (λ net. true) shown settled c
 entry_still l p origin shown settled c entry is up =
     let d : ℕ = (l.cell c).domain in
     let taken : Option Entry = taken_entry (is_still_source d shown) origin (l.cell c).scan (value_from settled) (l.cell c).input in
     forced_still shown d (l.cell c).force p.ports taken (taken_reads (l.cell c).scan (value_from settled) (l.cell c).input) entry
-    (where_up (p.pulsed d) (forced_entry (l.cell c).force p.ports taken) entry up is)
+    (where_up (changes l p c) (forced_entry (l.cell c).force p.ports taken) entry up is)
     (λ was found. taken_still shown d origin (l.cell c).scan (value_from settled) (l.cell c).input was found)
 
 pub every : (nets : List ℕ) → HasAll (λ net. true) nets
@@ -173,7 +173,7 @@ up_stays up also one two same is = rw (same, is) refl
 pub entry_stays : EntryStays
 entry_stays l p q origin shown settled other c up ports enable =
     let d : ℕ = (l.cell c).domain in
-    up_stays (p.pulsed d) (q.pulsed d) _ _ up
+    up_stays (changes l p c) (changes l q c) _ _ up
     (forced_stays (l.cell c).force p.ports q.ports _ _ ports (taken_stays (is_still_source d shown) origin (l.cell c).scan (value_from settled) (value_from other) (l.cell c).input enable))
 
 -- ---- from the needed nets alone
@@ -189,9 +189,9 @@ entry_agrees old settled values next also c Computes reading computing = computi
 
 pub pass_of_needed : PassOfNeeded
 pass_of_needed l rank p origin shown needs values entries ranked origins on closed given has enables reading computing =
-    let found = strobe_there l rank p.ports p.old ranked in
+    let found = before_there l rank p ranked in
     let settled : ℕ → Tri = found.0 in
-    let same : (net : ℕ) → needs net ≡ true → values net ≡ settled net = needed_is_strobe l rank p.ports p.old needs values settled ranked closed given found.1 in
+    let same : (net : ℕ) → needs net ≡ true → values net ≡ settled net = needed_before l rank p needs values settled ranked closed given found.1 in
     let enable : (c : ℕ) (scan : Scan) → (l.cell c).scan ≡ Some scan → value_from values scan.enable ≡ value_from settled scan.enable = λ c scan is.
     source_agrees values settled scan.enable (set_agrees needs values settled (nets_of (scan.enable ∷ [])) (enables c scan is) same) in
     let stays : (c : ℕ) → entry_given l p origin shown values c ≡ entry_given l p origin shown settled c = λ c.

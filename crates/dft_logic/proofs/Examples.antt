@@ -14,7 +14,7 @@ use Rattle.dft_logic.specs.Shows.{Shown, Nothing, Domain, Several, is_still, wit
 
 -- a flip-flop of a domain that takes the bit of a net
 abbrev plain : (domain data_in : ℕ) → Cell
-plain e net = record { domain = e; input = Net net; scan = None; force = None }
+plain e net = record { domain = e; falling = false; input = Net net; scan = None; force = None }
 
 abbrev cell_in : List Cell → ℕ → Cell
 cell_in cells c = slice_index_or cells c (plain 0 0)
@@ -34,7 +34,7 @@ both e = true
 -- nets ca, cb, d, n, p, q: `DFF 0 (.CK(ca), .D(d), .Q(n)); LOCKUP 2 (.CK(cb), .D(n), .Q(p)); DFF 1 (.CK(ca), .D(p), .Q(q));`
 abbrev quiet : Logic
 quiet = record {
-  net = net_in (Clock ∷ Clock ∷ Input ∷ Flop 0 false ∷ Lockup 2 1 (Net 3) ∷ Flop 1 false ∷ []);
+  net = net_in (Clock ∷ Clock ∷ Input ∷ Flop 0 false ∷ Lockup 2 1 false (Net 3) ∷ Flop 1 false ∷ []);
   cell = cell_in (plain 0 2 ∷ plain 0 4 ∷ []);
 }
 
@@ -65,7 +65,7 @@ quiet_shows shown is = ap (λ (t : Shown). lockup_shown 1 (with_shown t Nothing)
 
 -- an assignment of the needed values alone, and any others: the second flip-flop takes what the first may have
 abbrev ca_pulses : Pulse
-ca_pulses = record { ports = λ k. One; pulsed = only 0; old = λ c. Zero }
+ca_pulses = record { rising = true; ports = λ k. One; pulsed = only 0; old = λ c. Zero }
 
 abbrev needed : (others : Tri) → ℕ → ℕ → Tri
 needed others d k = if (d == 0) && (k == 4) then Unknown else (if (d == 1) && (k == 3) then Unknown else others)
@@ -77,7 +77,7 @@ quiet_takes others = refl
 
 -- nets ck, se, si, d, rn, q
 abbrev scan_cell : Cell
-scan_cell = record { domain = 0; input = Net 3; scan = Some (record { enable = Net 1; input = Net 2 }); force = Some (record { port = 4; value = false }) }
+scan_cell = record { domain = 0; falling = false; input = Net 3; scan = Some (record { enable = Net 1; input = Net 2 }); force = Some (record { port = 4; value = false }) }
 
 shifts : next_reads scan_cell (λ k. One) (λ s. One) ≡ Net 1 ∷ Net 2 ∷ []
 shifts = refl
@@ -108,7 +108,7 @@ sees_none = refl
 abbrev meeting : Logic
 meeting = record {
   net = net_in (Clock ∷ Clock ∷ Input ∷ Input ∷ Input ∷ Flop 0 false ∷ Flop 1 false ∷ []);
-  cell = cell_in (record { domain = 0; input = Net 6; scan = Some (record { enable = Net 2; input = Net 3 }); force = None } ∷ plain 1 4 ∷ []);
+  cell = cell_in (record { domain = 0; falling = false; input = Net 6; scan = Some (record { enable = Net 2; input = Net 3 }); force = None } ∷ plain 1 4 ∷ []);
 }
 
 -- it needs nothing that moves while it shifts
@@ -130,7 +130,7 @@ meeting_moves = refl
 -- nets ca, cb, ck, d, r, s, a, b: `DFF 0 (.CK(ck), .D(d), .Q(r)); LOCKUP 1 (.CK(ck), .D(r), .Q(s)); DFF 2 (.CK(ca), .D(s), .Q(a)); DFF 3 (.CK(cb), .D(s), .Q(b));`
 abbrev chains : Logic
 chains = record {
-  net = net_in (Clock ∷ Clock ∷ Clock ∷ Input ∷ Flop 0 false ∷ Lockup 1 2 (Net 4) ∷ Flop 2 false ∷ Flop 3 false ∷ []);
+  net = net_in (Clock ∷ Clock ∷ Clock ∷ Input ∷ Flop 0 false ∷ Lockup 1 2 false (Net 4) ∷ Flop 2 false ∷ Flop 3 false ∷ []);
   cell = cell_in (plain 2 3 ∷ plain 2 3 ∷ plain 0 5 ∷ plain 1 5 ∷ []);
 }
 

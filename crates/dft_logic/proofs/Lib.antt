@@ -20,6 +20,7 @@ pub mod Compiled
 pub mod Fillings
 pub mod NeedLemmas
 pub mod Listings
+pub mod Strobes
 pub mod ShownTableLemmas
 pub mod OriginLemmas
 pub mod EntryTableLemmas

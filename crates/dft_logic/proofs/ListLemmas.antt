@@ -7,7 +7,7 @@ use Rattle.dft_netlist.specs.Settled.{value_given}
 use Rattle.dft_logic.specs.Needs.{HasAll, strobe_from, IsStrobeClosed, IsStrobeOn}
 use Rattle.dft_logic.specs.Lists.{is_listed, IsListFrom, settled_at, settled_by}
 use Rattle.dft_logic.specs.Laws.{ListIsClosed, ListIsSettled}
-use Rattle.dft_logic.proofs.ReadLemmas.{Agree, given_agrees, set_agrees}
+use Rattle.dft_logic.proofs.ReadLemmas.{Agree, still_agrees, set_agrees}
 
 -- ---- what is listed
 
@@ -29,8 +29,7 @@ closed_more l before net closed read k is = elim (or_cases (net == k) (is_listed
 
 -- a net settles to the same value in assignments that agree on what it reads
 strobe_agrees : (ports flops v w : ℕ → Tri) (net : ℕ) (m : Meaning) → Agree v w (reads m) → value_given (strobe_from ports flops v) v net m ≡ value_given (strobe_from ports flops w) w net m
-strobe_agrees ports flops v w net m same =
-    given_agrees (strobe_from ports flops v) (strobe_from ports flops w) (λ d. v) (λ d. w) 0 net m (λ k. refl) (λ is. refl) (λ c inverted is. refl) (λ c e source h. h) same
+strobe_agrees ports flops v w net m same = still_agrees (λ e. false) ports flops v w net m same
 
 stays : (l : Logic) (ports flops : ℕ → Tri) (net : ℕ) (values : ℕ → Tri) (before : List ℕ) → is_listed before net ≡ false → (k : ℕ) → is_listed before k ≡ true → values k ≡ settled_at l ports flops net values k
 stays l ports flops net values before new k old = elim (cases_Bool (net == k)) [

@@ -1,5 +1,5 @@
 -- The values of nets at a strobe, from all nets or from those that they are settled from.
-use Rattle.std.proofs.Common.{ℕ, Bool, true, List, ◌≡◌, ◌<◌, length, map}
+use Rattle.std.proofs.Common.{ℕ, Bool, true, false, List, ◌≡◌, ◌<◌, length, map}
 use Rattle.dft_base.specs.declared.tri.Tri.{Tri}
 use Rattle.dft_netlist.specs.declared.ids.NetId.{NetId}
 use Rattle.dft_netlist.specs.Logic.{reads}
@@ -23,5 +23,5 @@ pub look_of_marked : (x : Circuit) (ports flops : ℕ → Tri) (marked : List Bo
     IsStrobeOn (logic_at x) ports flops (flag_at marked) (value_at values) → ((k : ℕ) → k < length x.ops.items → Has (numbers_of nets) k → flag_at marked k ≡ true) →
     AreSeen (logic_at x) ports flops nets (map (λ net. value_at values net.0) nets)
 look_of_marked x ports flops marked values nets is len closed settled all =
-    look_of_needed (logic_at x) (rank_of x) ports flops (needs_of (length x.ops.items) marked) (value_at values) nets (circuit_ranked x is) (needs_closed x marked closed) (needs_on x ports flops marked values len settled)
+    look_of_needed (logic_at x) (rank_of x) ports flops (needs_of (length x.ops.items) marked) (value_at values) nets (circuit_ranked x is) (needs_closed x marked closed) (needs_on x (λ e. false) ports flops marked values len settled)
     (has_needs (length x.ops.items) marked (numbers_of nets) all)

@@ -90,35 +90,35 @@ meaning_same n ports net i inverted kind.Tie1 e = gate_same kind.Tie1 i (pins_of
 
 -- ---- a lock-up is that of its instance
 
-lockup_is : (i : ℕ) (domain : Option ℕ) (src : Source) (c e : ℕ) (source : Source) → lockup_meaning i domain src ≡ Lockup c e source → (i ≡ c) × (with_source src domain ≡ Some (e, source))
-lockup_is i None src c e source h = absurd cc
-lockup_is i (Some d) src c e source h = (let a : i ≡ c = cc in a, let b : d ≡ e = cc in let s : src ≡ source = cc in λ t. Some (b t, s t))
+lockup_is : (i : ℕ) (domain : Option ℕ) (src : Source) (c e : ℕ) (high : Bool) (source : Source) → lockup_meaning i domain src ≡ Lockup c e high source → (i ≡ c) × (with_source src domain ≡ Some (e, source))
+lockup_is i None src c e high source h = absurd cc
+lockup_is i (Some d) src c e high source h = (let a : i ≡ c = cc in a, let b : d ≡ e = cc in let s : src ≡ source = cc in λ t. Some (b t, s t))
 
-no_gate : (k : Kind) (inputs : List Source) (c e : ℕ) (source : Source) → Gate k inputs ≡ Lockup c e source → ⊥
-no_gate k inputs c e source h = cc
+no_gate : (k : Kind) (inputs : List Source) (c e : ℕ) (high : Bool) (source : Source) → Gate k inputs ≡ Lockup c e high source → ⊥
+no_gate k inputs c e high source h = cc
 
-pub latch_is : (n : Netlist) (ports : Ports) (i : ℕ) (inverted : Bool) (k : Kind) (ws : List Wired) (c e : ℕ) (source : Source) → meaning_in n ports i k inverted ws ≡ Lockup c e source →
+pub latch_is : (n : Netlist) (ports : Ports) (i : ℕ) (inverted : Bool) (k : Kind) (ws : List Wired) (c e : ℕ) (high : Bool) (source : Source) → meaning_in n ports i k inverted ws ≡ Lockup c e high source →
     (i ≡ c) × (latch_kept k (latch_in n ports i ws) ≡ Some (e, source))
-latch_is n ports i inverted kind.Opaque ws c e source h = absurd cc
-latch_is n ports i inverted kind.Lockup ws c e source h = lockup_is i (domain_at n ports (found_in role.Clock ws)) (or_loose i (found_in role.Din ws)) c e source h
-latch_is n ports i inverted kind.Dff ws c e source h = absurd (no_flop i inverted _ c e source h)
-latch_is n ports i inverted kind.Dffr ws c e source h = absurd (no_flop i inverted _ c e source h)
-latch_is n ports i inverted kind.Dffs ws c e source h = absurd (no_flop i inverted _ c e source h)
-latch_is n ports i inverted kind.Sdff ws c e source h = absurd (no_flop i inverted _ c e source h)
-latch_is n ports i inverted kind.Sdffr ws c e source h = absurd (no_flop i inverted _ c e source h)
-latch_is n ports i inverted kind.Sdffs ws c e source h = absurd (no_flop i inverted _ c e source h)
-latch_is n ports i inverted kind.Buf ws c e source h = absurd (no_gate kind.Buf _ c e source h)
-latch_is n ports i inverted kind.Inv ws c e source h = absurd (no_gate kind.Inv _ c e source h)
-latch_is n ports i inverted kind.And ws c e source h = absurd (no_gate kind.And _ c e source h)
-latch_is n ports i inverted kind.Nand ws c e source h = absurd (no_gate kind.Nand _ c e source h)
-latch_is n ports i inverted kind.Or ws c e source h = absurd (no_gate kind.Or _ c e source h)
-latch_is n ports i inverted kind.Nor ws c e source h = absurd (no_gate kind.Nor _ c e source h)
-latch_is n ports i inverted kind.Xor ws c e source h = absurd (no_gate kind.Xor _ c e source h)
-latch_is n ports i inverted kind.Xnor ws c e source h = absurd (no_gate kind.Xnor _ c e source h)
-latch_is n ports i inverted kind.Mux2 ws c e source h = absurd (no_gate kind.Mux2 _ c e source h)
-latch_is n ports i inverted (kind.Table number) ws c e source h = absurd (no_gate (kind.Table number) _ c e source h)
-latch_is n ports i inverted kind.Tie0 ws c e source h = absurd (no_gate kind.Tie0 _ c e source h)
-latch_is n ports i inverted kind.Tie1 ws c e source h = absurd (no_gate kind.Tie1 _ c e source h)
+latch_is n ports i inverted kind.Opaque ws c e high source h = absurd cc
+latch_is n ports i inverted kind.Lockup ws c e high source h = lockup_is i (domain_at n ports (found_in role.Clock ws)) (or_loose i (found_in role.Din ws)) c e high source h
+latch_is n ports i inverted kind.Dff ws c e high source h = absurd (no_flop i inverted _ c e high source h)
+latch_is n ports i inverted kind.Dffr ws c e high source h = absurd (no_flop i inverted _ c e high source h)
+latch_is n ports i inverted kind.Dffs ws c e high source h = absurd (no_flop i inverted _ c e high source h)
+latch_is n ports i inverted kind.Sdff ws c e high source h = absurd (no_flop i inverted _ c e high source h)
+latch_is n ports i inverted kind.Sdffr ws c e high source h = absurd (no_flop i inverted _ c e high source h)
+latch_is n ports i inverted kind.Sdffs ws c e high source h = absurd (no_flop i inverted _ c e high source h)
+latch_is n ports i inverted kind.Buf ws c e high source h = absurd (no_gate kind.Buf _ c e high source h)
+latch_is n ports i inverted kind.Inv ws c e high source h = absurd (no_gate kind.Inv _ c e high source h)
+latch_is n ports i inverted kind.And ws c e high source h = absurd (no_gate kind.And _ c e high source h)
+latch_is n ports i inverted kind.Nand ws c e high source h = absurd (no_gate kind.Nand _ c e high source h)
+latch_is n ports i inverted kind.Or ws c e high source h = absurd (no_gate kind.Or _ c e high source h)
+latch_is n ports i inverted kind.Nor ws c e high source h = absurd (no_gate kind.Nor _ c e high source h)
+latch_is n ports i inverted kind.Xor ws c e high source h = absurd (no_gate kind.Xor _ c e high source h)
+latch_is n ports i inverted kind.Xnor ws c e high source h = absurd (no_gate kind.Xnor _ c e high source h)
+latch_is n ports i inverted kind.Mux2 ws c e high source h = absurd (no_gate kind.Mux2 _ c e high source h)
+latch_is n ports i inverted (kind.Table number) ws c e high source h = absurd (no_gate (kind.Table number) _ c e high source h)
+latch_is n ports i inverted kind.Tie0 ws c e high source h = absurd (no_gate kind.Tie0 _ c e high source h)
+latch_is n ports i inverted kind.Tie1 ws c e high source h = absurd (no_gate kind.Tie1 _ c e high source h)
 
 -- ---- a gate has as many inputs as it takes
 
@@ -128,7 +128,7 @@ FitsMeaning Input = Unit {0}
 FitsMeaning Clock = Unit {0}
 FitsMeaning (Joined source) = Unit {0}
 FitsMeaning (Flop i inverted) = Unit {0}
-FitsMeaning (Lockup i e source) = Unit {0}
+FitsMeaning (Lockup i e high source) = Unit {0}
 FitsMeaning Free = Unit {0}
 
 pub fits_by : (o : Op) (m : Meaning) → meaning o ≡ m → FitsMeaning m → Fits o
@@ -137,7 +137,7 @@ fits_by op.Input m e f = tt
 fits_by op.Clock m e f = tt
 fits_by (op.Joined source) m e f = tt
 fits_by (op.Flop i inverted) m e f = tt
-fits_by (op.Lockup i d source) m e f = tt
+fits_by (op.Lockup i d high source) m e f = tt
 fits_by op.Free m e f = tt
 
 -- what the roles of a gate are
@@ -287,8 +287,8 @@ op_of_pin n ports net i inverted k ws o instance sound well at driven ke we mean
     record {
       means = here ∙ meaning_same n ports net i inverted (kind_at n i) refl ∙ sym (ap (meaning_of n ports net) driven);
       fits = fits_by o (meaning_in n ports i (kind_at n i) inverted (map (wired_by i) (pins_of n i))) here (fits_in n ports i inverted instance sound well at);
-      latch = λ c e source h.
-          (let found = latch_is n ports i inverted (kind_at n i) (map (wired_by i) (pins_of n i)) c e source (sym here ∙ h) in
+      latch = λ c e high source h.
+          (let found = latch_is n ports i inverted (kind_at n i) (map (wired_by i) (pins_of n i)) c e high source (sym here ∙ h) in
           let C : ℕ → Type 0 = λ j. (j < length n.instances) × (kept_latch n ports j ≡ Some (e, source)) in
           subst C found.0 (slice_get_within n.instances i instance at, found.1));
     }

@@ -1,5 +1,5 @@
 -- From what the parts of a fast pulse give to the pulse.
-use Rattle.std.proofs.Common.{ℕ, Bool, true, false, List, [], ◌∷◌, ◌≡◌, ◌<◌, ◌≤◌, ◌++◌, ◌⊎◌, inl, inr, length, map, refl, sym, ap, ◌∙◌, subst, Option, None, Some, true≢false, arith}
+use Rattle.std.proofs.Common.{ℕ, Bool, true, false, List, [], ◌∷◌, ◌≡◌, ◌<◌, ◌≤◌, ◌++◌, ◌⊎◌, inl, inr, length, map, refl, sym, ap, ◌∙◌, subst, Option, None, Some, true≢false, arith, ◌&&◌}
 use Rattle.std.specs.Prelude.{◌||◌, if◌then◌else◌}
 use Rattle.std.proofs.Math.Dec.{leb}
 use Rattle.std.proofs.lemmas.Bool.Decides.{leb_tells}
@@ -11,8 +11,9 @@ use Rattle.dft_netlist.specs.Drivers.{Source, Net, Tied, Loose, nets_of}
 use Rattle.dft_netlist.specs.Logic.{Cell, Force, Scan, reads}
 use Rattle.dft_netlist.specs.Settled.{value_from, value_given}
 use Rattle.dft_netlist.specs.Orders.{Has}
-use Rattle.dft_abstract.specs.Cycle.{Pulse, IsLeast, after_pulse}
-use Rattle.dft_logic.specs.Needs.{HasAll, IsStrobeClosed, IsStrobeOn, strobe_from, chosen_reads, taken_reads, reads_at, forced_reads, next_reads}
+use Rattle.dft_netlist.specs.Runs.{takes}
+use Rattle.dft_abstract.specs.Cycle.{Pulse, IsLeast, after_pulse, level_before}
+use Rattle.dft_logic.specs.Needs.{HasAll, IsStrobeClosed, still_from, chosen_reads, taken_reads, reads_at, forced_reads, next_reads, IsStillOn, IsBeforeOn}
 use Rattle.dft_logic.specs.Takes.{AreOrigins}
 use Rattle.dft_logic.specs.Shows.{Shown, IsShownOn}
 use Rattle.dft_logic.specs.Entries.{Entry, Keeps, Takes, Follows, Reads, Computes, entry_value}
@@ -27,6 +28,7 @@ use Rattle.dft_logic.proofs.EntryLemmas.{pass_of_needed}
 use Rattle.dft_logic.proofs.CircuitRanks.{circuit_ranked}
 use Rattle.dft_logic.specs.EntryTables.{scan_needs, entry_needs, entry_for}
 use Rattle.dft_logic.proofs.Writings.{cell_past}
+use Rattle.dft_logic.specs.ShownTables.{edges_of}
 
 -- ---- what a flip-flop needs
 
@@ -119,13 +121,13 @@ needs_closed x marked closed k need = elim (leb_tells (length x.ops.items) k) [
   | inr live ↦ all_needs (length x.ops.items) marked (reads (meaning (op_at x.ops.items k))) (closed k (or_only (flag_at marked k) (leb (length x.ops.items) k) live.0 need))
 ]
 
-pub needs_on : (x : Circuit) (ports flops : ℕ → Tri) (marked : List Bool) (values : List Tri) → length values ≡ length x.ops.items → IsStrobeOn (logic_at x) ports flops (flag_at marked) (value_at values) →
-    IsStrobeOn (logic_at x) ports flops (needs_of (length x.ops.items) marked) (value_at values)
+pub needs_on : (x : Circuit) (level : ℕ → Bool) (ports flops : ℕ → Tri) (marked : List Bool) (values : List Tri) → length values ≡ length x.ops.items → IsStillOn (logic_at x) level ports flops (flag_at marked) (value_at values) →
+    IsStillOn (logic_at x) level ports flops (needs_of (length x.ops.items) marked) (value_at values)
 unfolding logic_at
-needs_on x ports flops marked values len on k need = elim (leb_tells (length x.ops.items) k) [
+needs_on x level ports flops marked values len on k need = elim (leb_tells (length x.ops.items) k) [
   | inl out ↦ (let far : length values ≤ k = omega (arith, out.1, len) in
       get_or_past values k Unknown far
-      ∙ sym (ap (λ (o : Op). value_given (strobe_from ports flops (value_at values)) (value_at values) k (meaning o)) (get_or_past x.ops.items k Free out.1)))
+      ∙ sym (ap (λ (o : Op). value_given (still_from level ports flops (value_at values)) (value_at values) k (meaning o)) (get_or_past x.ops.items k Free out.1)))
   | inr live ↦ on k (or_only (flag_at marked k) (leb (length x.ops.items) k) live.0 need)
 ]
 
@@ -155,15 +157,15 @@ past_computes : (up : Bool) → or_keeps (past up) ≡ Computes → ⊥
 past_computes true is = absurd cc
 past_computes false is = absurd cc
 
--- What the parts give comes to the pulse at a least map.
+-- What the parts give comes to the phase at a least map.
 pub planned : (x : Circuit) (p : Pulse) (origin : ℕ → Option ℕ) (shown : ℕ → Shown) (table : ℕ → Entry) (marked : List Bool) (values next : List Tri) → (is : IsCircuit x) → (len : length values ≡ length x.ops.items) →
-    (origins : AreOrigins (logic_at x) origin) → (on : IsShownOn (logic_at x) p.pulsed (λ net. true) shown) → (closed : IsStrobeClosed (logic_at x) (flag_at marked)) → (settled : IsStrobeOn (logic_at x) p.ports p.old (flag_at marked) (value_at values)) →
+    (origins : AreOrigins (logic_at x) (level_before p) origin) → (on : IsShownOn (logic_at x) (edges_of p.rising p.pulsed) (λ net. true) shown) → (closed : IsStrobeClosed (logic_at x) (flag_at marked)) → (settled : IsBeforeOn (logic_at x) p (flag_at marked) (value_at values)) →
     (has : ((c : ℕ) → c < length x.flops.items → entry_for (cell_at (map cell_of x.flops.items) c) p origin shown (value_at values) ≡ Some (table c))) →
     (marks : ((c : ℕ) → c < length x.flops.items → (k : ℕ) → k < length x.ops.items → Has (entry_needs (cell_at (map cell_of x.flops.items) c) (table c)) k → flag_at marked k ≡ true)) →
-    (takes : ((c : ℕ) → c < length x.flops.items → value_at next c ≡ entry_value p.old (value_at values) (next_at (cell_at (map cell_of x.flops.items) c) p.ports (value_at values)) c (table c))) →
+    (gives : ((c : ℕ) → c < length x.flops.items → value_at next c ≡ entry_value p.old (value_at values) (next_at (cell_at (map cell_of x.flops.items) c) p.ports (value_at values)) c (table c))) →
     (poss : ℕ → Tri) × ((view : ℕ → ℕ → Tri) × (IsLeast (logic_at x) p poss view × ((c : ℕ) → c < length x.flops.items → value_at next c ≡ after_pulse (logic_at x) p view c)))
 unfolding logic_at
-planned x p origin shown table marked values next is len origins on closed settled has marks takes =
+planned x p origin shown table marked values next is len origins on closed settled has marks gives =
     let v : ℕ → Tri = value_at values in
     let count : ℕ = length x.ops.items in
     let cells : ℕ → Cell = cell_at (map cell_of x.flops.items) in
@@ -171,7 +173,7 @@ planned x p origin shown table marked values next is len origins on closed settl
     let entries : ℕ → Entry = λ c. or_keeps (found (cells c)) in
     let same : (c : ℕ) → c < length x.flops.items → entries c ≡ table c = λ c live. ap or_keeps (has c live) in
     let given : (c : ℕ) → found (cells c) ≡ Some (entries c) = λ c. elim (leb_tells (length x.flops.items) c) [
-      | inl out ↦ (let P : Cell → Type 0 = λ cell. found cell ≡ Some (or_keeps (found cell)) in subst P (sym (cell_past x.flops.items c out.1)) (past_there (p.pulsed 0)))
+      | inl out ↦ (let P : Cell → Type 0 = λ cell. found cell ≡ Some (or_keeps (found cell)) in subst P (sym (cell_past x.flops.items c out.1)) (past_there (p.pulsed 0 && takes p.rising false)))
       | inr live ↦ there (found (cells c)) (table c) (has c live.1)
     ] in
     let enables : (c : ℕ) (scan : Scan) → (cells c).scan ≡ Some scan → HasAll (needs_of count marked) (nets_of (scan.enable ∷ [])) = λ c scan at. elim (leb_tells (length x.flops.items) c) [
@@ -179,7 +181,7 @@ planned x p origin shown table marked values next is len origins on closed settl
       | inr live ↦ has_needs count marked (nets_of (scan.enable ∷ [])) (λ k less h. marks c live.1 k less (enable_needed k (cells c) (table c) scan at h))
     ] in
     let reading : (c net : ℕ) → entries c ≡ Reads net → needs_of count marked net ≡ true = λ c net at. elim (leb_tells (length x.flops.items) c) [
-      | inl out ↦ (let P : Cell → Type 0 = λ cell. or_keeps (found cell) ≡ Reads net in absurd (past_reads (p.pulsed 0) net (subst P (cell_past x.flops.items c out.1) at)))
+      | inl out ↦ (let P : Cell → Type 0 = λ cell. or_keeps (found cell) ≡ Reads net in absurd (past_reads (p.pulsed 0 && takes p.rising false) net (subst P (cell_past x.flops.items c out.1) at)))
       | inr live ↦ (let N : Entry → Type 0 = λ e. Has (entry_needs (cells c) e) net in
           (has_needs count marked (net ∷ []) (λ k less h. elim h [
             | inl e ↦ subst (λ (i : ℕ). flag_at marked i ≡ true) (sym e) (marks c live.1 net (subst (λ (i : ℕ). i < count) e less) (subst N (sym at ∙ same c live.1) (inl refl)))
@@ -187,18 +189,18 @@ planned x p origin shown table marked values next is len origins on closed settl
           ])).0)
     ] in
     let computing : (c : ℕ) → entries c ≡ Computes → HasAll (needs_of count marked) (nets_of (next_reads (cells c) p.ports (value_from v))) = λ c at. elim (leb_tells (length x.flops.items) c) [
-      | inl out ↦ (let P : Cell → Type 0 = λ cell. or_keeps (found cell) ≡ Computes in absurd (past_computes (p.pulsed 0) (subst P (cell_past x.flops.items c out.1) at)))
+      | inl out ↦ (let P : Cell → Type 0 = λ cell. or_keeps (found cell) ≡ Computes in absurd (past_computes (p.pulsed 0 && takes p.rising false) (subst P (cell_past x.flops.items c out.1) at)))
       | inr live ↦ has_needs count marked (nets_of (next_reads (cells c) p.ports (value_from v)))
           (λ k less h. (let N : Entry → Type 0 = λ e. Has (entry_needs (cells c) e) k in marks c live.1 k less (subst N (sym at ∙ same c live.1) (computes_needed k (cells c) p.ports (value_from v) h))))
     ] in
-    let pass = pass_of_needed (logic_at x) (rank_of x) p origin shown (needs_of count marked) v entries (circuit_ranked x is) origins on (needs_closed x marked closed) (needs_on x p.ports p.old marked values len settled)
+    let pass = pass_of_needed (logic_at x) (rank_of x) p origin shown (needs_of count marked) v entries (circuit_ranked x is) origins on (needs_closed x marked closed) (needs_on x (level_before p) p.ports p.old marked values len settled)
     given enables reading computing in (
       pass.0,
       (
         pass.1.0,
         (
           pass.1.1.0,
-          λ c live. takes c live
+          λ c live. gives c live
               ∙ ap (entry_value p.old v (next_at (cells c) p.ports v) c) (sym (same c live)) ∙ sym (pass.1.1.1 c),
         ),
       ),

@@ -1,6 +1,7 @@
 -- What a net and a flip-flop take depends on what they read.
-use Rattle.std.proofs.Common.{ℕ, Bool, true, false, List, [], ◌∷◌, ◌≡◌, ◌<◌, zero, suc, refl, sym, ap, subst, arith, ◌∙◌, Option, None, Some, map}
+use Rattle.std.proofs.Common.{ℕ, Bool, true, false, List, [], ◌∷◌, ◌≡◌, ◌<◌, ◌==◌, zero, suc, refl, sym, ap, subst, arith, ◌∙◌, Option, None, Some, map}
 use Rattle.std.specs.List.{AllByRecursion}
+use Rattle.std.specs.Prelude.{if◌then◌else◌}
 use Rattle.dft_base.specs.declared.tri.Tri.{Tri}
 use Rattle.dft_base.specs.declared.tri.Tri.TheVariants.{Zero, One, Unknown}
 use Rattle.dft_base.specs.Tri.{known}
@@ -9,9 +10,10 @@ use Rattle.dft_cells.specs.FlipFlops.{tri_forced, tri_chosen}
 use Rattle.dft_cells.proofs.TriLemmas.{chosen_one, chosen_zero}
 use Rattle.dft_netlist.specs.Drivers.{Source, Net, Tied, Loose, nets_of, AreBelow}
 use Rattle.dft_netlist.specs.Logic.{Logic, Cell, Force, Scan, Meaning, Input, Clock, Gate, Joined, Flop, Lockup, Free, reads, IsRanked}
-use Rattle.dft_netlist.specs.Settled.{TriSources, value_from, value_given}
+use Rattle.dft_netlist.specs.Settled.{TriSources, is_wire, value_from, value_given}
+use Rattle.dft_netlist.specs.Runs.{takes}
 use Rattle.dft_abstract.specs.Cycle.{Pulse, tri_forced_by, tri_taken_by, next_value}
-use Rattle.dft_logic.specs.Needs.{HasAll, read_in, IsReadClosed, chosen_reads, taken_reads, reads_at, forced_reads, next_reads}
+use Rattle.dft_logic.specs.Needs.{HasAll, shows_input, read_in, reads_in, still_from, IsReadClosed, chosen_reads, taken_reads, reads_at, forced_reads, next_reads}
 
 -- two assignments agree on these nets
 abbrev pub Agree : (v w : ℕ → Tri) → List ℕ → Type 0
@@ -43,44 +45,70 @@ rest_agree v w (Loose i pin) sources same = same
 -- ---- nets
 
 -- a net's driver gives it the same value from sources that agree for it, in assignments that agree on what it reads
-pub given_agrees : (t s : TriSources) (v w : ℕ → ℕ → Tri) (d net : ℕ) (m : Meaning) →
+pub given_agrees : (p : Pulse) (t s : TriSources) (v w : ℕ → ℕ → Tri) (d net : ℕ) (m : Meaning) →
     ((k : ℕ) → t.ports k ≡ s.ports k) → (m ≡ Clock → t.clocks net ≡ s.clocks net) → ((c : ℕ) (inverted : Bool) → m ≡ Flop c inverted → t.flops c ≡ s.flops c) →
-    ((c e : ℕ) (source : Source) → value_from (v e) source ≡ value_from (w e) source → t.lockups c e source ≡ s.lockups c e source) →
-    Agree (v (read_in d m)) (w (read_in d m)) (reads m) → value_given t (v d) net m ≡ value_given s (w d) net m
-given_agrees t s v w d net Input ports clocks flops lockups same = ports net
-given_agrees t s v w d net Clock ports clocks flops lockups same = clocks refl
-given_agrees t s v w d net (Gate kind inputs) ports clocks flops lockups same = ap (tri_of kind) (inputs_agree (v d) (w d) inputs same)
-given_agrees t s v w d net (Joined source) ports clocks flops lockups same = source_agrees (v d) (w d) source same
-given_agrees t s v w d net (Flop c inverted) ports clocks flops lockups same = rw (flops c inverted refl) refl
-given_agrees t s v w d net (Lockup c e source) ports clocks flops lockups same = lockups c e source (source_agrees (v e) (w e) source same)
-given_agrees t s v w d net Free ports clocks flops lockups same = refl
+    ((c e : ℕ) (high : Bool) (source : Source) → m ≡ Lockup c e high source → Agree (v (if takes p.rising high then e else d)) (w (if takes p.rising high then e else d)) (if shows_input p.rising (p.pulsed e) (e == d) high then nets_of (source ∷ []) else []) →
+    t.lockups c e high source ≡ s.lockups c e high source) →
+    Agree (v (read_in p d m)) (w (read_in p d m)) (reads_in p d m) → value_given t (v d) net m ≡ value_given s (w d) net m
+given_agrees p t s v w d net Input ports clocks flops lockups same = ports net
+given_agrees p t s v w d net Clock ports clocks flops lockups same = clocks refl
+given_agrees p t s v w d net (Gate kind inputs) ports clocks flops lockups same = ap (tri_of kind) (inputs_agree (v d) (w d) inputs same)
+given_agrees p t s v w d net (Joined source) ports clocks flops lockups same = source_agrees (v d) (w d) source same
+given_agrees p t s v w d net (Flop c inverted) ports clocks flops lockups same = rw (flops c inverted refl) refl
+given_agrees p t s v w d net (Lockup c e high source) ports clocks flops lockups same = lockups c e high source refl same
+given_agrees p t s v w d net Free ports clocks flops lockups same = refl
+
+-- while clocks have the same levels, in assignments that agree on what it reads
+pub still_agrees : (level : ℕ → Bool) (ports flops v w : ℕ → Tri) (net : ℕ) (m : Meaning) → Agree v w (reads m) → value_given (still_from level ports flops v) v net m ≡ value_given (still_from level ports flops w) w net m
+still_agrees level ports flops v w net Input same = refl
+still_agrees level ports flops v w net Clock same = refl
+still_agrees level ports flops v w net (Gate kind inputs) same = ap (tri_of kind) (inputs_agree v w inputs same)
+still_agrees level ports flops v w net (Joined source) same = source_agrees v w source same
+still_agrees level ports flops v w net (Flop c inverted) same = refl
+still_agrees level ports flops v w net (Lockup c e high source) same = ap (λ (t : Tri). if is_wire high (level e) then t else flops c) (source_agrees v w source same)
+still_agrees level ports flops v w net Free same = refl
+
+-- what a net reads in a phase it reads
+reads_below : (rank : ℕ → ℕ) (r : ℕ) (p : Pulse) (d : ℕ) (m : Meaning) → AreBelow rank r (reads m) → AreBelow rank r (reads_in p d m)
+reads_below rank r p d Input below = below
+reads_below rank r p d Clock below = below
+reads_below rank r p d (Gate kind inputs) below = below
+reads_below rank r p d (Joined source) below = below
+reads_below rank r p d (Flop c inverted) below = below
+reads_below rank r p d (Lockup c e high source) below = if_below rank r (shows_input p.rising (p.pulsed e) (e == d) high) (nets_of (source ∷ [])) below where
+  if_below : (rank : ℕ → ℕ) (r : ℕ) (b : Bool) (nets : List ℕ) → AreBelow rank r nets → AreBelow rank r (if b then nets else [])
+  if_below rank r true nets below = below
+  if_below rank r false nets below = tt
+reads_below rank r p d Free below = below
 
 -- what nets of lower ranks in the set have in common, those that are read have
-all_agree : (rank : ℕ → ℕ) (r : ℕ) (needs : ℕ → Bool) (v w : ℕ → Tri) (nets : List ℕ) → AreBelow rank r nets → HasAll needs nets → ((k : ℕ) → rank k < r → needs k ≡ true → v k ≡ w k) → Agree v w nets
+pub all_agree : (rank : ℕ → ℕ) (r : ℕ) (needs : ℕ → Bool) (v w : ℕ → Tri) (nets : List ℕ) → AreBelow rank r nets → HasAll needs nets → ((k : ℕ) → rank k < r → needs k ≡ true → v k ≡ w k) → Agree v w nets
 all_agree rank r needs v w [] below all same = tt
 all_agree rank r needs v w (net ∷ nets) below all same = (same net below.0 all.0, all_agree rank r needs v w nets below.1 all.1 same)
 
-needed_within : (l : Logic) (rank : ℕ → ℕ) (t s : ℕ → TriSources) (needs : ℕ → ℕ → Bool) (v w : ℕ → ℕ → Tri) → (ranked : IsRanked l rank) → (closed : IsReadClosed l needs) →
+needed_within : (l : Logic) (rank : ℕ → ℕ) (p : Pulse) (t s : ℕ → TriSources) (needs : ℕ → ℕ → Bool) (v w : ℕ → ℕ → Tri) → (ranked : IsRanked l rank) → (closed : IsReadClosed l p needs) →
     (tv : ((d net : ℕ) → needs d net ≡ true → v d net ≡ value_given (t d) (v d) net (l.net net))) → (sw : ((d net : ℕ) → needs d net ≡ true → w d net ≡ value_given (s d) (w d) net (l.net net))) →
     (ports : ((d k : ℕ) → (t d).ports k ≡ (s d).ports k)) → (clocks : ((d net : ℕ) → needs d net ≡ true → l.net net ≡ Clock → (t d).clocks net ≡ (s d).clocks net)) →
     (flops : ((d net : ℕ) → needs d net ≡ true → (c : ℕ) (inverted : Bool) → l.net net ≡ Flop c inverted → (t d).flops c ≡ (s d).flops c)) →
-    (lockups : ((d c e : ℕ) (source : Source) → value_from (v e) source ≡ value_from (w e) source → (t d).lockups c e source ≡ (s d).lockups c e source)) →
+    (lockups : ((d net : ℕ) → needs d net ≡ true → (c e : ℕ) (high : Bool) (source : Source) → l.net net ≡ Lockup c e high source → Agree (v (if takes p.rising high then e else d)) (w (if takes p.rising high then e else d)) (if shows_input p.rising (p.pulsed e) (e == d) high then nets_of (source ∷ []) else []) →
+    (t d).lockups c e high source ≡ (s d).lockups c e high source)) →
     (fuel d net : ℕ) → (less : rank net < fuel) → (need : needs d net ≡ true) → v d net ≡ w d net
-needed_within l rank t s needs v w ranked closed tv sw ports clocks flops lockups zero d net less need = absurd (omega arith)
-needed_within l rank t s needs v w ranked closed tv sw ports clocks flops lockups (suc fuel) d net less need =
-    let e : ℕ = read_in d (l.net net) in
-    let same : Agree (v e) (w e) (reads (l.net net)) = all_agree rank (rank net) (needs e) (v e) (w e) (reads (l.net net)) (ranked.order net) (closed d net need)
-    (λ k below has. needed_within l rank t s needs v w ranked closed tv sw ports clocks flops lockups fuel e k (omega arith) has) in
-    tv d net need ∙ given_agrees (t d) (s d) v w d net (l.net net) (ports d) (clocks d net need) (flops d net need) (lockups d) same ∙ sym (sw d net need)
+needed_within l rank p t s needs v w ranked closed tv sw ports clocks flops lockups zero d net less need = absurd (omega arith)
+needed_within l rank p t s needs v w ranked closed tv sw ports clocks flops lockups (suc fuel) d net less need =
+    let e : ℕ = read_in p d (l.net net) in
+    let same : Agree (v e) (w e) (reads_in p d (l.net net)) = all_agree rank (rank net) (needs e) (v e) (w e) (reads_in p d (l.net net)) (reads_below rank (rank net) p d (l.net net) (ranked.order net)) (closed d net need)
+    (λ k below has. needed_within l rank p t s needs v w ranked closed tv sw ports clocks flops lockups fuel e k (omega arith) has) in
+    tv d net need ∙ given_agrees p (t d) (s d) v w d net (l.net net) (ports d) (clocks d net need) (flops d net need) (lockups d net need) same ∙ sym (sw d net need)
 
 -- two families of assignments, each settled on a closed set from sources that agree for its nets, agree on it
-pub needed_agrees : (l : Logic) (rank : ℕ → ℕ) (t s : ℕ → TriSources) (needs : ℕ → ℕ → Bool) (v w : ℕ → ℕ → Tri) → (ranked : IsRanked l rank) → (closed : IsReadClosed l needs) →
+pub needed_agrees : (l : Logic) (rank : ℕ → ℕ) (p : Pulse) (t s : ℕ → TriSources) (needs : ℕ → ℕ → Bool) (v w : ℕ → ℕ → Tri) → (ranked : IsRanked l rank) → (closed : IsReadClosed l p needs) →
     (tv : ((d net : ℕ) → needs d net ≡ true → v d net ≡ value_given (t d) (v d) net (l.net net))) → (sw : ((d net : ℕ) → needs d net ≡ true → w d net ≡ value_given (s d) (w d) net (l.net net))) →
     (ports : ((d k : ℕ) → (t d).ports k ≡ (s d).ports k)) → (clocks : ((d net : ℕ) → needs d net ≡ true → l.net net ≡ Clock → (t d).clocks net ≡ (s d).clocks net)) →
     (flops : ((d net : ℕ) → needs d net ≡ true → (c : ℕ) (inverted : Bool) → l.net net ≡ Flop c inverted → (t d).flops c ≡ (s d).flops c)) →
-    (lockups : ((d c e : ℕ) (source : Source) → value_from (v e) source ≡ value_from (w e) source → (t d).lockups c e source ≡ (s d).lockups c e source)) →
+    (lockups : ((d net : ℕ) → needs d net ≡ true → (c e : ℕ) (high : Bool) (source : Source) → l.net net ≡ Lockup c e high source → Agree (v (if takes p.rising high then e else d)) (w (if takes p.rising high then e else d)) (if shows_input p.rising (p.pulsed e) (e == d) high then nets_of (source ∷ []) else []) →
+    (t d).lockups c e high source ≡ (s d).lockups c e high source)) →
     (d net : ℕ) → (need : needs d net ≡ true) → v d net ≡ w d net
-needed_agrees l rank t s needs v w ranked closed tv sw ports clocks flops lockups d net need = needed_within l rank t s needs v w ranked closed tv sw ports clocks flops lockups (suc (rank net)) d net (omega arith) need
+needed_agrees l rank p t s needs v w ranked closed tv sw ports clocks flops lockups d net need = needed_within l rank p t s needs v w ranked closed tv sw ports clocks flops lockups (suc (rank net)) d net (omega arith) need
 
 -- ---- next values
 

@@ -1,5 +1,5 @@
 -- Views rise from the strobe with the map.
-use Rattle.std.proofs.Common.{ℕ, Bool, true, false, List, [], ◌∷◌, ◌≡◌, ◌<◌, ◌==◌, zero, suc, refl, arith, Option, None, Some}
+use Rattle.std.proofs.Common.{ℕ, Bool, true, false, not, ◌&&◌, List, [], ◌∷◌, ◌≡◌, ◌<◌, ◌==◌, zero, suc, refl, arith, Option, None, Some}
 use Rattle.std.specs.Prelude.{if◌then◌else◌}
 use Rattle.dft_base.specs.declared.tri.Tri.{Tri}
 use Rattle.dft_base.specs.declared.tri.Tri.TheVariants.{Zero, One, Unknown}
@@ -9,10 +9,11 @@ use Rattle.dft_netlist.specs.Drivers.{Source, Net, Tied, Loose, nets_of}
 use Rattle.dft_netlist.specs.Logic.{Logic, Force, Scan, IsRanked}
 use Rattle.dft_netlist.specs.Settled.{value_from}
 use Rattle.dft_netlist.proofs.Meanings.{source_over, source_monotone, meaning_monotone, at_nets}
-use Rattle.dft_abstract.specs.Cycle.{Pulse, view_sources, AreViews}
-use Rattle.dft_abstract.proofs.Views.{family}
+use Rattle.dft_abstract.specs.Cycle.{Pulse, changes, view_sources, AreViews}
 use Rattle.dft_abstract.proofs.Least.{views_monotone}
-use Rattle.dft_logic.specs.Needs.{HasAll, strobe_from, IsStrobe, chosen_reads, taken_reads, reads_at, forced_reads}
+use Rattle.dft_logic.specs.Needs.{HasAll, before_from, IsBefore, chosen_reads, taken_reads, reads_at, forced_reads}
+use Rattle.dft_logic.proofs.LockupLemmas.{shown_above}
+use Rattle.dft_logic.proofs.ShownLemmas.{before_there}
 use Rattle.dft_logic.specs.Laws.{ViewIsAboveStrobe, NoTwoBits, ViewsRise, ReadsRise}
 
 over_old : (up own : Bool) (old poss : Tri) → AboveTri poss old → AboveTri (if up then (if own then old else poss) else old) old
@@ -20,20 +21,21 @@ over_old false own old poss h = above_self old
 over_old true true old poss h = above_self old
 over_old true false old poss h = h
 
-over_low : (up own : Bool) → AboveTri (if up then (if own then Zero else Unknown) else Zero) Zero
-over_low false own = tt
-over_low true true = tt
-over_low true false = tt
+over_low : (up own rising : Bool) → AboveTri (if up then (if own then known (not rising) else Unknown) else Zero) (known (up && not rising))
+over_low false own rising = tt
+over_low true true rising = above_self (known (not rising))
+over_low true false rising = tt
 
 above_within : (l : Logic) (rank : ℕ → ℕ) (p : Pulse) (poss : ℕ → Tri) (view : ℕ → ℕ → Tri) (settled : ℕ → Tri) → IsRanked l rank → ((c : ℕ) → AboveTri (poss c) (p.old c)) → AreViews l p poss view →
-    IsStrobe l p.ports p.old settled → (fuel d net : ℕ) → rank net < fuel → AboveTri (view d net) (settled net)
+    IsBefore l p settled → (fuel d net : ℕ) → rank net < fuel → AboveTri (view d net) (settled net)
 above_within l rank p poss view settled ranked over views strobe zero d net less = absurd (omega arith)
 above_within l rank p poss view settled ranked over views strobe (suc fuel) d net less =
     let ih : (e k : ℕ) → rank k < rank net → AboveTri (view e k) (settled k) = λ e k below. above_within l rank p poss view settled ranked over views strobe fuel e k (omega arith) in
     at_nets _ _ _ _ (views d net) (strobe net)
-    (meaning_monotone rank (view_sources l p poss view d) (strobe_from p.ports p.old settled) (view d) settled net
-    (λ k. above_self (p.ports k)) (λ e. over_low (p.pulsed e) (e == d)) (λ c. over_old (p.pulsed (l.cell c).domain) ((l.cell c).domain == d) (p.old c) (poss c) (over c))
-    (l.net net) (ranked.order net) (ih d) (λ c e source below. source_monotone rank (rank net) (view e) settled source below (ih e)))
+    (meaning_monotone rank (view_sources l p poss view d) (before_from p settled) (view d) settled net
+    (λ k. above_self (p.ports k)) (λ e. over_low (p.pulsed e) (e == d) p.rising) (λ c. over_old (changes l p c) ((l.cell c).domain == d) (p.old c) (poss c) (over c))
+    (l.net net) (ranked.order net) (ih d) (λ c e high source below. shown_above p.rising (p.pulsed e) (e == d) high (p.old c) _ _ (value_from settled source)
+    (source_monotone rank (rank net) (view d) settled source below (ih d)) (source_monotone rank (rank net) (view e) settled source below (ih e))))
 
 pub view_is_above_strobe : ViewIsAboveStrobe
 view_is_above_strobe l rank p poss view settled ranked over views strobe d net = above_within l rank p poss view settled ranked over views strobe (suc (rank net)) d net (omega arith)
@@ -54,10 +56,10 @@ known_over t u a is h = rw is at h
 
 pub no_two_bits : NoTwoBits
 no_two_bits l rank p poss other view its ranked over above views others d e net a b is was =
-    let found = family l rank (λ d. strobe_from p.ports p.old (λ k. Unknown)) (λ d e. d) ranked in
-    one_bit a b (found.0 0 net)
-    (known_over (view d net) (found.0 0 net) a is (view_is_above_strobe l rank p poss view (found.0 0) ranked over views (found.1 0) d net))
-    (known_over (its e net) (found.0 0 net) b was (view_is_above_strobe l rank p other its (found.0 0) ranked above others (found.1 0) e net))
+    let found = before_there l rank p ranked in
+    one_bit a b (found.0 net)
+    (known_over (view d net) (found.0 net) a is (view_is_above_strobe l rank p poss view found.0 ranked over views found.1 d net))
+    (known_over (its e net) (found.0 net) b was (view_is_above_strobe l rank p other its found.0 ranked above others found.1 e net))
 
 pub views_rise : ViewsRise
 views_rise l rank p high low view its ranked over highs lows = views_monotone l rank p high low view its ranked highs lows over

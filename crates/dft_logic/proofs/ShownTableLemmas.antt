@@ -4,17 +4,17 @@ use Rattle.std.specs.List.{AllByRecursion}
 use Rattle.std.proofs.lemmas.List.{get_or_past}
 use Rattle.std.proofs.lemmas.Bool.Decides.{leb_tells}
 use Rattle.dft_netlist.specs.Drivers.{Source, Net, Tied, Loose, nets_of}
-use Rattle.dft_netlist.specs.Logic.{Cell, Input, Clock, Gate, Joined, Flop, Lockup, Free}
+use Rattle.dft_netlist.specs.Logic.{Cell, Meaning, Input, Clock, Gate, Joined, Flop, Lockup, Free}
 use Rattle.dft_logic.specs.Shows as shows
-use Rattle.dft_logic.specs.Shows.{with_shown, shown_by, lockup_shown, IsShownOn}
+use Rattle.dft_logic.specs.Shows.{with_shown, shown_by, lockup_shown, IsShownOn, shown_given}
 use Rattle.dft_logic.specs.declared.circuit.Operand.{Operand}
 use Rattle.dft_logic.specs.declared.circuit.Op.{Op}
 use Rattle.dft_logic.specs.declared.circuit.Op.TheVariants as op
 use Rattle.dft_logic.specs.declared.circuit.Circuit.{Circuit}
 use Rattle.dft_logic.specs.declared.shown.Shown.{Shown}
 use Rattle.dft_logic.specs.declared.shown.Shown.TheVariants.{Nothing}
-use Rattle.dft_logic.specs.Circuit.{source_at, meaning, logic_at, cell_of, IsCircuit}
-use Rattle.dft_logic.specs.ShownTables.{shown_of, shown_at, shown_in}
+use Rattle.dft_logic.specs.Circuit.{source_at, meaning, logic_at, cell_of, IsCircuit, op_at}
+use Rattle.dft_logic.specs.ShownTables.{shown_of, shown_at, shown_in, edges_of}
 use Rattle.dft_logic.proofs.Fillings.{Depends, Filling, filling_ends}
 
 -- ---- the inputs of a gate
@@ -47,23 +47,34 @@ nets_agree : (P : ℕ → Type 0) (v w : ℕ → shows.Shown) (nets : List ℕ) 
 nets_agree P v w [] all same = refl
 nets_agree P v w (net ∷ nets) all same = rw (same net all.0, nets_agree P v w nets all.1 same) refl
 
-pub shown_depends : (cells : List Cell) (pulsed : ℕ → Bool) → Depends (shown_in cells pulsed)
-shown_depends cells pulsed P v w net Input all same = refl
-shown_depends cells pulsed P v w net Clock all same = refl
-shown_depends cells pulsed P v w net (Gate kind inputs) all same = nets_agree P v w (nets_of inputs) all same
-shown_depends cells pulsed P v w net (Joined source) all same = nets_agree P v w (nets_of (source ∷ [])) all same
-shown_depends cells pulsed P v w net (Flop c inverted) all same = refl
-shown_depends cells pulsed P v w net (Lockup c e source) all same = ap (lockup_shown e) (nets_agree P v w (nets_of (source ∷ [])) all same)
-shown_depends cells pulsed P v w net Free all same = refl
+pub shown_depends : (cells : List Cell) (rising : Bool) (pulsed : ℕ → Bool) → Depends (shown_in cells rising pulsed)
+shown_depends cells rising pulsed P v w net Input all same = refl
+shown_depends cells rising pulsed P v w net Clock all same = refl
+shown_depends cells rising pulsed P v w net (Gate kind inputs) all same = nets_agree P v w (nets_of inputs) all same
+shown_depends cells rising pulsed P v w net (Joined source) all same = nets_agree P v w (nets_of (source ∷ [])) all same
+shown_depends cells rising pulsed P v w net (Flop c inverted) all same = refl
+shown_depends cells rising pulsed P v w net (Lockup c e high source) all same = ap (lockup_shown rising (pulsed e) high e) (nets_agree P v w (nets_of (source ∷ [])) all same)
+shown_depends cells rising pulsed P v w net Free all same = refl
 
 -- ---- the whole table
 
-pub all_shown : (x : Circuit) (pulsed : ℕ → Bool) (shown : List Shown) (j : ℕ) → IsCircuit x → length shown ≡ length x.ops.items → length x.order.items ≤ j →
-    Filling shown_of Nothing (shown_in (map cell_of x.flops.items) pulsed) x.ops.items x.order.items shown j → IsShownOn (logic_at x) pulsed (λ net. true) (shown_at shown)
+meaning_shown : (x : Circuit) (rising : Bool) (pulsed : ℕ → Bool) (shown : ℕ → shows.Shown) (net : ℕ) (m : Meaning) → shown_in (map cell_of x.flops.items) rising pulsed shown net m ≡ shown_given (logic_at x) (edges_of rising pulsed) shown net m
 unfolding logic_at
-all_shown x pulsed shown j is len past s net need = elim (leb_tells (length x.ops.items) net) [
+meaning_shown x rising pulsed shown net Input = refl
+meaning_shown x rising pulsed shown net Clock = refl
+meaning_shown x rising pulsed shown net (Gate kind inputs) = refl
+meaning_shown x rising pulsed shown net (Joined source) = refl
+meaning_shown x rising pulsed shown net (Flop c inverted) = refl
+meaning_shown x rising pulsed shown net (Lockup c e high source) = refl
+meaning_shown x rising pulsed shown net Free = refl
+
+pub all_shown : (x : Circuit) (rising : Bool) (pulsed : ℕ → Bool) (shown : List Shown) (j : ℕ) → IsCircuit x → length shown ≡ length x.ops.items → length x.order.items ≤ j →
+    Filling shown_of Nothing (shown_in (map cell_of x.flops.items) rising pulsed) x.ops.items x.order.items shown j → IsShownOn (logic_at x) (edges_of rising pulsed) (λ net. true) (shown_at shown)
+unfolding logic_at
+all_shown x rising pulsed shown j is len past s net need = elim (leb_tells (length x.ops.items) net) [
   | inl out ↦ (let far : length shown ≤ net = omega (arith, out.1) in
       ap shown_of (get_or_past shown net Nothing far)
-      ∙ sym (ap (λ (o : Op). shown_in (map cell_of x.flops.items) pulsed (shown_at shown) net (meaning o)) (get_or_past x.ops.items net op.Free out.1)))
-  | inr live ↦ filling_ends shown_of Nothing (shown_in (map cell_of x.flops.items) pulsed) x.ops.items x.order.items shown j past s net (is.whole net live.1)
+      ∙ sym (ap (λ (o : Op). shown_given (logic_at x) (edges_of rising pulsed) (shown_at shown) net (meaning o)) (get_or_past x.ops.items net op.Free out.1)))
+  | inr live ↦ filling_ends shown_of Nothing (shown_in (map cell_of x.flops.items) rising pulsed) x.ops.items x.order.items shown j past s net (is.whole net live.1)
+      ∙ meaning_shown x rising pulsed (shown_at shown) net (meaning (op_at x.ops.items net))
 ]

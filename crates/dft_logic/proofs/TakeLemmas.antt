@@ -1,5 +1,6 @@
 -- What a next value at a strobe takes.
 use Rattle.std.proofs.Common.{ℕ, Bool, true, false, [], ◌∷◌, ◌≡◌, ◌<◌, zero, suc, refl, sym, ap, arith, ◌∙◌, Option, None, Some}
+use Rattle.std.specs.Prelude.{if◌then◌else◌}
 use Rattle.dft_base.specs.declared.tri.Tri.{Tri}
 use Rattle.dft_base.specs.declared.tri.Tri.TheVariants.{Zero, One, Unknown}
 use Rattle.dft_base.specs.Tri.{known}
@@ -7,18 +8,18 @@ use Rattle.dft_cells.specs.FlipFlops.{tri_forced, tri_chosen}
 use Rattle.dft_cells.proofs.TriLemmas.{forced_one, chosen_one, chosen_zero}
 use Rattle.dft_netlist.specs.Drivers.{Source, Net, Tied, Loose, nets_of, AreBelow}
 use Rattle.dft_netlist.specs.Logic.{Logic, Force, Scan, Meaning, Input, Clock, Gate, Joined, Flop, Lockup, Free, reads, IsRanked}
-use Rattle.dft_netlist.specs.Settled.{value_from, value_given}
+use Rattle.dft_netlist.specs.Settled.{is_wire, value_from, value_given}
 use Rattle.dft_abstract.specs.Cycle.{tri_forced_by, tri_taken_by}
-use Rattle.dft_logic.specs.Needs.{strobe_from, IsStrobe, next_reads}
+use Rattle.dft_logic.specs.Needs.{still_from, IsStillFrom, next_reads}
 use Rattle.dft_logic.specs.Takes.{chosen_source, taken_source, source_at, forced_source, origin_of, origin_given, AreOrigins}
 use Rattle.dft_logic.specs.Laws.{NextOfStrobe, NextOfSource, NextOfForce, OriginIsShown}
 use Rattle.dft_logic.proofs.ReadLemmas.{next_agrees, set_agrees}
-use Rattle.dft_logic.proofs.NeededLemmas.{needed_is_strobe}
+use Rattle.dft_logic.proofs.NeededLemmas.{needed_before}
 
 pub next_of_strobe : NextOfStrobe
 next_of_strobe l rank p needs values settled ranked closed given strobe c has =
     next_agrees l p c (λ d. values) (λ d. settled)
-    (set_agrees needs values settled (nets_of (next_reads (l.cell c) p.ports (value_from values))) has (needed_is_strobe l rank p.ports p.old needs values settled ranked closed given strobe))
+    (set_agrees needs values settled (nets_of (next_reads (l.cell c) p.ports (value_from values))) has (needed_before l rank p needs values settled ranked closed given strobe))
 
 -- ---- one source
 
@@ -70,24 +71,28 @@ source_origin rank r origin flops settled c (Net net) below same is = same net b
 source_origin rank r origin flops settled c (Tied bit) below same is = absurd cc
 source_origin rank r origin flops settled c (Loose i pin) below same is = absurd cc
 
-origin_step : (rank : ℕ → ℕ) (r : ℕ) (origin : ℕ → Option ℕ) (ports flops settled : ℕ → Tri) (net c : ℕ) (m : Meaning) → AreBelow rank r (reads m) → ((k : ℕ) → rank k < r → origin k ≡ Some c → settled k ≡ flops c) →
-    origin_given origin m ≡ Some c → value_given (strobe_from ports flops settled) settled net m ≡ flops c
-origin_step rank r origin ports flops settled net c Input below same is = absurd cc
-origin_step rank r origin ports flops settled net c Clock below same is = absurd cc
-origin_step rank r origin ports flops settled net c (Gate kind inputs) below same is = absurd cc
-origin_step rank r origin ports flops settled net c (Joined source) below same is = source_origin rank r origin flops settled c source below same is
-origin_step rank r origin ports flops settled net c (Flop cell true) below same is = absurd cc
-origin_step rank r origin ports flops settled net c (Flop cell false) below same is = let e : cell ≡ c = cc in ap flops e
-origin_step rank r origin ports flops settled net c (Lockup cell e source) below same is = source_origin rank r origin flops settled c source below same is
-origin_step rank r origin ports flops settled net c Free below same is = absurd cc
+lock_origin : (wire : Bool) (found : Option ℕ) (cell c : ℕ) (value : Tri) (flops : ℕ → Tri) → (if wire then found else Some cell) ≡ Some c → (found ≡ Some c → value ≡ flops c) → (if wire then value else flops cell) ≡ flops c
+lock_origin true found cell c value flops is same = same is
+lock_origin false found cell c value flops is same = (let e : cell ≡ c = cc in ap flops e)
 
-origin_within : (l : Logic) (rank : ℕ → ℕ) (origin : ℕ → Option ℕ) (ports flops settled : ℕ → Tri) → IsRanked l rank → AreOrigins l origin → IsStrobe l ports flops settled →
+origin_step : (rank : ℕ → ℕ) (r : ℕ) (origin : ℕ → Option ℕ) (level : ℕ → Bool) (ports flops settled : ℕ → Tri) (net c : ℕ) (m : Meaning) → AreBelow rank r (reads m) → ((k : ℕ) → rank k < r → origin k ≡ Some c → settled k ≡ flops c) →
+    origin_given level origin m ≡ Some c → value_given (still_from level ports flops settled) settled net m ≡ flops c
+origin_step rank r origin level ports flops settled net c Input below same is = absurd cc
+origin_step rank r origin level ports flops settled net c Clock below same is = absurd cc
+origin_step rank r origin level ports flops settled net c (Gate kind inputs) below same is = absurd cc
+origin_step rank r origin level ports flops settled net c (Joined source) below same is = source_origin rank r origin flops settled c source below same is
+origin_step rank r origin level ports flops settled net c (Flop cell true) below same is = absurd cc
+origin_step rank r origin level ports flops settled net c (Flop cell false) below same is = let e : cell ≡ c = cc in ap flops e
+origin_step rank r origin level ports flops settled net c (Lockup cell e high source) below same is = lock_origin (is_wire high (level e)) (origin_of origin source) cell c (value_from settled source) flops is (λ at. source_origin rank r origin flops settled c source below same at)
+origin_step rank r origin level ports flops settled net c Free below same is = absurd cc
+
+origin_within : (l : Logic) (rank : ℕ → ℕ) (origin : ℕ → Option ℕ) (level : ℕ → Bool) (ports flops settled : ℕ → Tri) → IsRanked l rank → AreOrigins l level origin → IsStillFrom l level ports flops settled →
     (fuel net c : ℕ) → rank net < fuel → origin net ≡ Some c → settled net ≡ flops c
-origin_within l rank origin ports flops settled ranked origins strobe zero net c less is = absurd (omega arith)
-origin_within l rank origin ports flops settled ranked origins strobe (suc fuel) net c less is =
+origin_within l rank origin level ports flops settled ranked origins strobe zero net c less is = absurd (omega arith)
+origin_within l rank origin level ports flops settled ranked origins strobe (suc fuel) net c less is =
     strobe net
-    ∙ origin_step rank (rank net) origin ports flops settled net c (l.net net) (ranked.order net)
-    (λ k below has. origin_within l rank origin ports flops settled ranked origins strobe fuel k c (omega arith) has) (sym (origins net) ∙ is)
+    ∙ origin_step rank (rank net) origin level ports flops settled net c (l.net net) (ranked.order net)
+    (λ k below has. origin_within l rank origin level ports flops settled ranked origins strobe fuel k c (omega arith) has) (sym (origins net) ∙ is)
 
 pub origin_is_shown : OriginIsShown
-origin_is_shown l rank origin ports flops settled ranked origins strobe net c is = origin_within l rank origin ports flops settled ranked origins strobe (suc (rank net)) net c (omega arith) is
+origin_is_shown l rank origin level ports flops settled ranked origins strobe net c is = origin_within l rank origin level ports flops settled ranked origins strobe (suc (rank net)) net c (omega arith) is

@@ -1,14 +1,14 @@
 -- A design made ready for settling: what each net takes its value from, and the flip-flop or lock-up of each instance.
-use Rattle.std.specs.Prelude.{ℕ, Bool, false, ◌≡◌, ◌<◌, List, [], ◌∷◌, map, length, Option, None, Some, slice_index_or, option_map}
+use Rattle.std.specs.Prelude.{ℕ, Bool, false, ◌≡◌, ◌<◌, ◌==◌, ◌&&◌, List, [], ◌∷◌, map, length, Option, None, Some, slice_index_or, if◌then◌else◌}
 use Rattle.std.specs.List.{AllByRecursion}
 use Rattle.dft_base.specs.declared.tri.Tri.{Tri}
-use Rattle.dft_base.specs.declared.tri.Tri.TheVariants.{Unknown}
+use Rattle.dft_base.specs.Tri.{known}
 use Rattle.dft_cells.specs.WellFormed.{TakesInputs}
 use Rattle.dft_netlist.specs.Drivers.{Source}
 use Rattle.dft_netlist.specs.Drivers as drivers
 use Rattle.dft_netlist.specs.Logic.{Logic, Meaning, Cell, Scan, Force, reads, lockup_cell, no_cell}
 use Rattle.dft_netlist.specs.Logic as meanings
-use Rattle.dft_netlist.specs.Settled.{TriSources, value_from, value_given}
+use Rattle.dft_netlist.specs.Settled.{TriSources, is_wire, value_from, value_given}
 use Rattle.dft_netlist.specs.Orders.{Has, numbers_of}
 use Rattle.dft_logic.specs.declared.circuit.Operand.{Operand}
 use Rattle.dft_logic.specs.declared.circuit.Operand.TheVariants.{Net, Tied, Loose}
@@ -21,7 +21,8 @@ use Rattle.dft_logic.specs.declared.circuit.Circuit.{Circuit}
 use Rattle.dft_logic.specs.declared.circuit.Latch.{Latch}
 use Rattle.dft_logic.specs.declared.settling.Pulse.{Pulse}
 use Rattle.dft_logic.specs.declared.settling.View.{View}
-use Rattle.dft_abstract.specs.Cycle.{view_sources, tri_forced_by, tri_taken_by}
+use Rattle.dft_netlist.specs.Runs.{takes}
+use Rattle.dft_abstract.specs.Cycle.{tri_forced_by, tri_taken_by, level_before, clock_value, lockup_shown}
 use Rattle.dft_abstract.specs.Cycle as Cycle
 use Rattle.dft_logic.specs.Values.{value_at}
 use Rattle.dft_logic.specs.Tables.{IsTable}
@@ -39,7 +40,7 @@ meaning Clock = meanings.Clock
 meaning (Gate kind inputs) = meanings.Gate kind (map source_at inputs)
 meaning (Joined source) = meanings.Joined (source_at source)
 meaning (Flop instance inverted) = meanings.Flop instance.0 inverted
-meaning (Lockup instance domain source) = meanings.Lockup instance.0 domain.0 (source_at source)
+meaning (Lockup instance domain high source) = meanings.Lockup instance.0 domain.0 high (source_at source)
 meaning Free = meanings.Free
 
 abbrev pub scan_at : Option ScanPins → Option Scan
@@ -51,7 +52,7 @@ force_at None = None
 force_at (Some acting) = Some (record { port = acting.port.0; value = acting.value })
 
 abbrev pub cell_of : FlipFlop → Cell
-cell_of f = record { domain = f.domain.0; input = source_at f.input; scan = scan_at f.scan; force = force_at f.force }
+cell_of f = record { domain = f.domain.0; falling = f.falling; input = source_at f.input; scan = scan_at f.scan; force = force_at f.force }
 
 -- ---- the circuit's logic
 
@@ -82,7 +83,7 @@ Fits Input = Unit {0}
 Fits Clock = Unit {0}
 Fits (Joined source) = Unit {0}
 Fits (Flop instance inverted) = Unit {0}
-Fits (Lockup instance domain source) = Unit {0}
+Fits (Lockup instance domain high source) = Unit {0}
 Fits Free = Unit {0}
 
 -- each of these nets is new, and comes after the nets that its value is settled from; the others came before
@@ -99,7 +100,7 @@ source_places meanings.Clock = 0 ∷ []
 source_places (meanings.Gate kind inputs) = []
 source_places (meanings.Joined source) = []
 source_places (meanings.Flop c inverted) = 0 ∷ []
-source_places (meanings.Lockup c e source) = 0 ∷ []
+source_places (meanings.Lockup c e high source) = 0 ∷ []
 source_places meanings.Free = []
 
 -- the domain whose clock, flip-flop or lock-up a net shows
@@ -109,7 +110,7 @@ leaf_domains cells net meanings.Clock = net ∷ []
 leaf_domains cells net (meanings.Gate kind inputs) = []
 leaf_domains cells net (meanings.Joined source) = []
 leaf_domains cells net (meanings.Flop c inverted) = (cell_at cells c).domain ∷ []
-leaf_domains cells net (meanings.Lockup c e source) = e ∷ []
+leaf_domains cells net (meanings.Lockup c e high source) = e ∷ []
 leaf_domains cells net meanings.Free = []
 
 abbrev pub latch_domains : Option (ℕ × Source) → List ℕ
@@ -135,62 +136,69 @@ pub record IsCircuit (x : Circuit) : Type 0 where
   pub after : AreOrdered x.ops.items [] (numbers_of x.order.items)
   pub count : length x.order.items ≡ length x.ops.items
   -- a lock-up's instance tells its domain and its input
-  pub latched : (net c e : ℕ) (source : Source) → meaning (op_at x.ops.items net) ≡ meanings.Lockup c e source → latch_at x.latches.items c ≡ Some (e, source)
+  pub latched : (net c e : ℕ) (high : Bool) (source : Source) → meaning (op_at x.ops.items net) ≡ meanings.Lockup c e high source → latch_at x.latches.items c ≡ Some (e, source)
   -- and stores its bit as its cell says
-  pub stored : (net c e : ℕ) (source : Source) → meaning (op_at x.ops.items net) ≡ meanings.Lockup c e source → cell_at (map cell_of x.flops.items) c ≡ lockup_cell e source
+  pub stored : (net c e : ℕ) (high : Bool) (source : Source) → meaning (op_at x.ops.items net) ≡ meanings.Lockup c e high source → cell_at (map cell_of x.flops.items) c ≡ lockup_cell e high source
   pub instances : length x.latches.items ≡ length x.flops.items
   pub tables : AreTables x
 
 -- ---- settling
 
--- what lock-ups show: what they are held at, by instance, or their input where they are wires
-abbrev pub lockup_from : Option (List Tri) → (values : ℕ → Tri) → (cell domain : ℕ) → Source → Tri
-lockup_from None values c e source = value_from values source
-lockup_from (Some held) values c e source = value_at held c
+-- what inputs, clocks and flip-flops show, and lock-ups by the values of their inputs
+pub record Supply : Type 0 where
+  pub ports : ℕ → Tri
+  pub clocks : ℕ → Tri
+  pub flops : ℕ → Tri
+  pub lockups : (cell clock : ℕ) (high : Bool) (input : Tri) → Tri
 
--- the given sources, with these lock-ups
-abbrev pub leaves_from : TriSources → Option (List Tri) → (values : ℕ → Tri) → TriSources
-leaves_from base held values = record { ports = base.ports; clocks = base.clocks; flops = base.flops; lockups = lockup_from held values }
+-- the sources, where nets have these values
+abbrev pub leaves_from : Supply → (values : ℕ → Tri) → TriSources
+leaves_from s values = record { ports = s.ports; clocks = s.clocks; flops = s.flops; lockups = λ c e high source. s.lockups c e high (value_from values source) }
 
 -- a bit at a place of a list, and 0 past its end
 abbrev pub flag_at : List Bool → ℕ → Bool
 flag_at flags place = slice_index_or flags place false
 
--- a pulse, from values by net and by instance
+-- a phase of a pulse, from values by net and by instance
 abbrev pub pulse_at : Pulse → Cycle.Pulse
-pulse_at p = record { ports = value_at p.ports.now; pulsed = flag_at p.pulsed.now; old = value_at p.old.now }
+pulse_at p = record { rising = p.rising; ports = value_at p.ports.now; pulsed = flag_at p.pulsed.now; old = value_at p.old.now }
 
--- what the view of a domain is settled from, but for its lock-ups
-abbrev pub view_base : (cells : List Cell) → View → TriSources
-view_base cells v = view_sources (record { net = λ net. meanings.Free; cell = cell_at cells }) (pulse_at v.pulse) (value_at v.poss.now) (λ d net. Unknown) v.domain.0
+-- whether a cell takes a value in a phase
+abbrev pub changed : Cell → Cycle.Pulse → Bool
+changed cell p = p.pulsed cell.domain && takes p.rising cell.falling
 
-abbrev pub held_in : View → Option (List Tri)
-held_in v = option_map (λ h. h.now) v.held
+-- What the view of a domain is settled from. A lock-up that takes its bit in the phase shows what it is held at, by instance.
+abbrev pub base_of : List Cell → Cycle.Pulse → (poss held : List Tri) → (domain : ℕ) → Supply
+base_of cells p poss held d = record {
+  ports = p.ports;
+  clocks = clock_value p d;
+  flops = λ c. if changed (cell_at cells c) p then (if (cell_at cells c).domain == d then p.old c else value_at poss c) else p.old c;
+  lockups = λ c e high input. lockup_shown p.rising (p.pulsed e) (e == d) high (p.old c) input (value_at held c);
+}
 
--- what the view of a domain is settled from, but for its lock-ups
-abbrev pub base_of : List Cell → Cycle.Pulse → (poss : List Tri) → (domain : ℕ) → TriSources
-base_of cells p poss d = view_sources (record { net = λ net. meanings.Free; cell = cell_at cells }) p (value_at poss) (λ e net. Unknown) d
+-- what all is settled from before the edges of a phase
+abbrev pub before_base : Cycle.Pulse → Supply
+before_base p = record { ports = p.ports; clocks = λ e. known (level_before p e); flops = p.old; lockups = λ c e high input. if is_wire high (level_before p e) then input else p.old c }
+
+abbrev pub view_base : (cells : List Cell) → View → Supply
+view_base cells v = base_of cells (pulse_at v.pulse) v.poss.now v.held.now v.domain.0
 
 -- the net has its driver's value in the view of a domain
-abbrev pub IsGivenBy : Circuit → Cycle.Pulse → (poss : List Tri) → Option (List Tri) → (domain : ℕ) → (values : List Tri) → ℕ → Type 0
-IsGivenBy x p poss held d values k =
-    value_at values k ≡ value_given (leaves_from (base_of (map cell_of x.flops.items) p poss d) held (value_at values)) (value_at values) k (meaning (op_at x.ops.items k))
-
 abbrev pub GivenIn : Circuit → Cycle.Pulse → (poss held : List Tri) → (domain : ℕ) → (values : List Tri) → ℕ → Type 0
-GivenIn x p poss held d values k = IsGivenBy x p poss (Some held) d values k
+GivenIn x p poss held d values k =
+    value_at values k ≡ value_given (leaves_from (base_of (map cell_of x.flops.items) p poss held d) (value_at values)) (value_at values) k (meaning (op_at x.ops.items k))
 
 -- the same where the view is that of this domain, and in the view itself
 abbrev pub IsGivenIn : Circuit → View → (domain : ℕ) → (values : List Tri) → ℕ → Type 0
-IsGivenIn x v d values k = IsGivenBy x (pulse_at v.pulse) v.poss.now (held_in v) d values k
+IsGivenIn x v d values k = GivenIn x (pulse_at v.pulse) v.poss.now v.held.now d values k
 
 abbrev pub IsGiven : Circuit → View → (values : List Tri) → ℕ → Type 0
 IsGiven x v values k = IsGivenIn x v v.domain.0 values k
 
 -- all nets have the values that they have from some sources
 pub record IsReady (x : Circuit) (values : List Tri) : Type 0 where
-  pub base : TriSources
-  pub held : Option (List Tri)
-  pub given : (k : ℕ) → value_at values k ≡ value_given (leaves_from base held (value_at values)) (value_at values) k (meaning (op_at x.ops.items k))
+  pub base : Supply
+  pub given : (k : ℕ) → value_at values k ≡ value_given (leaves_from base (value_at values)) (value_at values) k (meaning (op_at x.ops.items k))
 
 -- ---- a flip-flop, from the values of a view
 

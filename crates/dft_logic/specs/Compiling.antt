@@ -1,5 +1,5 @@
 -- What each net and each instance of a design becomes in its circuit.
-use Rattle.std.specs.Prelude.{ℕ, Bool, true, not, ◌≡◌, ◌<◌, List, [], ◌∷◌, Option, None, Some, map, length, slice_index_or, if◌then◌else◌}
+use Rattle.std.specs.Prelude.{false, ℕ, Bool, true, not, ◌≡◌, ◌<◌, List, [], ◌∷◌, Option, None, Some, map, length, slice_index_or, if◌then◌else◌}
 use Rattle.std.specs.Option.{option_or}
 use Rattle.dft_cells.specs.FlipFlops.{is_flip_flop}
 use Rattle.dft_cells.specs.declared.kind.Role.{Role}
@@ -93,7 +93,7 @@ meaning_in n ports i kind inverted ws = Gate kind (inputs_in ws)
 -- ---- a net and an instance
 
 abbrev pub flop_in : List FlipFlop → ℕ → FlipFlop
-flop_in flops i = slice_index_or flops i (record { domain = record { 0 = 0 }; input = Net (record { 0 = 0 }); scan = None; force = None })
+flop_in flops i = slice_index_or flops i (record { domain = record { 0 = 0 }; falling = false; input = Net (record { 0 = 0 }); scan = None; force = None })
 
 abbrev pub latch_kept : Kind → Option (ℕ × Source) → Option (ℕ × Source)
 latch_kept kind.Lockup latch = latch
@@ -107,7 +107,7 @@ kept_latch n ports i = latch_kept (kind_at n i) (latch_in n ports i (map (wired_
 pub record IsOpOf (n : Netlist) (ports : Ports) (net : ℕ) (op : Op) : Type 0 where
   pub means : meaning op ≡ (logic_of n ports).net net
   pub fits : Fits op
-  pub latch : (c e : ℕ) (source : Source) → meaning op ≡ Lockup c e source → (c < length n.instances) × (kept_latch n ports c ≡ Some (e, source))
+  pub latch : (c e : ℕ) (high : Bool) (source : Source) → meaning op ≡ Lockup c e high source → (c < length n.instances) × (kept_latch n ports c ≡ Some (e, source))
 
 abbrev pub IsFlopOf : Netlist → Ports → (instance : ℕ) → FlipFlop → Type 0
 IsFlopOf n ports i flop = cell_of flop ≡ (logic_of n ports).cell i
@@ -131,6 +131,6 @@ pub record IsCircuitOf (n : Netlist) (ports : Ports) (x : Circuit) : Type 0 wher
   -- it means what the design does
   pub compiled : logic_of n ports ≡ logic_at x
   -- its lock-ups' domains are clocks
-  pub clocked : (c e : ℕ) (source : Source) → latch_at x.latches.items c ≡ Some (e, source) → ports.is_clock e ≡ true
+  pub clocked : (c e : ℕ) (high : Bool) (source : Source) → latch_at x.latches.items c ≡ Some (e, source) → ports.is_clock e ≡ true
   pub nets : length x.ops.items ≡ length n.nets
   pub instances : length x.flops.items ≡ length n.instances

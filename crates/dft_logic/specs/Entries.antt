@@ -6,11 +6,11 @@ use Rattle.dft_base.specs.Tri.{known}
 use Rattle.dft_netlist.specs.Drivers.{Source, Net, Tied, Loose}
 use Rattle.dft_netlist.specs.Logic.{Logic, Force, Scan}
 use Rattle.dft_netlist.specs.Settled.{value_from}
-use Rattle.dft_abstract.specs.Cycle.{Pulse}
+use Rattle.dft_abstract.specs.Cycle.{Pulse, changes}
 use Rattle.dft_logic.specs.Shows.{Shown, is_still}
 
 pub data Entry : Type 0 where
-  -- its own old value, since its clock does not pulse
+  -- its own old value, since it takes none
   Keeps : Entry
   Takes : (value : Tri) → Entry
   -- the old value of another flip-flop
@@ -78,4 +78,4 @@ forced_entry (Some force) ports entry = entry_at force.value (ports force.port) 
 abbrev pub entry_given : Logic → Pulse → (origin : ℕ → Option ℕ) → (shown : ℕ → Shown) → (settled : ℕ → Tri) → (cell : ℕ) → Option Entry
 entry_given l p origin shown settled c =
     let d = (l.cell c).domain in
-    if p.pulsed d then forced_entry (l.cell c).force p.ports (taken_entry (is_still_source d shown) origin (l.cell c).scan (value_from settled) (l.cell c).input) else Some Keeps
+    if changes l p c then forced_entry (l.cell c).force p.ports (taken_entry (is_still_source d shown) origin (l.cell c).scan (value_from settled) (l.cell c).input) else Some Keeps

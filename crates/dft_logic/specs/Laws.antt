@@ -1,5 +1,5 @@
 -- What need not be settled, and what is settled once.
-use Rattle.std.specs.Prelude.{ℕ, Bool, true, ◌≡◌, List, [], ◌∷◌, map, Option, Some}
+use Rattle.std.specs.Prelude.{ℕ, Bool, true, false, if◌then◌else◌, ◌≡◌, List, [], ◌∷◌, map, Option, Some}
 use Rattle.dft_base.specs.declared.tri.Tri.{Tri}
 use Rattle.dft_base.specs.declared.tri.Tri.TheVariants.{Zero}
 use Rattle.dft_base.specs.Tri.{known, AboveTri}
@@ -8,8 +8,8 @@ use Rattle.dft_netlist.specs.Drivers.{Source, nets_of}
 use Rattle.dft_netlist.specs.Logic.{Logic, Lockup, Force, Scan, IsRanked}
 use Rattle.dft_netlist.specs.Settled.{value_from}
 use Rattle.dft_netlist.specs.Orders.{numbers_of}
-use Rattle.dft_abstract.specs.Cycle.{Pulse, AreViews, next_value, IsLeast, after_pulse}
-use Rattle.dft_logic.specs.Needs.{HasAll, IsReadClosed, AreViewsOn, IsStrobe, IsStrobeClosed, IsStrobeOn, AreSeen, next_reads, HasNextReads}
+use Rattle.dft_abstract.specs.Cycle.{Pulse, changes, level_before, AreViews, next_value, IsLeast, after_pulse}
+use Rattle.dft_logic.specs.Needs.{HasAll, IsReadClosed, AreViewsOn, IsStrobe, IsStrobeClosed, IsStrobeOn, IsStillFrom, IsBefore, IsBeforeOn, IsStillOn, AreSeen, next_reads, HasNextReads}
 use Rattle.dft_logic.specs.Moves.{IsStill, IsUnclocked}
 use Rattle.dft_logic.specs.Takes.{next_source, AreOrigins}
 use Rattle.dft_logic.specs.Lists.{is_listed, IsListFrom, settled_by}
@@ -18,37 +18,37 @@ use Rattle.dft_logic.specs.Entries.{Entry, Reads, Computes, entry_value, entry_g
 
 -- ---- lock-ups
 
--- In every view a lock-up's value is its input's value in the view of its own clock, also of one that does not pulse.
+-- In the rises a low lock-up has in every view its input's value in the view of its own clock, also of one that does not pulse.
 abbrev pub LockupIsInput : Type 0
 LockupIsInput =
-    (l : Logic) (p : Pulse) (poss : ℕ → Tri) (view : ℕ → ℕ → Tri) → AreViews l p poss view → (d net c e : ℕ) (source : Source) → l.net net ≡ Lockup c e source →
+    (l : Logic) (p : Pulse) (poss : ℕ → Tri) (view : ℕ → ℕ → Tri) → p.rising ≡ true → AreViews l p poss view → (d net c e : ℕ) (source : Source) → l.net net ≡ Lockup c e false source →
     view d net ≡ value_from (view e) source
 
--- At a strobe it is a wire.
+-- At a strobe it is a wire, and a high one holds.
 abbrev pub LockupIsWire : Type 0
 LockupIsWire =
-    (l : Logic) (ports flops values : ℕ → Tri) → IsStrobe l ports flops values → (net c e : ℕ) (source : Source) → l.net net ≡ Lockup c e source →
-    values net ≡ value_from values source
+    (l : Logic) (ports flops values : ℕ → Tri) → IsStrobe l ports flops values → (net c e : ℕ) (high : Bool) (source : Source) → l.net net ≡ Lockup c e high source →
+    values net ≡ (if high then flops c else value_from values source)
 
 -- ---- what is not read need not be settled
 
 -- Where the set is closed under reading, an assignment that gives each of its nets the driver's value agrees there with the views.
 abbrev pub NeededIsView : Type 0
 NeededIsView =
-    (l : Logic) (rank : ℕ → ℕ) (p : Pulse) (poss : ℕ → Tri) (needs : (view net : ℕ) → Bool) (values view : ℕ → ℕ → Tri) → IsRanked l rank → IsReadClosed l needs →
+    (l : Logic) (rank : ℕ → ℕ) (p : Pulse) (poss : ℕ → Tri) (needs : (view net : ℕ) → Bool) (values view : ℕ → ℕ → Tri) → IsRanked l rank → IsReadClosed l p needs →
     AreViewsOn l p poss needs values → AreViews l p poss view → (d net : ℕ) → needs d net ≡ true → values d net ≡ view d net
 
 -- A flip-flop whose next value is read from the set, by that assignment's scan enable, has the same next value from it.
 abbrev pub NextOfNeeded : Type 0
 NextOfNeeded =
-    (l : Logic) (rank : ℕ → ℕ) (p : Pulse) (poss : ℕ → Tri) (needs : (view net : ℕ) → Bool) (values view : ℕ → ℕ → Tri) → IsRanked l rank → IsReadClosed l needs →
+    (l : Logic) (rank : ℕ → ℕ) (p : Pulse) (poss : ℕ → Tri) (needs : (view net : ℕ) → Bool) (values view : ℕ → ℕ → Tri) → IsRanked l rank → IsReadClosed l p needs →
     AreViewsOn l p poss needs values → AreViews l p poss view → (c : ℕ) → HasNextReads l p needs values c → next_value l p values c ≡ next_value l p view c
 
--- The same at a strobe, where the set is one of nets.
+-- The same while clocks have these levels, as at a strobe, where the set is one of nets.
 abbrev pub NeededIsStrobe : Type 0
 NeededIsStrobe =
-    (l : Logic) (rank : ℕ → ℕ) (ports flops : ℕ → Tri) (needs : (net : ℕ) → Bool) (values settled : ℕ → Tri) → IsRanked l rank → IsStrobeClosed l needs →
-    IsStrobeOn l ports flops needs values → IsStrobe l ports flops settled → (net : ℕ) → needs net ≡ true → values net ≡ settled net
+    (l : Logic) (rank : ℕ → ℕ) (level : ℕ → Bool) (ports flops : ℕ → Tri) (needs : (net : ℕ) → Bool) (values settled : ℕ → Tri) → IsRanked l rank → IsStrobeClosed l needs →
+    IsStillOn l level ports flops needs values → IsStillFrom l level ports flops settled → (net : ℕ) → needs net ≡ true → values net ≡ settled net
 
 -- So the values of nets at a strobe are had from a set that has them.
 abbrev pub LookOfNeeded : Type 0
@@ -61,33 +61,33 @@ LookOfNeeded =
 -- Where nothing moves in a set that is closed under reading, its nets have the same values at any two maps.
 abbrev pub StillIsOne : Type 0
 StillIsOne =
-    (l : Logic) (rank : ℕ → ℕ) (p : Pulse) (poss other : ℕ → Tri) (needs : (view net : ℕ) → Bool) (view its : ℕ → ℕ → Tri) → IsRanked l rank → IsReadClosed l needs →
-    IsStill l p.pulsed needs → AreViews l p poss view → AreViews l p other its → (d net : ℕ) → needs d net ≡ true → view d net ≡ its d net
+    (l : Logic) (rank : ℕ → ℕ) (p : Pulse) (poss other : ℕ → Tri) (needs : (view net : ℕ) → Bool) (view its : ℕ → ℕ → Tri) → IsRanked l rank → IsReadClosed l p needs →
+    IsStill l p needs → AreViews l p poss view → AreViews l p other its → (d net : ℕ) → needs d net ≡ true → view d net ≡ its d net
 
 -- A flip-flop whose next value is read from it at one map has the same next value at any other.
 abbrev pub StillHasOneNext : Type 0
 StillHasOneNext =
-    (l : Logic) (rank : ℕ → ℕ) (p : Pulse) (poss other : ℕ → Tri) (needs : (view net : ℕ) → Bool) (view its : ℕ → ℕ → Tri) → IsRanked l rank → IsReadClosed l needs →
-    IsStill l p.pulsed needs → AreViews l p poss view → AreViews l p other its → (c : ℕ) → HasNextReads l p needs view c → next_value l p view c ≡ next_value l p its c
+    (l : Logic) (rank : ℕ → ℕ) (p : Pulse) (poss other : ℕ → Tri) (needs : (view net : ℕ) → Bool) (view its : ℕ → ℕ → Tri) → IsRanked l rank → IsReadClosed l p needs →
+    IsStill l p needs → AreViews l p poss view → AreViews l p other its → (c : ℕ) → HasNextReads l p needs view c → next_value l p view c ≡ next_value l p its c
 
 -- Where besides none of the nets is the clock of another pulsed domain, they have the values of the strobe before the pulse in all views.
 abbrev pub StillIsStrobe : Type 0
 StillIsStrobe =
-    (l : Logic) (rank : ℕ → ℕ) (p : Pulse) (poss : ℕ → Tri) (needs : (view net : ℕ) → Bool) (view : ℕ → ℕ → Tri) (settled : ℕ → Tri) → IsRanked l rank → IsReadClosed l needs →
-    IsStill l p.pulsed needs → IsUnclocked l p.pulsed needs → AreViews l p poss view → IsStrobe l p.ports p.old settled → (d net : ℕ) → needs d net ≡ true → view d net ≡ settled net
+    (l : Logic) (rank : ℕ → ℕ) (p : Pulse) (poss : ℕ → Tri) (needs : (view net : ℕ) → Bool) (view : ℕ → ℕ → Tri) (settled : ℕ → Tri) → IsRanked l rank → IsReadClosed l p needs →
+    IsStill l p needs → IsUnclocked l p needs → AreViews l p poss view → IsBefore l p settled → (d net : ℕ) → needs d net ≡ true → view d net ≡ settled net
 
 -- A flip-flop whose next value is read from it, by the strobe's scan enable, has the next value from the strobe's values.
 abbrev pub StillNextIsStrobe : Type 0
 StillNextIsStrobe =
-    (l : Logic) (rank : ℕ → ℕ) (p : Pulse) (poss : ℕ → Tri) (needs : (view net : ℕ) → Bool) (view : ℕ → ℕ → Tri) (settled : ℕ → Tri) → IsRanked l rank → IsReadClosed l needs →
-    IsStill l p.pulsed needs → IsUnclocked l p.pulsed needs → AreViews l p poss view → IsStrobe l p.ports p.old settled →
+    (l : Logic) (rank : ℕ → ℕ) (p : Pulse) (poss : ℕ → Tri) (needs : (view net : ℕ) → Bool) (view : ℕ → ℕ → Tri) (settled : ℕ → Tri) → IsRanked l rank → IsReadClosed l p needs →
+    IsStill l p needs → IsUnclocked l p needs → AreViews l p poss view → IsBefore l p settled →
     (c : ℕ) → HasNextReads l p needs (λ d. settled) c → next_value l p view c ≡ next_value l p (λ d. settled) c
 
 -- Where that holds of all pulsed flip-flops, the least map is their old values joined with these next values, and after the pulse they have them.
 abbrev pub OnePass : Type 0
 OnePass =
-    (l : Logic) (rank : ℕ → ℕ) (p : Pulse) (needs : (view net : ℕ) → Bool) (settled : ℕ → Tri) → IsRanked l rank → IsReadClosed l needs → IsStill l p.pulsed needs →
-    IsUnclocked l p.pulsed needs → IsStrobe l p.ports p.old settled → ((c : ℕ) → p.pulsed (l.cell c).domain ≡ true → HasNextReads l p needs (λ d. settled) c) →
+    (l : Logic) (rank : ℕ → ℕ) (p : Pulse) (needs : (view net : ℕ) → Bool) (settled : ℕ → Tri) → IsRanked l rank → IsReadClosed l p needs → IsStill l p needs →
+    IsUnclocked l p needs → IsBefore l p settled → ((c : ℕ) → changes l p c ≡ true → HasNextReads l p needs (λ d. settled) c) →
     (poss : ℕ → Tri) × ((view : ℕ → ℕ → Tri) × (IsLeast l p poss view × ((c : ℕ) → after_pulse l p view c ≡ after_pulse l p (λ d. settled) c)))
 
 -- ---- all views by one assignment
@@ -96,13 +96,13 @@ OnePass =
 abbrev pub ShownIsStrobe : Type 0
 ShownIsStrobe =
     (l : Logic) (rank : ℕ → ℕ) (p : Pulse) (poss : ℕ → Tri) (needs : (net : ℕ) → Bool) (shown : ℕ → Shown) (values : ℕ → Tri) (view : ℕ → ℕ → Tri) → IsRanked l rank → IsStrobeClosed l needs →
-    IsShownOn l p.pulsed needs shown → IsStrobeOn l p.ports p.old needs values → AreViews l p poss view → (d net : ℕ) → needs net ≡ true → is_still d (shown net) ≡ true → view d net ≡ values net
+    IsShownOn l p needs shown → IsBeforeOn l p needs values → AreViews l p poss view → (d net : ℕ) → needs net ≡ true → is_still d (shown net) ≡ true → view d net ≡ values net
 
 -- Where the next values of all pulsed flip-flops are read from such nets, they take them from these values, at a least map that is there.
 abbrev pub PassOfShown : Type 0
 PassOfShown =
     (l : Logic) (rank : ℕ → ℕ) (p : Pulse) (needs : (net : ℕ) → Bool) (shown : ℕ → Shown) (values : ℕ → Tri) → IsRanked l rank → IsStrobeClosed l needs →
-    IsShownOn l p.pulsed needs shown → IsStrobeOn l p.ports p.old needs values → ((c : ℕ) → p.pulsed (l.cell c).domain ≡ true → HasStillReads l p needs shown values c) →
+    IsShownOn l p needs shown → IsBeforeOn l p needs values → ((c : ℕ) → changes l p c ≡ true → HasStillReads l p needs shown values c) →
     (poss : ℕ → Tri) × ((view : ℕ → ℕ → Tri) × (IsLeast l p poss view × ((c : ℕ) → after_pulse l p view c ≡ after_pulse l p (λ d. values) c)))
 
 -- ---- next values at a strobe
@@ -110,8 +110,8 @@ PassOfShown =
 -- A flip-flop whose next value is read from a set that is settled for the strobe has the same next value from it.
 abbrev pub NextOfStrobe : Type 0
 NextOfStrobe =
-    (l : Logic) (rank : ℕ → ℕ) (p : Pulse) (needs : (net : ℕ) → Bool) (values settled : ℕ → Tri) → IsRanked l rank → IsStrobeClosed l needs → IsStrobeOn l p.ports p.old needs values →
-    IsStrobe l p.ports p.old settled → (c : ℕ) → HasAll needs (nets_of (next_reads (l.cell c) p.ports (value_from values))) → next_value l p (λ d. values) c ≡ next_value l p (λ d. settled) c
+    (l : Logic) (rank : ℕ → ℕ) (p : Pulse) (needs : (net : ℕ) → Bool) (values settled : ℕ → Tri) → IsRanked l rank → IsStrobeClosed l needs → IsBeforeOn l p needs values →
+    IsBefore l p settled → (c : ℕ) → HasAll needs (nets_of (next_reads (l.cell c) p.ports (value_from values))) → next_value l p (λ d. values) c ≡ next_value l p (λ d. settled) c
 
 -- Where it takes one source's value, this is its next value.
 abbrev pub NextOfSource : Type 0
@@ -127,7 +127,7 @@ NextOfForce =
 -- A net that shows a flip-flop through joins and lock-ups has its value at a strobe.
 abbrev pub OriginIsShown : Type 0
 OriginIsShown =
-    (l : Logic) (rank : ℕ → ℕ) (origin : ℕ → Option ℕ) (ports flops settled : ℕ → Tri) → IsRanked l rank → AreOrigins l origin → IsStrobe l ports flops settled →
+    (l : Logic) (rank : ℕ → ℕ) (origin : ℕ → Option ℕ) (level : ℕ → Bool) (ports flops settled : ℕ → Tri) → IsRanked l rank → AreOrigins l level origin → IsStillFrom l level ports flops settled →
     (net c : ℕ) → origin net ≡ Some c → settled net ≡ flops c
 
 -- ---- entries
@@ -135,22 +135,22 @@ OriginIsShown =
 -- A flip-flop that has an entry has its value after the pulse, from the strobe's values.
 abbrev pub EntryIsNext : Type 0
 EntryIsNext =
-    (l : Logic) (rank : ℕ → ℕ) (p : Pulse) (origin : ℕ → Option ℕ) (shown : ℕ → Shown) (settled : ℕ → Tri) → IsRanked l rank → AreOrigins l origin → IsStrobe l p.ports p.old settled →
+    (l : Logic) (rank : ℕ → ℕ) (p : Pulse) (origin : ℕ → Option ℕ) (shown : ℕ → Shown) (settled : ℕ → Tri) → IsRanked l rank → AreOrigins l (level_before p) origin → IsBefore l p settled →
     (c : ℕ) (entry : Entry) → entry_given l p origin shown settled c ≡ Some entry →
     after_pulse l p (λ d. settled) c ≡ entry_value p.old settled (next_value l p (λ d. settled) c) c entry
 
 -- Where all flip-flops have entries, these give the values after the pulse at a least map that is there.
 abbrev pub PassOfEntries : Type 0
 PassOfEntries =
-    (l : Logic) (rank : ℕ → ℕ) (p : Pulse) (origin : ℕ → Option ℕ) (shown : ℕ → Shown) (settled : ℕ → Tri) (entries : ℕ → Entry) → IsRanked l rank → AreOrigins l origin →
-    IsShownOn l p.pulsed (λ net. true) shown → IsStrobe l p.ports p.old settled → ((c : ℕ) → entry_given l p origin shown settled c ≡ Some (entries c)) →
+    (l : Logic) (rank : ℕ → ℕ) (p : Pulse) (origin : ℕ → Option ℕ) (shown : ℕ → Shown) (settled : ℕ → Tri) (entries : ℕ → Entry) → IsRanked l rank → AreOrigins l (level_before p) origin →
+    IsShownOn l p (λ net. true) shown → IsBefore l p settled → ((c : ℕ) → entry_given l p origin shown settled c ≡ Some (entries c)) →
     (poss : ℕ → Tri) × ((view : ℕ → ℕ → Tri) × (IsLeast l p poss view × ((c : ℕ) → after_pulse l p view c ≡ entry_value p.old settled (next_value l p (λ d. settled) c) c (entries c))))
 
 -- The same from a set of nets that is settled for the strobe, and has the scan enables and what the entries read.
 abbrev pub PassOfNeeded : Type 0
 PassOfNeeded =
-    (l : Logic) (rank : ℕ → ℕ) (p : Pulse) (origin : ℕ → Option ℕ) (shown : ℕ → Shown) (needs : (net : ℕ) → Bool) (values : ℕ → Tri) (entries : ℕ → Entry) → IsRanked l rank → AreOrigins l origin →
-    IsShownOn l p.pulsed (λ net. true) shown → IsStrobeClosed l needs → IsStrobeOn l p.ports p.old needs values → ((c : ℕ) → entry_given l p origin shown values c ≡ Some (entries c)) →
+    (l : Logic) (rank : ℕ → ℕ) (p : Pulse) (origin : ℕ → Option ℕ) (shown : ℕ → Shown) (needs : (net : ℕ) → Bool) (values : ℕ → Tri) (entries : ℕ → Entry) → IsRanked l rank → AreOrigins l (level_before p) origin →
+    IsShownOn l p (λ net. true) shown → IsStrobeClosed l needs → IsBeforeOn l p needs values → ((c : ℕ) → entry_given l p origin shown values c ≡ Some (entries c)) →
     ((c : ℕ) (scan : Scan) → (l.cell c).scan ≡ Some scan → HasAll needs (nets_of (scan.enable ∷ []))) → ((c net : ℕ) → entries c ≡ Reads net → needs net ≡ true) →
     ((c : ℕ) → entries c ≡ Computes → HasAll needs (nets_of (next_reads (l.cell c) p.ports (value_from values)))) →
     (poss : ℕ → Tri) × ((view : ℕ → ℕ → Tri) × (IsLeast l p poss view × ((c : ℕ) → after_pulse l p view c ≡ entry_value p.old values (next_value l p (λ d. values) c) c (entries c))))
@@ -158,7 +158,7 @@ PassOfNeeded =
 -- Where the same clocks pulse, and a flip-flop's reset or set port and its scan enable have the same values, it has the same entry.
 abbrev pub EntryStays : Type 0
 EntryStays =
-    (l : Logic) (p q : Pulse) (origin : ℕ → Option ℕ) (shown : ℕ → Shown) (settled other : ℕ → Tri) (c : ℕ) → p.pulsed (l.cell c).domain ≡ q.pulsed (l.cell c).domain →
+    (l : Logic) (p q : Pulse) (origin : ℕ → Option ℕ) (shown : ℕ → Shown) (settled other : ℕ → Tri) (c : ℕ) → changes l p c ≡ changes l q c →
     ((force : Force) → (l.cell c).force ≡ Some force → p.ports force.port ≡ q.ports force.port) → ((scan : Scan) → (l.cell c).scan ≡ Some scan → value_from settled scan.enable ≡ value_from other scan.enable) →
     entry_given l p origin shown settled c ≡ entry_given l q origin shown other c
 
@@ -179,7 +179,7 @@ ListIsSettled =
 abbrev pub ViewIsAboveStrobe : Type 0
 ViewIsAboveStrobe =
     (l : Logic) (rank : ℕ → ℕ) (p : Pulse) (poss : ℕ → Tri) (view : ℕ → ℕ → Tri) (settled : ℕ → Tri) → IsRanked l rank → ((c : ℕ) → AboveTri (poss c) (p.old c)) → AreViews l p poss view →
-    IsStrobe l p.ports p.old settled → (d net : ℕ) → AboveTri (view d net) (settled net)
+    IsBefore l p settled → (d net : ℕ) → AboveTri (view d net) (settled net)
 
 -- So no net is 1 in one view and 0 in another, nor in views of two maps.
 abbrev pub NoTwoBits : Type 0

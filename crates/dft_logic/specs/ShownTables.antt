@@ -1,7 +1,8 @@
 -- What nets show, as a table.
 use Rattle.std.specs.Prelude.{ℕ, Bool, List, slice_index_or}
-use Rattle.dft_netlist.specs.Logic.{Cell, Meaning}
-use Rattle.dft_netlist.specs.Logic as meanings
+use Rattle.dft_base.specs.declared.tri.Tri.TheVariants.{Unknown}
+use Rattle.dft_netlist.specs.Logic.{Cell, Meaning, Free}
+use Rattle.dft_abstract.specs.Cycle.{Pulse}
 use Rattle.dft_logic.specs.Shows.{shown_given}
 use Rattle.dft_logic.specs.Shows as shows
 use Rattle.dft_logic.specs.declared.shown.Shown.{Shown}
@@ -17,6 +18,10 @@ shown_of Several = shows.Several
 abbrev pub shown_at : List Shown → ℕ → shows.Shown
 shown_at table net = shown_of (slice_index_or table net Nothing)
 
--- what a net shows by its meaning, where these are the flip-flops
-abbrev pub shown_in : List Cell → (pulsed : ℕ → Bool) → (shown : ℕ → shows.Shown) → (net : ℕ) → Meaning → shows.Shown
-shown_in cells = shown_given (record { net = λ net. meanings.Free; cell = cell_at cells })
+-- the edges of these clocks, which are all that matters here
+abbrev pub edges_of : (rising : Bool) → (pulsed : ℕ → Bool) → Pulse
+edges_of rising pulsed = record { rising = rising; ports = λ k. Unknown; pulsed = pulsed; old = λ c. Unknown }
+
+-- what a net shows in a phase by its meaning, where these are the cells
+abbrev pub shown_in : List Cell → (rising : Bool) → (pulsed : ℕ → Bool) → (shown : ℕ → shows.Shown) → (net : ℕ) → Meaning → shows.Shown
+shown_in cells rising pulsed shown net m = shown_given (record { net = λ k. Free; cell = cell_at cells }) (edges_of rising pulsed) shown net m

@@ -1,10 +1,11 @@
--- What nets show of the domains that pulse, found in one pass over them for all views at once.
-use Rattle.std.specs.Prelude.{ℕ, Bool, true, false, ◌≡◌, ◌==◌, ◌&&◌, List, [], ◌∷◌, if◌then◌else◌}
+-- What nets show of the domains that pulse in a phase, found in one pass over them for all views at once.
+use Rattle.std.specs.Prelude.{ℕ, Bool, true, false, ◌≡◌, ◌==◌, ◌&&◌, ◌||◌, List, [], ◌∷◌, if◌then◌else◌}
 use Rattle.dft_base.specs.declared.tri.Tri.{Tri}
 use Rattle.dft_netlist.specs.Drivers.{nets_of}
 use Rattle.dft_netlist.specs.Logic.{Logic, Meaning, Input, Clock, Gate, Joined, Flop, Lockup, Free}
 use Rattle.dft_netlist.specs.Settled.{value_from}
-use Rattle.dft_abstract.specs.Cycle.{Pulse}
+use Rattle.dft_netlist.specs.Runs.{takes}
+use Rattle.dft_abstract.specs.Cycle.{Pulse, changes}
 use Rattle.dft_logic.specs.Needs.{HasAll, next_reads}
 
 -- what of the pulsed domains a net shows, by their flip-flops and their clocks: nothing, that of one domain, or that of several
@@ -13,7 +14,7 @@ pub data Shown : Type 0 where
   Domain : (domain : ℕ) → Shown
   Several : Shown
 
--- what shows this is as at the strobe in the view of a domain
+-- what shows this is as before the edges in the view of a domain
 abbrev pub is_still : (view : ℕ) → Shown → Bool
 is_still d Nothing = true
 is_still d (Domain e) = e == d
@@ -31,31 +32,38 @@ abbrev pub shown_by : (shown : ℕ → Shown) → List ℕ → Shown
 shown_by shown [] = Nothing
 shown_by shown (net ∷ nets) = with_shown (shown net) (shown_by shown nets)
 
--- what a flip-flop or the clock of a domain shows
-abbrev pub domain_shown : (pulsed : ℕ → Bool) → (domain : ℕ) → Shown
-domain_shown pulsed e = if pulsed e then Domain e else Nothing
+-- what a cell or the clock of a domain shows, if it takes a value or pulses
+abbrev pub domain_shown : (up : Bool) → (domain : ℕ) → Shown
+domain_shown up e = if up then Domain e else Nothing
 
--- a lock-up of a domain shows nothing where its input is as at the strobe in the view of its own clock, and else it may move in every view
-abbrev pub lockup_shown : (domain : ℕ) → (input : Shown) → Shown
-lockup_shown e input = if is_still e input then Nothing else Several
+-- a lock-up that takes its bit shows nothing where its input is as before the edges in the view of its own clock, and else it may move in every view
+abbrev pub held_shown : (domain : ℕ) → (input : Shown) → Shown
+held_shown e input = if is_still e input then Nothing else Several
 
-abbrev pub shown_given : Logic → (pulsed : ℕ → Bool) → (shown : ℕ → Shown) → (net : ℕ) → Meaning → Shown
-shown_given l pulsed shown net Input = Nothing
-shown_given l pulsed shown net Clock = domain_shown pulsed net
-shown_given l pulsed shown net (Gate kind inputs) = shown_by shown (nets_of inputs)
-shown_given l pulsed shown net (Joined source) = shown_by shown (nets_of (source ∷ []))
-shown_given l pulsed shown net (Flop cell inverted) = domain_shown pulsed (l.cell cell).domain
-shown_given l pulsed shown net (Lockup cell domain source) = lockup_shown domain (shown_by shown (nets_of (source ∷ [])))
-shown_given l pulsed shown net Free = Nothing
+-- one that opens shows its clock; where that rests it holds, or is a wire
+abbrev pub open_shown : (up high : Bool) → (domain : ℕ) → (input : Shown) → Shown
+open_shown up high e input = if up then Domain e else (if high then Nothing else input)
+
+abbrev pub lockup_shown : (rising up high : Bool) → (domain : ℕ) → (input : Shown) → Shown
+lockup_shown rising up high e input = if takes rising high then (if rising || up then held_shown e input else Nothing) else open_shown up high e input
+
+abbrev pub shown_given : Logic → Pulse → (shown : ℕ → Shown) → (net : ℕ) → Meaning → Shown
+shown_given l p shown net Input = Nothing
+shown_given l p shown net Clock = domain_shown (p.pulsed net) net
+shown_given l p shown net (Gate kind inputs) = shown_by shown (nets_of inputs)
+shown_given l p shown net (Joined source) = shown_by shown (nets_of (source ∷ []))
+shown_given l p shown net (Flop cell inverted) = domain_shown (changes l p cell) (l.cell cell).domain
+shown_given l p shown net (Lockup cell domain high source) = lockup_shown p.rising (p.pulsed domain) high domain (shown_by shown (nets_of (source ∷ [])))
+shown_given l p shown net Free = Nothing
 
 -- each net of the set shows what its driver gives it
-abbrev pub IsShownOn : Logic → (pulsed : ℕ → Bool) → (needs : (net : ℕ) → Bool) → (shown : ℕ → Shown) → Type 0
-IsShownOn l pulsed needs shown = (net : ℕ) → needs net ≡ true → shown net ≡ shown_given l pulsed shown net (l.net net)
+abbrev pub IsShownOn : Logic → Pulse → (needs : (net : ℕ) → Bool) → (shown : ℕ → Shown) → Type 0
+IsShownOn l p needs shown = (net : ℕ) → needs net ≡ true → shown net ≡ shown_given l p shown net (l.net net)
 
--- the net is in the set, and as at the strobe in this view
+-- the net is in the set, and as before the edges in this view
 abbrev pub still_needs : (needs : (net : ℕ) → Bool) → (shown : ℕ → Shown) → (view net : ℕ) → Bool
 still_needs needs shown d net = needs net && is_still d (shown net)
 
--- a flip-flop's next value at the strobe is read from nets of the set that are as there in the view of its domain
+-- a cell's next value before the edges is read from nets of the set that are as there in the view of its domain
 abbrev pub HasStillReads : Logic → Pulse → (needs : (net : ℕ) → Bool) → (shown : ℕ → Shown) → (values : ℕ → Tri) → (cell : ℕ) → Type 0
 HasStillReads l p needs shown values c = HasAll (still_needs needs shown (l.cell c).domain) (nets_of (next_reads (l.cell c) p.ports (value_from values)))

@@ -1,8 +1,9 @@
 -- Where a next value is the value of one net, and where a net shows one flip-flop.
-use Rattle.std.specs.Prelude.{ℕ, ◌≡◌, Option, None, Some, if◌then◌else◌}
+use Rattle.std.specs.Prelude.{ℕ, Bool, ◌≡◌, Option, None, Some, if◌then◌else◌}
 use Rattle.dft_base.specs.declared.tri.Tri.{Tri}
 use Rattle.dft_base.specs.declared.tri.Tri.TheVariants.{Zero, One, Unknown}
 use Rattle.dft_netlist.specs.Drivers.{Source, Net, Tied, Loose}
+use Rattle.dft_netlist.specs.Settled.{is_wire}
 use Rattle.dft_netlist.specs.Logic.{Logic, Cell, Force, Scan, Meaning, Input, Clock, Gate, Joined, Flop, Lockup, Free}
 
 -- ---- flip-flops
@@ -37,15 +38,16 @@ origin_of origin (Net net) = origin net
 origin_of origin (Tied bit) = None
 origin_of origin (Loose i pin) = None
 
-abbrev pub origin_given : (origin : ℕ → Option ℕ) → Meaning → Option ℕ
-origin_given origin Input = None
-origin_given origin Clock = None
-origin_given origin (Gate kind inputs) = None
-origin_given origin (Joined source) = origin_of origin source
-origin_given origin (Flop cell inverted) = if inverted then None else Some cell
-origin_given origin (Lockup cell domain source) = origin_of origin source
-origin_given origin Free = None
+-- while clocks have these levels
+abbrev pub origin_given : (level : ℕ → Bool) → (origin : ℕ → Option ℕ) → Meaning → Option ℕ
+origin_given level origin Input = None
+origin_given level origin Clock = None
+origin_given level origin (Gate kind inputs) = None
+origin_given level origin (Joined source) = origin_of origin source
+origin_given level origin (Flop cell inverted) = if inverted then None else Some cell
+origin_given level origin (Lockup cell domain high source) = if is_wire high (level domain) then origin_of origin source else Some cell
+origin_given level origin Free = None
 
--- of each net the flip-flop that it shows at a strobe through joins and lock-ups, where it shows one
-abbrev pub AreOrigins : Logic → (origin : ℕ → Option ℕ) → Type 0
-AreOrigins l origin = (net : ℕ) → origin net ≡ origin_given origin (l.net net)
+-- of each net the cell that it shows through joins and lock-ups, where it shows one
+abbrev pub AreOrigins : Logic → (level : ℕ → Bool) → (origin : ℕ → Option ℕ) → Type 0
+AreOrigins l level origin = (net : ℕ) → origin net ≡ origin_given level origin (l.net net)

@@ -110,8 +110,8 @@ pub enum Op {
     Joined(Operand),
     /// A flip-flop, by its instance, or its inverse.
     Flop(InstanceId, bool),
-    /// A lock-up, by its instance, the net of its clock port, and its input.
-    Lockup(InstanceId, NetId, Operand),
+    /// A lock-up, by its instance, the net of its clock port, whether it is a wire while that is 1, and its input.
+    Lockup(InstanceId, NetId, bool, Operand),
     /// Nothing that is known.
     Free,
 }
@@ -130,10 +130,12 @@ pub struct Acting {
     pub value: bool,
 }
 
-/// What stores a bit, a flip-flop or a lock-up: the net of its clock port, and its pins.
+/// What stores a bit, a flip-flop or a lock-up: the net of its clock port, whether it takes its bit as that falls, and
+/// its pins.
 #[derive(Clone, Copy)]
 pub struct FlipFlop {
     pub domain: NetId,
+    pub falling: bool,
     pub input: Operand,
     pub scan: Option<ScanPins>,
     pub force: Option<Acting>,

@@ -126,6 +126,7 @@ fn modelled(design: &Design, flags: &[bool], number: InstanceId, wires: &[Wire])
         Some(domain) => match forcing(design, flags, wires) {
             Some(force) => Some(FlipFlop {
                 domain,
+                falling: false,
                 input: data_in(number, wires),
                 scan: scan_of(wires),
                 force,
@@ -181,6 +182,7 @@ fn locked(design: &Design, flags: &[bool], number: InstanceId, wires: &[Wire]) -
     match domain_of(design, flags, wires) {
         Some(domain) => Some(FlipFlop {
             domain,
+            falling: false,
             input: data_in(number, wires),
             scan: None,
             force: None,
@@ -238,6 +240,7 @@ pub(crate) fn flop_at(
         Some(flop) => flop,
         None => FlipFlop {
             domain: NetId(0),
+            falling: false,
             input: Operand::Loose(number, 0),
             scan: None,
             force: None,
@@ -261,7 +264,7 @@ pub(crate) fn pin_op(
     match kind {
         Kind::Opaque => Ok(Op::Free),
         Kind::Lockup => match latch_of(design, flags, number, wires) {
-            Some(latch) => Ok(Op::Lockup(number, latch.domain, latch.input)),
+            Some(latch) => Ok(Op::Lockup(number, latch.domain, false, latch.input)),
             None => Ok(Op::Free),
         },
         Kind::Dff | Kind::Dffr | Kind::Dffs | Kind::Sdff | Kind::Sdffr | Kind::Sdffs => {

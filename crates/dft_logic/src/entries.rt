@@ -12,7 +12,7 @@ ghost use Rattle.dft_logic.specs.EntryTables.{entry_of, entry_there, entry_for};
 
 use crate::circuit::{Acting, FlipFlop, Operand, ScanPins};
 use crate::origins::origin_at;
-use crate::settling::{Pulse, flag_at, value_at};
+use crate::settling::{Pulse, value_at};
 use crate::shown::{Shown, shown_here};
 use dft_base::Tri;
 use dft_netlist::{InstanceId, NetId};
@@ -20,7 +20,7 @@ use dft_netlist::{InstanceId, NetId};
 /// What a flip-flop takes.
 #[derive(Clone, Copy)]
 pub enum Entry {
-    /// Its own old value: its clock does not pulse.
+    /// Its own old value, since it takes none.
     Keeps,
     Takes(Tri),
     /// The old value of another flip-flop.
@@ -137,7 +137,7 @@ pub(crate) fn entry_given(
 ) -> Option<Entry>
     ensures { entry_there result ≡ entry_for (cell_of flop.now) (pulse_at pulse.entry) (tables.origin_at sights.now.origins.now) (shown_at sights.now.shown.now) (machine.value_at values.now) }
 {
-    if flag_at(pulse.pulsed, flop.domain.0) {
+    if flop.changes(pulse.rising, pulse.pulsed) {
         forced_entry(
             flop.force,
             pulse.ports,

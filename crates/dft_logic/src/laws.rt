@@ -2,7 +2,8 @@
 
 ghost use Rattle.dft_logic.specs.Laws.{LockupIsInput, LockupIsWire, NeededIsView, NeededIsStrobe, NextOfNeeded, LookOfNeeded, StillIsOne, StillHasOneNext, StillIsStrobe, StillNextIsStrobe, OnePass, ShownIsStrobe, PassOfShown, NextOfStrobe, NextOfSource, NextOfForce, OriginIsShown, EntryIsNext, PassOfEntries, PassOfNeeded, EntryStays, ListIsClosed, ListIsSettled, ViewIsAboveStrobe, NoTwoBits, ViewsRise, ReadsRise};
 
-/// In every view a lock-up shows its input in the view of its own clock, pulsing or not. At a strobe it is a wire.
+/// In every view of the rises a low lock-up shows its input in the view of its own clock, pulsing or not. At a strobe it
+/// is a wire, and a high one holds.
 pub fn lockup_shows_input()
     ensures view { LockupIsInput }
     ensures strobe { LockupIsWire }
@@ -18,7 +19,7 @@ pub fn needed_is_settled()
 {}
 
 /// What does not move has one pass: where nothing that a flip-flop needs moves, its next value is one whatever the
-/// map, and without another pulsed clock it is that from the strobe.
+/// map, and without another pulsed clock it is that from the values before the edges of the phase.
 pub fn still_has_one_pass()
     ensures one { StillIsOne }
     ensures next { StillHasOneNext }
@@ -28,13 +29,13 @@ pub fn still_has_one_pass()
 {}
 
 /// What nets show of the pulsed domains is found in one pass for all views, and where nothing needed moves one
-/// assignment, at the strobe and of the needed nets alone, gives all next values.
+/// assignment, before the edges of the phase and of the needed nets alone, gives all next values.
 pub fn one_assignment()
     ensures view { ShownIsStrobe }
     ensures pass { PassOfShown }
 {}
 
-/// What a next value at a strobe takes: what it is read from, one source, a reset or set that acts; and which
+/// What a next value takes from the values before the edges: what it is read from, one source, a reset or set that acts; and which
 /// flip-flop a net shows through joins and lock-ups.
 pub fn next_at_strobe()
     ensures read { NextOfStrobe }
@@ -58,7 +59,7 @@ pub fn lists_settle()
     ensures settled { ListIsSettled }
 {}
 
-/// Each net's value in each view stands above its value at the strobe, and rises with the map.
+/// Each net's value in each view stands above its value before the edges of the phase, and rises with the map.
 pub fn views_rise()
     ensures strobe { ViewIsAboveStrobe }
     ensures bits { NoTwoBits }

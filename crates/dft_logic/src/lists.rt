@@ -3,30 +3,24 @@
 ghost use Rattle.std.specs.Prelude.{◌≡◌, ℕ, [], length, map, true};
 ghost use Rattle.dft_netlist.specs.Orders.{Has, numbers_of};
 ghost use Rattle.dft_netlist.specs.Settled.{value_given};
-ghost use Rattle.dft_logic.specs.Needs.{strobe_from};
+ghost use Rattle.dft_logic.specs.Needs.{before_from, strobe_from};
 ghost use Rattle.dft_logic.specs.Values as spec;
-ghost use Rattle.dft_logic.specs.Circuit.{AreOrdered, IsCircuit, IsGiven, meaning, op_at};
+ghost use Rattle.dft_logic.specs.Circuit.{AreOrdered, IsCircuit, meaning, op_at, pulse_at};
 
 use crate::circuit::Circuit;
-use crate::settling::{Pulse, View, differ, op_value, strobe_view, value_at};
+use crate::settling::{Pulse, differ, op_before, value_at};
 use dft_base::Tri;
 use dft_netlist::NetId;
 
-/// Settles these nets in a view, whatever the values before.
-pub fn settle_list(circuit: &Circuit, view: &View<'_, '_, '_>, nets: &[NetId], values: &mut [Tri])
+/// Settles these nets before the edges of a phase, whatever the values before.
+pub fn settle_list(circuit: &Circuit, pulse: Pulse<'_>, nets: &[NetId], values: &mut [Tri])
     requires circuit { IsCircuit circuit.now }
     requires values { length values.old ≡ length circuit.now.ops.items }
     requires ordered { AreOrdered circuit.now.ops.items [] (numbers_of nets.now) }
-    ensures { (k : ℕ) → Has (numbers_of nets.now) k → IsGiven circuit.now view.now values.new k }
+    ensures { (k : ℕ) → Has (numbers_of nets.now) k → spec.value_at values.new k ≡ value_given (before_from (pulse_at pulse.entry) (spec.value_at values.new)) (spec.value_at values.new) k (meaning (op_at circuit.now.ops.items k)) }
 {
     for net in nets {
-        let value = op_value(
-            &circuit.ops[net.0 as usize],
-            *net,
-            &circuit.flops,
-            view,
-            values,
-        );
+        let value = op_before(&circuit.ops[net.0 as usize], *net, pulse, values);
         values[net.0 as usize] = value;
     }
 }
@@ -45,11 +39,12 @@ pub fn settle_strobe(
     ensures { (k : ℕ) → Has (numbers_of nets.now) k → spec.value_at values.new k ≡ value_given (strobe_from (spec.value_at ports.now) (spec.value_at cells.now) (spec.value_at values.new)) (spec.value_at values.new) k (meaning (op_at circuit.now.ops.items k)) }
 {
     let pulse = Pulse {
+        rising: true,
         ports,
         pulsed: &[],
         old: cells,
     };
-    settle_list(circuit, &strobe_view(pulse), nets, values);
+    settle_list(circuit, pulse, nets, values);
 }
 
 /// Reads the values of nets, in their order.

@@ -1,12 +1,14 @@
-//! Which flip-flop a net shows at a strobe through joins and lock-ups.
+//! Which flip-flop or lock-up a net shows before the edges of a phase, through joins and lock-ups that are wires.
 
 ghost use Rattle.std.specs.Prelude.{◌≡◌, length};
 ghost use Rattle.dft_logic.specs.Takes.{origin_of, origin_given, AreOrigins};
-ghost use Rattle.dft_logic.specs.Circuit.{meaning, source_at, logic_at, IsCircuit};
+ghost use Rattle.dft_abstract.specs.Cycle.{level_before};
+ghost use Rattle.dft_logic.specs.Circuit.{meaning, source_at, logic_at, pulse_at, IsCircuit};
 ghost use Rattle.dft_logic.specs.EntryTables as tables;
 ghost use Rattle.dft_logic.specs.EntryTables.{number_of};
 
 use crate::circuit::{Circuit, Op, Operand};
+use crate::settling::{Pulse, is_wire};
 use dft_netlist::{InstanceId, NetId};
 
 // The flip-flop that a net shows, if it shows one; past the end none does.
@@ -31,13 +33,17 @@ fn operand_origin(operand: &Operand, origins: &[Option<InstanceId>]) -> Option<I
 }
 
 // The flip-flop that a net shows by its driver.
-fn op_origin(op: &Op, origins: &[Option<InstanceId>]) -> Option<InstanceId>
-    ensures { number_of result ≡ origin_given (tables.origin_at origins.now) (meaning op.now) }
+fn op_origin(op: &Op, pulse: Pulse<'_>, origins: &[Option<InstanceId>]) -> Option<InstanceId>
+    ensures { number_of result ≡ origin_given (level_before (pulse_at pulse.entry)) (tables.origin_at origins.now) (meaning op.now) }
 {
     match op {
         Op::Joined(source) => operand_origin(source, origins),
         Op::Flop(instance, inverted) => if *inverted { None } else { Some(*instance) },
-        Op::Lockup(_, _, source) => operand_origin(source, origins),
+        Op::Lockup(instance, clock, high, source) => if is_wire(*high, pulse.level(*clock)) {
+            operand_origin(source, origins)
+        } else {
+            Some(*instance)
+        },
         Op::Input => None,
         Op::Clock => None,
         Op::Gate(_, _) => None,
@@ -45,14 +51,14 @@ fn op_origin(op: &Op, origins: &[Option<InstanceId>]) -> Option<InstanceId>
     }
 }
 
-/// Finds the flip-flop that each net shows, in the circuit's order.
-pub fn find_origins(circuit: &Circuit, origins: &mut [Option<InstanceId>])
+/// Finds the flip-flop that each net shows before the edges of a phase, in the circuit's order.
+pub fn find_origins(circuit: &Circuit, pulse: Pulse<'_>, origins: &mut [Option<InstanceId>])
     requires circuit { IsCircuit circuit.now }
     requires origins { length origins.old ≡ length circuit.now.ops.items }
-    ensures { AreOrigins (logic_at circuit.now) (tables.origin_at origins.new) }
+    ensures { AreOrigins (logic_at circuit.now) (level_before (pulse_at pulse.entry)) (tables.origin_at origins.new) }
 {
     for net in &circuit.order {
-        let origin = op_origin(&circuit.ops[net.0 as usize], origins);
+        let origin = op_origin(&circuit.ops[net.0 as usize], pulse, origins);
         origins[net.0 as usize] = origin;
     }
 }

@@ -1,15 +1,20 @@
 //! The settled values of all nets, in an order.
 
-ghost use Rattle.std.specs.Prelude.{◌≡◌, ℕ, ◌<◌, ◌≤◌, length, map, take, true, false, None, ◌==◌, if◌then◌else◌};
+ghost use Rattle.std.specs.Prelude.{◌≡◌, ℕ, ◌<◌, ◌≤◌, length, map, take, true, false, ◌==◌, ◌&&◌, if◌then◌else◌};
 ghost use Rattle.dft_netlist.specs.Settled.{value_from, value_given, IsTriSettled};
 ghost use Rattle.dft_netlist.specs.Settled as settled;
+ghost use Rattle.dft_cells.specs.Gates as gates;
+ghost use Rattle.dft_cells.specs.WellFormed.{TakesInputs};
+ghost use Rattle.dft_netlist.specs.Runs as runs;
+ghost use Rattle.dft_abstract.specs.Cycle as cycle;
+ghost use Rattle.dft_abstract.specs.Cycle.{clock_value};
 ghost use Rattle.dft_logic.specs.Values as spec;
-ghost use Rattle.dft_logic.specs.Circuit.{source_at, meaning, op_at, logic_at, Fits, IsCircuit, leaves_from, cell_of, cell_at, view_base, held_in};
+ghost use Rattle.dft_logic.specs.Circuit.{source_at, meaning, op_at, logic_at, Fits, IsCircuit, leaves_from, cell_of, cell_at, before_base, view_base};
 ghost use Rattle.dft_logic.specs.Circuit as circuits;
 
-use crate::circuit::{Circuit, FlipFlop, Op, Operand};
+use crate::circuit::{Circuit, FlipFlop, Op, Operand, Operands};
 use dft_base::Tri;
-use dft_cells::tri_of;
+use dft_cells::{Kind, tri_of};
 use dft_netlist::NetId;
 
 // The most inputs that a gate or a table has.
@@ -46,34 +51,35 @@ pub fn differ(one: Tri, other: Tri) -> bool
     }
 }
 
-/// A pulse of some domains: the values of ports by net, the clocks that pulse by net, and the values of flip-flops
-/// before, by instance.
+/// A phase of a pulse of some domains, its clocks rise or they fall: the values of ports by net, the clocks that pulse by
+/// net, and the values of flip-flops and lock-ups before, by instance.
 #[derive(Clone, Copy)]
 pub struct Pulse<'a> {
+    pub rising: bool,
     pub ports: &'a [Tri],
     pub pulsed: &'a [bool],
     pub old: &'a [Tri],
 }
 
-/// The view of a domain in a pulse: what flip-flops of other pulsed domains may have, and what lock-ups show, by
-/// instance, where they are no wires.
+/// The view of a domain in a phase: what flip-flops of other pulsed domains may have, and what lock-ups show that take
+/// their bits in it, by instance.
 #[derive(Clone, Copy)]
 pub struct View<'p, 'q, 'h> {
     pub pulse: Pulse<'p>,
     pub domain: NetId,
     pub poss: &'q [Tri],
-    pub held: Option<&'h [Tri]>,
+    pub held: &'h [Tri],
 }
 
-/// The view of a strobe: lock-ups are wires.
+/// The view of net 0 at the old values. Where no clock falls it is a strobe's.
 pub fn strobe_view(pulse: Pulse<'_>) -> View<'_, '_, '_>
-    ensures { result ≡ record { pulse = pulse.entry; domain = record { 0 = 0 }; poss = pulse.entry.old; held = None } }
+    ensures { result ≡ record { pulse = pulse.entry; domain = record { 0 = 0 }; poss = pulse.entry.old; held = pulse.entry.old } }
 {
     View {
         pulse,
         domain: NetId(0),
         poss: pulse.old,
-        held: None,
+        held: pulse.old,
     }
 }
 
@@ -87,15 +93,45 @@ pub(crate) fn domain_at(flops: &[FlipFlop], instance: u32) -> NetId
     }
 }
 
+// Whether a cell takes its bit where clocks rise, or where they fall.
+pub(crate) fn takes(rising: bool, falling: bool) -> bool
+    ensures { result ≡ runs.takes rising falling }
+{
+    if rising { !falling } else { falling }
+}
+
+// Whether the flip-flop of an instance takes a value in a phase.
+pub(crate) fn changes_at(flops: &[FlipFlop], rising: bool, pulsed: &[bool], instance: u32) -> bool
+    ensures { result ≡ circuits.flag_at pulsed.now (cell_at (map cell_of flops.now) instance).domain && runs.takes rising (cell_at (map cell_of flops.now) instance).falling }
+{
+    match flops.get(instance as usize) {
+        Some(flop) => flop.changes(rising, pulsed),
+        None => flag_at(pulsed, 0) && takes(rising, false),
+    }
+}
+
+impl FlipFlop {
+    /// Whether it takes a value in a phase where these clocks pulse.
+    pub fn changes(&self, rising: bool, pulsed: &[bool]) -> bool
+        ensures { result ≡ circuits.flag_at pulsed.now (cell_of self.now).domain && runs.takes rising (cell_of self.now).falling }
+    {
+        flag_at(pulsed, self.domain.0) && takes(rising, self.falling)
+    }
+}
+
 impl View<'_, '_, '_> {
     // The value of a clock.
     fn clock(&self, net: NetId) -> Tri
-        ensures { result ≡ (if circuits.flag_at self.now.pulse.pulsed.now net.0 then (if net.0 == self.now.domain.0 then Tri.Zero else Tri.Unknown) else Tri.Zero) }
+        ensures { result ≡ clock_value (circuits.pulse_at self.now.pulse) self.now.domain.0 net.0 }
     {
-        if flag_at(self.pulse.pulsed, net.0) && net.0 != self.domain.0 {
-            Tri::Unknown
-        } else {
+        if !flag_at(self.pulse.pulsed, net.0) {
             Tri::Zero
+        } else if net.0 != self.domain.0 {
+            Tri::Unknown
+        } else if self.pulse.rising {
+            Tri::Zero
+        } else {
+            Tri::One
         }
     }
 
@@ -103,12 +139,69 @@ impl View<'_, '_, '_> {
     fn flop(&self, flops: &[FlipFlop], instance: u32) -> Tri
         ensures { result ≡ (view_base (map cell_of flops.now) self.now).flops instance }
     {
-        let domain = domain_at(flops, instance);
-        if flag_at(self.pulse.pulsed, domain.0) && domain.0 != self.domain.0 {
+        let moved = changes_at(flops, self.pulse.rising, self.pulse.pulsed, instance);
+        if moved && domain_at(flops, instance).0 != self.domain.0 {
             value_at(self.poss, instance)
         } else {
             value_at(self.pulse.old, instance)
         }
+    }
+
+    // What a lock-up shows that takes its bit in the phase.
+    fn closing(&self, up: bool, instance: u32) -> Tri
+        ensures { result ≡ cycle.closing self.now.pulse.rising up (spec.value_at self.now.pulse.old.now instance) (spec.value_at self.now.held.now instance) }
+    {
+        if self.pulse.rising || up {
+            value_at(self.held, instance)
+        } else {
+            value_at(self.pulse.old, instance)
+        }
+    }
+
+    // What the lock-up of an instance and a clock shows, by the value of its input.
+    fn lockup(&self, instance: u32, clock: NetId, high: bool, input: Tri) -> Tri
+        ensures { result ≡ cycle.lockup_shown self.now.pulse.rising (circuits.flag_at self.now.pulse.pulsed.now clock.0) (clock.0 == self.now.domain.0) high (spec.value_at self.now.pulse.old.now instance) input (spec.value_at self.now.held.now instance) }
+    {
+        let up = flag_at(self.pulse.pulsed, clock.0);
+        if takes(self.pulse.rising, high) {
+            self.closing(up, instance)
+        } else {
+            opening(
+                up,
+                clock.0 == self.domain.0,
+                high,
+                value_at(self.pulse.old, instance),
+                input,
+            )
+        }
+    }
+}
+
+impl Pulse<'_> {
+    // The level of a clock before its edge.
+    pub(crate) fn level(&self, clock: NetId) -> bool
+        ensures { result ≡ cycle.level_before (circuits.pulse_at self.now) clock.0 }
+    {
+        flag_at(self.pulsed, clock.0) && !self.rising
+    }
+}
+
+// Whether a lock-up is a wire while its clock has this level.
+pub(crate) fn is_wire(high: bool, level: bool) -> bool
+    ensures { result ≡ settled.is_wire high level }
+{
+    if high { level } else { !level }
+}
+
+// What another lock-up shows, by what it holds and the value of its input.
+fn opening(up: bool, own: bool, high: bool, held: Tri, input: Tri) -> Tri
+    ensures { result ≡ cycle.opening up own high held input }
+{
+    match (up, own, high) {
+        (true, true, _) => held,
+        (true, false, _) => held.join(input),
+        (false, _, true) => held,
+        (false, _, false) => input,
     }
 }
 
@@ -146,6 +239,17 @@ fn inverted(value: Tri, inverse: bool) -> Tri
     }
 }
 
+// The value of a gate.
+fn gate_value(kind: Kind, inputs: &Operands, values: &[Tri]) -> Tri
+    requires { TakesInputs kind (length inputs.now) }
+    ensures { result ≡ gates.tri_of kind (map (value_from (spec.value_at values.now)) (map source_at inputs.now)) }
+{
+    let mut row = [Tri::Unknown; MAX_INPUTS];
+    let inputs = inputs.as_slice();
+    gather(inputs, values, &mut row);
+    tri_of(kind, &row[..inputs.len()])
+}
+
 /// The value that a net's driver gives it.
 pub fn op_value(
     op: &Op,
@@ -155,24 +259,42 @@ pub fn op_value(
     values: &[Tri],
 ) -> Tri
     requires { Fits op.now }
-    ensures { result ≡ value_given (leaves_from (view_base (map cell_of flops.now) view.now) (held_in view.now) (spec.value_at values.now)) (spec.value_at values.now) net.0 (meaning op.now) }
+    ensures { result ≡ value_given (leaves_from (view_base (map cell_of flops.now) view.now) (spec.value_at values.now)) (spec.value_at values.now) net.0 (meaning op.now) }
 {
     match op {
         Op::Input => value_at(view.pulse.ports, net.0),
         Op::Clock => view.clock(net),
-        Op::Gate(kind, inputs) => {
-            let mut row = [Tri::Unknown; MAX_INPUTS];
-            let inputs = inputs.as_slice();
-            gather(inputs, values, &mut row);
-            tri_of(*kind, &row[..inputs.len()])
-        }
+        Op::Gate(kind, inputs) => gate_value(*kind, inputs, values),
         Op::Joined(source) => source.value(values),
         Op::Flop(instance, inverse) => inverted(view.flop(flops, instance.0), *inverse),
-        Op::Lockup(instance, _, source) => match view.held {
-            Some(held) => value_at(held, instance.0),
-            None => source.value(values),
-        },
+        Op::Lockup(instance, clock, high, source) => {
+            view.lockup(instance.0, *clock, *high, source.value(values))
+        }
         Op::Free => Tri::Unknown,
+    }
+}
+
+// The value that a net's driver gives it before the edges of a phase.
+pub(crate) fn op_before(op: &Op, net: NetId, pulse: Pulse<'_>, values: &[Tri]) -> Tri
+    requires { Fits op.now }
+    ensures { result ≡ value_given (leaves_from (before_base (circuits.pulse_at pulse.entry)) (spec.value_at values.now)) (spec.value_at values.now) net.0 (meaning op.now) }
+{
+    match op {
+        Op::Input => value_at(pulse.ports, net.0),
+        Op::Clock => if pulse.level(net) {
+            Tri::One
+        } else {
+            Tri::Zero
+        },
+        Op::Gate(kind, inputs) => gate_value(*kind, inputs, values),
+        Op::Joined(source) => source.value(values),
+        Op::Flop(instance, inverse) => inverted(value_at(pulse.old, instance.0), *inverse),
+        Op::Lockup(instance, clock, high, source) => if is_wire(*high, pulse.level(*clock)) {
+            source.value(values)
+        } else {
+            value_at(pulse.old, instance.0)
+        },
+        _ => Tri::Unknown,
     }
 }
 
@@ -180,7 +302,7 @@ pub fn op_value(
 pub fn settle(circuit: &Circuit, view: &View<'_, '_, '_>, values: &mut [Tri])
     requires circuit { IsCircuit circuit.now }
     requires values { length values.old ≡ length circuit.now.ops.items }
-    ensures { IsTriSettled (logic_at circuit.now) (leaves_from (view_base (map cell_of circuit.now.flops.items) view.now) (held_in view.now) (spec.value_at values.new)) (spec.value_at values.new) }
+    ensures { IsTriSettled (logic_at circuit.now) (leaves_from (view_base (map cell_of circuit.now.flops.items) view.now) (spec.value_at values.new)) (spec.value_at values.new) }
 {
     for net in &circuit.order {
         let value = op_value(

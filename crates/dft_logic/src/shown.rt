@@ -5,10 +5,10 @@ ghost use Rattle.dft_netlist.specs.Drivers.{nets_of};
 ghost use Rattle.dft_logic.specs.Shows as shows;
 ghost use Rattle.dft_logic.specs.Shows.{IsShownOn};
 ghost use Rattle.dft_logic.specs.Circuit.{meaning, source_at, logic_at, cell_of, cell_at, IsCircuit, flag_at as is_up};
-ghost use Rattle.dft_logic.specs.ShownTables.{shown_of, shown_at, shown_in};
+ghost use Rattle.dft_logic.specs.ShownTables.{shown_of, shown_at, shown_in, edges_of};
 
 use crate::circuit::{Circuit, FlipFlop, Op, Operand};
-use crate::settling::{domain_at, flag_at};
+use crate::settling::{changes_at, domain_at, flag_at, takes};
 use dft_netlist::NetId;
 
 /// What of the domains that pulse a net shows, by their flip-flops and clocks.
@@ -71,25 +71,49 @@ fn operand_shown(operand: &Operand, shown: &[Shown]) -> Shown
     }
 }
 
-// What a flip-flop or the clock of a domain shows.
-fn domain_shown(pulsed: &[bool], domain: NetId) -> Shown
-    ensures { shown_of result ≡ shows.domain_shown (is_up pulsed.now) domain.0 }
+// What a flip-flop or the clock of a domain shows, if it takes a value or pulses.
+fn domain_shown(up: bool, domain: NetId) -> Shown
+    ensures { shown_of result ≡ shows.domain_shown up domain.0 }
 {
-    if flag_at(pulsed, domain.0) {
+    if up {
         Shown::Domain(domain)
     } else {
         Shown::Nothing
     }
 }
 
-// What a lock-up of a domain shows.
-fn lockup_shown(domain: NetId, input: Shown) -> Shown
-    ensures { shown_of result ≡ shows.lockup_shown domain.0 (shown_of input) }
+// What a lock-up of a domain shows that takes its bit.
+fn held_shown(domain: NetId, input: Shown) -> Shown
+    ensures { shown_of result ≡ shows.held_shown domain.0 (shown_of input) }
 {
     if input.is_still(domain) {
         Shown::Nothing
     } else {
         Shown::Several
+    }
+}
+
+// What another one shows.
+fn open_shown(up: bool, high: bool, domain: NetId, input: Shown) -> Shown
+    ensures { shown_of result ≡ shows.open_shown up high domain.0 (shown_of input) }
+{
+    match (up, high) {
+        (true, _) => Shown::Domain(domain),
+        (false, true) => Shown::Nothing,
+        (false, false) => input,
+    }
+}
+
+// What a lock-up of a domain shows.
+fn lockup_shown(rising: bool, up: bool, high: bool, domain: NetId, input: Shown) -> Shown
+    ensures { shown_of result ≡ shows.lockup_shown rising up high domain.0 (shown_of input) }
+{
+    if !takes(rising, high) {
+        open_shown(up, high, domain, input)
+    } else if rising || up {
+        held_shown(domain, input)
+    } else {
+        Shown::Nothing
     }
 }
 
@@ -105,31 +129,48 @@ fn inputs_shown(inputs: &[Operand], shown: &[Shown]) -> Shown
 }
 
 // What a net shows by its driver.
-fn op_shown(op: &Op, net: NetId, flops: &[FlipFlop], pulsed: &[bool], shown: &[Shown]) -> Shown
-    ensures { shown_of result ≡ shown_in (map cell_of flops.now) (is_up pulsed.now) (shown_at shown.now) net.0 (meaning op.now) }
+fn op_shown(
+    op: &Op,
+    net: NetId,
+    flops: &[FlipFlop],
+    rising: bool,
+    pulsed: &[bool],
+    shown: &[Shown],
+) -> Shown
+    ensures { shown_of result ≡ shown_in (map cell_of flops.now) rising (is_up pulsed.now) (shown_at shown.now) net.0 (meaning op.now) }
 {
     match op {
-        Op::Clock => domain_shown(pulsed, net),
+        Op::Clock => domain_shown(flag_at(pulsed, net.0), net),
         Op::Gate(_, inputs) => inputs_shown(inputs.as_slice(), shown),
         Op::Joined(source) => operand_shown(source, shown),
-        Op::Flop(instance, _) => domain_shown(pulsed, domain_at(flops, instance.0)),
-        Op::Lockup(_, domain, source) => lockup_shown(*domain, operand_shown(source, shown)),
+        Op::Flop(instance, _) => domain_shown(
+            changes_at(flops, rising, pulsed, instance.0),
+            domain_at(flops, instance.0),
+        ),
+        Op::Lockup(_, domain, high, source) => lockup_shown(
+            rising,
+            flag_at(pulsed, domain.0),
+            *high,
+            *domain,
+            operand_shown(source, shown),
+        ),
         Op::Input => Shown::Nothing,
         Op::Free => Shown::Nothing,
     }
 }
 
-/// Tells of every net what it shows where these clocks pulse, in the circuit's order.
-pub fn show_all(circuit: &Circuit, pulsed: &[bool], shown: &mut [Shown])
+/// Tells of every net what it shows where these clocks rise, or fall, in the circuit's order.
+pub fn show_all(circuit: &Circuit, rising: bool, pulsed: &[bool], shown: &mut [Shown])
     requires circuit { IsCircuit circuit.now }
     requires shown { length shown.old ≡ length circuit.now.ops.items }
-    ensures { IsShownOn (logic_at circuit.now) (is_up pulsed.now) (λ net. true) (shown_at shown.new) }
+    ensures { IsShownOn (logic_at circuit.now) (edges_of rising (is_up pulsed.now)) (λ net. true) (shown_at shown.new) }
 {
     for net in &circuit.order {
         let given = op_shown(
             &circuit.ops[net.0 as usize],
             *net,
             &circuit.flops,
+            rising,
             pulsed,
             shown,
         );

@@ -79,7 +79,7 @@ fn add_reader(table: &mut Vec<Numbers>, op: &Op, reader: u32) -> Result<(), Allo
 {
     match op {
         Op::Gate(_, inputs) => add_inputs(table, inputs.as_slice(), reader),
-        Op::Joined(source) | Op::Lockup(_, _, source) => add_at(table, net_of(source), reader),
+        Op::Joined(source) | Op::Lockup(_, _, _, source) => add_at(table, net_of(source), reader),
         _ => Ok(()),
     }
 }
@@ -103,7 +103,7 @@ fn leaf_domain(op: &Op, net: NetId, flops: &[FlipFlop]) -> Option<NetId>
     match op {
         Op::Clock => Some(net),
         Op::Flop(instance, _) => Some(domain_at(flops, instance.0)),
-        Op::Lockup(_, domain, _) => Some(*domain),
+        Op::Lockup(_, domain, _, _) => Some(*domain),
         _ => None,
     }
 }
@@ -113,7 +113,7 @@ fn source_place(op: &Op) -> Option<NetId>
     ensures { listed result ≡ source_places (meaning op.now) }
 {
     match op {
-        Op::Input | Op::Clock | Op::Flop(_, _) | Op::Lockup(_, _, _) => Some(NetId(0)),
+        Op::Input | Op::Clock | Op::Flop(_, _) | Op::Lockup(_, _, _, _) => Some(NetId(0)),
         _ => None,
     }
 }

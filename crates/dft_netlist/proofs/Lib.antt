@@ -23,6 +23,8 @@ pub mod StandLemmas
 pub mod Weights
 pub mod DriverLaws
 pub mod TraceLemmas
+pub mod ClockWalks
+pub mod ClockLemmas
 pub mod NumberLemmas
 pub mod BitLemmas
 pub mod RankLemmas

@@ -9,7 +9,7 @@ use Rattle.dft_cells.specs.Laws.{AllAbove}
 use Rattle.dft_cells.proofs.Completions.{above_known, shared_above, above_self, AllOver, shared_monotone}
 use Rattle.dft_netlist.specs.Drivers.{Source, Net, Tied, Loose, nets_of, AreBelow}
 use Rattle.dft_netlist.specs.Logic.{Meaning, Input, Clock, Gate, Joined, Flop, Lockup, Free, reads}
-use Rattle.dft_netlist.specs.Settled.{Sources, bit_from, bit_given, TriSources, value_from, value_given, inverse}
+use Rattle.dft_netlist.specs.Settled.{Sources, bit_from, bit_given, TriSources, value_from, value_given, inverse, is_wire}
 
 pub completed_above : (t : Tri) (b : Bool) → Above t (completed t b)
 completed_above Zero b = tt
@@ -49,14 +49,14 @@ inputs_above rank r s bits values (Loose i pin ∷ inputs) below ih = (tt, input
 pub meaning_above : (rank : ℕ → ℕ) (s : Sources) (t : TriSources) (bits : ℕ → Bool) (values : ℕ → Tri) (net : ℕ) →
     ((k : ℕ) → Above (t.ports k) (s.ports k)) → ((e : ℕ) → Above (t.clocks e) (s.high e)) → ((c : ℕ) → Above (t.flops c) (s.flops c)) →
     (m : Meaning) → AreBelow rank (rank net) (reads m) → ((k : ℕ) → rank k < rank net → Above (values k) (bits k)) →
-    ((c e : ℕ) (source : Source) → m ≡ Lockup c e source → AreBelow rank (rank net) (nets_of (source ∷ [])) → Above (t.lockups c e source) (if s.high e then s.flops c else bit_from s bits source)) →
+    ((c e : ℕ) (high : Bool) (source : Source) → m ≡ Lockup c e high source → AreBelow rank (rank net) (nets_of (source ∷ [])) → Above (t.lockups c e high source) (if is_wire high (s.high e) then bit_from s bits source else s.flops c)) →
     Above (value_given t values net m) (bit_given s bits net m)
 meaning_above rank s t bits values net ports clocks flops Input below ih lockup = ports net
 meaning_above rank s t bits values net ports clocks flops Clock below ih lockup = clocks net
 meaning_above rank s t bits values net ports clocks flops (Gate kind inputs) below ih lockup = shared_above (bit_of kind) (map (value_from values) inputs) (map (bit_from s bits) inputs) (inputs_above rank (rank net) s bits values inputs below ih)
 meaning_above rank s t bits values net ports clocks flops (Joined source) below ih lockup = source_above rank (rank net) s bits values source below ih
 meaning_above rank s t bits values net ports clocks flops (Flop c inverted) below ih lockup = above_pin inverted (t.flops c) (s.flops c) (flops c)
-meaning_above rank s t bits values net ports clocks flops (Lockup c e source) below ih lockup = lockup c e source refl below
+meaning_above rank s t bits values net ports clocks flops (Lockup c e high source) below ih lockup = lockup c e high source refl below
 meaning_above rank s t bits values net ports clocks flops Free below ih lockup = tt
 
 -- from meanings to nets
@@ -107,14 +107,14 @@ pin_monotone true One Unknown h = absurd h
 pub meaning_monotone : (rank : ℕ → ℕ) (t s : TriSources) (v w : ℕ → Tri) (net : ℕ) →
     ((k : ℕ) → AboveTri (t.ports k) (s.ports k)) → ((e : ℕ) → AboveTri (t.clocks e) (s.clocks e)) → ((c : ℕ) → AboveTri (t.flops c) (s.flops c)) →
     (m : Meaning) → AreBelow rank (rank net) (reads m) → ((k : ℕ) → rank k < rank net → AboveTri (v k) (w k)) →
-    ((c e : ℕ) (source : Source) → AreBelow rank (rank net) (nets_of (source ∷ [])) → AboveTri (t.lockups c e source) (s.lockups c e source)) →
+    ((c e : ℕ) (high : Bool) (source : Source) → AreBelow rank (rank net) (nets_of (source ∷ [])) → AboveTri (t.lockups c e high source) (s.lockups c e high source)) →
     AboveTri (value_given t v net m) (value_given s w net m)
 meaning_monotone rank t s v w net ports clocks flops Input below ih lockups = ports net
 meaning_monotone rank t s v w net ports clocks flops Clock below ih lockups = clocks net
 meaning_monotone rank t s v w net ports clocks flops (Gate kind inputs) below ih lockups = shared_monotone (bit_of kind) (map (value_from v) inputs) (map (value_from w) inputs) (inputs_monotone rank (rank net) v w inputs below ih)
 meaning_monotone rank t s v w net ports clocks flops (Joined source) below ih lockups = source_monotone rank (rank net) v w source below ih
 meaning_monotone rank t s v w net ports clocks flops (Flop c inverted) below ih lockups = pin_monotone inverted (t.flops c) (s.flops c) (flops c)
-meaning_monotone rank t s v w net ports clocks flops (Lockup c e source) below ih lockups = lockups c e source below
+meaning_monotone rank t s v w net ports clocks flops (Lockup c e high source) below ih lockups = lockups c e high source below
 meaning_monotone rank t s v w net ports clocks flops Free below ih lockups = tt
 
 pub at_nets : (x y a b : Tri) → x ≡ a → y ≡ b → AboveTri a b → AboveTri x y

@@ -4,7 +4,7 @@ use Rattle.std.specs.Prelude.{if◌then◌else◌}
 use Rattle.dft_cells.specs.Gates.{bit_of}
 use Rattle.dft_netlist.specs.Drivers.{Source, Net, Tied, Loose, nets_of, AreBelow}
 use Rattle.dft_netlist.specs.Logic.{Logic, Meaning, Input, Clock, Gate, Joined, Flop, Lockup, Free, reads, IsRanked}
-use Rattle.dft_netlist.specs.Settled.{Sources, bit_from, bit_given, IsSettled}
+use Rattle.dft_netlist.specs.Settled.{Sources, bit_from, bit_given, IsSettled, is_wire}
 use Rattle.dft_netlist.specs.Laws.{SettledIsOne}
 
 bit_same : (rank : ℕ → ℕ) (r : ℕ) (s : Sources) (v w : ℕ → Bool) (source : Source) → AreBelow rank r (nets_of (source ∷ [])) → ((net : ℕ) → rank net < r → v net ≡ w net) → bit_from s v source ≡ bit_from s w source
@@ -24,7 +24,7 @@ given_same rank s v w net Clock below same = refl
 given_same rank s v w net (Gate kind inputs) below same = ap (bit_of kind) (bits_same rank (rank net) s v w inputs below same)
 given_same rank s v w net (Joined source) below same = bit_same rank (rank net) s v w source below same
 given_same rank s v w net (Flop c inverted) below same = refl
-given_same rank s v w net (Lockup c domain source) below same = ap (λ (b : Bool). if s.high domain then s.flops c else b) (bit_same rank (rank net) s v w source below same)
+given_same rank s v w net (Lockup c domain high source) below same = ap (λ (b : Bool). if is_wire high (s.high domain) then b else s.flops c) (bit_same rank (rank net) s v w source below same)
 given_same rank s v w net Free below same = refl
 
 -- the bit of a net from so many levels of drivers

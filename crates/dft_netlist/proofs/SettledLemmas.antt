@@ -9,6 +9,6 @@ use Rattle.dft_netlist.specs.Drivers.{Source}
 pub value_at : (l : Logic) (s : TriSources) (w : ℕ → Tri) (net : ℕ) (m : Meaning) → IsTriSettled l s w → l.net net ≡ m → w net ≡ value_given s w net m
 value_at l s w net m settled is = settled net ∙ ap (value_given s w net) is
 
-pub no_flop : (i : ℕ) (inverted : Bool) (cell : Option Cell) (c e : ℕ) (source : Source) → flop_meaning i inverted cell ≡ Lockup c e source → ⊥
-no_flop i inverted None c e source h = cc
-no_flop i inverted (Some cell) c e source h = cc
+pub no_flop : (i : ℕ) (inverted : Bool) (cell : Option Cell) (c e : ℕ) (high : Bool) (source : Source) → flop_meaning i inverted cell ≡ Lockup c e high source → ⊥
+no_flop i inverted None c e high source h = cc
+no_flop i inverted (Some cell) c e high source h = cc

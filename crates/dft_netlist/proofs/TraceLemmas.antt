@@ -40,7 +40,7 @@ buffer_roles library w nets name (AGate kind inputs) pins h is = gate_buffer kin
 
 -- ---- what an instance passes on
 
-pin_driver : (n : Netlist) (id : InstanceId) (p : ℕ) (x : Instance) → slice_get n.instances id.0 ≡ Some x → driver_at n (Pin id p) ≡ driver_of_kind (shape_of n.library x.cell).kind id.0 (is_inverted (slice_get (roles_at n id.0) p)) (inputs_of id.0 (connections_of n.library x))
+pub pin_driver : (n : Netlist) (id : InstanceId) (p : ℕ) (x : Instance) → slice_get n.instances id.0 ≡ Some x → driver_at n (Pin id p) ≡ driver_of_kind (shape_of n.library x.cell).kind id.0 (is_inverted (slice_get (roles_at n id.0) p)) (inputs_of id.0 (connections_of n.library x))
 pin_driver n id p x at = rw at refl
 
 by_buffer : (walk : Source → Root) (net i : ℕ) (inverted : Bool) (pins : List Signal) (s : Signal) → slice_get pins 0 ≡ Some s → root_of_driver walk net (driver_of_kind Buf i inverted (inputs_of i (connections_from 0 (Input ∷ Output ∷ []) pins))) ≡ walk (source_of i 0 s)

@@ -43,7 +43,7 @@ passed_constant f _ inputs bit is = absurd cc
 gate_below : (n : Netlist) (rank : ℕ → ℕ) (r : ℕ) (d : Driver) (kind : Kind) (inputs : List Source) (source : Source) → d ≡ Gate kind inputs → passed_by_gate kind inputs ≡ From source → AreBelow rank r (nets_read n d) → AreBelow rank r (nets_of (source ∷ []))
 gate_below n rank r d kind inputs source is passes below = passed_below rank r kind inputs source passes (rw is at below)
 
-join_below : (n : Netlist) (rank : ℕ → ℕ) (r : ℕ) (d : Driver) (source : Source) → d ≡ Joined source → AreBelow rank r (nets_read n d) → AreBelow rank r (nets_of (source ∷ []))
+pub join_below : (n : Netlist) (rank : ℕ → ℕ) (r : ℕ) (d : Driver) (source : Source) → d ≡ Joined source → AreBelow rank r (nets_read n d) → AreBelow rank r (nets_of (source ∷ []))
 join_below n rank r d source is below = rw is at below
 
 -- a source that stands below so many steps
@@ -71,7 +71,7 @@ finds n rank (suc steps) source root order within (ThroughJoin {net = net} {sour
     let below = join_below n rank (rank net) (driver n net) from is (order.after net) in
     rw is (finds n rank steps from root order (weaker rank (rank net) steps from within.0 below) rest)
 
-start_within : (n : Netlist) (rank : ℕ → ℕ) (source : Source) → IsOrdered n rank → IsWithin rank (suc (length n.nets)) source
+pub start_within : (n : Netlist) (rank : ℕ → ℕ) (source : Source) → IsOrdered n rank → IsWithin rank (suc (length n.nets)) source
 start_within n rank (Net net) order = (let h = order.within net in omega arith, tt)
 start_within n rank (Tied bit) order = tt
 start_within n rank (Loose i pin) order = tt

@@ -1,8 +1,9 @@
 -- Laws of designs: an order gives one settled assignment, and walks find the roots.
-use Rattle.std.specs.Prelude.{ℕ, Bool, ◌≡◌}
+use Rattle.std.specs.Prelude.{ℕ, Bool, false, not, ◌≡◌, Some, if◌then◌else◌}
 use Rattle.dft_netlist.specs.Netlist.{Netlist}
 use Rattle.dft_netlist.specs.Drivers.{Source, IsOrdered}
 use Rattle.dft_netlist.specs.Traces.{Root, Port, Constant, Traces, root_of}
+use Rattle.dft_netlist.specs.ClockRoots.{ClockRoot, ClockRooted, clock_root_of}
 use Rattle.dft_netlist.specs.Logic.{Logic, Ports, logic_of, IsRanked}
 use Rattle.dft_netlist.specs.Settled.{Sources, bit_from, IsSettled}
 
@@ -31,3 +32,19 @@ TracedBit = (n : Netlist) (ports : Ports) (s : Sources) (bits : ℕ → Bool) (s
 
 abbrev pub TracedConstant : Type 0
 TracedConstant = (n : Netlist) (ports : Ports) (s : Sources) (bits : ℕ → Bool) (source : Source) (bit : Bool) → IsSettled (logic_of n ports) s bits → Traces n source (Constant bit) → bit_from s bits source ≡ bit
+
+-- The walk back gives the clock that a source shows, and a clock that it gives is shown.
+abbrev pub WalkFindsClock : Type 0
+WalkFindsClock = (n : Netlist) (rank : ℕ → ℕ) (source : Source) (port : ℕ) (inverted : Bool) → IsOrdered n rank → ClockRooted n source port inverted → clock_root_of n source ≡ Some (record { port = port; inverted = inverted })
+
+abbrev pub ClockIsFound : Type 0
+ClockIsFound = (n : Netlist) (source : Source) (root : ClockRoot) → clock_root_of n source ≡ Some root → ClockRooted n source root.port root.inverted
+
+-- What shows a clock has the port's bit or its inverse.
+abbrev pub ClockBit : Type 0
+ClockBit = (n : Netlist) (ports : Ports) (s : Sources) (bits : ℕ → Bool) (source : Source) (port : ℕ) (inverted : Bool) → IsSettled (logic_of n ports) s bits → ClockRooted n source port inverted →
+    bit_from s bits source ≡ (if inverted then not (bits port) else bits port)
+
+-- What traces to a port shows it.
+abbrev pub TracedIsClock : Type 0
+TracedIsClock = (n : Netlist) (source : Source) (port : ℕ) → root_of n source ≡ Port port → clock_root_of n source ≡ Some (record { port = port; inverted = false })

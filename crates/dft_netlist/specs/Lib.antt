@@ -1,6 +1,8 @@
 pub mod Netlist
 pub mod Drivers
 pub mod Traces
+pub mod ClockRoots
+pub mod ClockSteps
 pub mod Logic
 pub mod Settled
 pub mod Runs

@@ -27,8 +27,9 @@ pub data Meaning : Type 0 where
   Joined : (source : Source) → Meaning
   -- a modelled flip-flop's bit, or its inverse
   Flop : (cell : ℕ) → (inverted : Bool) → Meaning
-  -- a lock-up, by its instance and the net of the clock port that its clock traces to
-  Lockup : (cell domain : ℕ) → (source : Source) → Meaning
+  -- a lock-up, by its instance and the net of the clock port that its clock comes from; a high one is a wire while that clock is high, another
+  -- one while it is low
+  Lockup : (cell domain : ℕ) → (high : Bool) → (source : Source) → Meaning
   -- any bit at any moment
   Free : Meaning
 
@@ -44,6 +45,8 @@ pub record Scan : Type 0 where
 -- what stores a bit: a modelled flip-flop or a lock-up. Its domain is the net of the clock port that its clock traces to.
 pub record Cell : Type 0 where
   pub domain : ℕ
+  -- whether it takes its bit at the fall of its clock, else at the rise
+  pub falling : Bool
   pub input : Source
   pub scan : Option Scan
   pub force : Option Force
@@ -108,7 +111,7 @@ scan_of None input = None
 
 -- a flip-flop is modelled where its clock traces to a clock port, and its reset or set to a reset port or to constant 1
 abbrev pub modelled : Option ℕ → Option (Option Force) → (input : Source) → Option Scan → Option Cell
-modelled (Some domain) (Some force) input scan = Some (record { domain = domain; input = input; scan = scan; force = force })
+modelled (Some domain) (Some force) input scan = Some (record { domain = domain; falling = false; input = input; scan = scan; force = force })
 modelled (Some domain) None input scan = None
 modelled None force input scan = None
 
@@ -121,13 +124,13 @@ modelled_of n ports i pins =
 abbrev pub flip_flop : Netlist → Ports → (instance : ℕ) → Option Cell
 flip_flop n ports i = if is_flip_flop (kind_at n i) then modelled_of n ports i (pins_of n i) else None
 
--- a lock-up's cell has no scan pins, no reset and no set
-abbrev pub lockup_cell : (domain : ℕ) → Source → Cell
-lockup_cell domain source = record { domain = domain; input = source; scan = None; force = None }
+-- a lock-up's cell has no scan pins, no reset and no set; it takes its bit where it stops being a wire
+abbrev pub lockup_cell : (domain : ℕ) → (high : Bool) → Source → Cell
+lockup_cell domain high source = record { domain = domain; falling = high; input = source; scan = None; force = None }
 
 abbrev pub locked : Option ℕ → Source → Option Cell
 locked None source = None
-locked (Some domain) source = Some (lockup_cell domain source)
+locked (Some domain) source = Some (lockup_cell domain false source)
 
 abbrev pub is_lockup : Kind → Bool
 is_lockup kind.Lockup = true
@@ -143,7 +146,7 @@ stored n ports i = option_or (flip_flop n ports i) (lock_up n ports i)
 
 -- the cell of an instance that stores none
 abbrev pub no_cell : (instance : ℕ) → Cell
-no_cell i = record { domain = 0; input = Loose i 0; scan = None; force = None }
+no_cell i = record { domain = 0; falling = false; input = Loose i 0; scan = None; force = None }
 
 abbrev pub cell_or_none : (instance : ℕ) → Option Cell → Cell
 cell_or_none i None = no_cell i
@@ -155,7 +158,7 @@ flop_meaning i inverted (Some cell) = Flop i inverted
 
 abbrev pub lockup_meaning : (instance : ℕ) → Option ℕ → Source → Meaning
 lockup_meaning i None source = Free
-lockup_meaning i (Some domain) source = Lockup i domain source
+lockup_meaning i (Some domain) source = Lockup i domain false source
 
 abbrev pub meaning_of : Netlist → Ports → (net : ℕ) → Driver → Meaning
 meaning_of n ports net drivers.Input = if ports.is_clock net then Clock else Input
@@ -180,10 +183,16 @@ reads Clock = []
 reads (Gate kind inputs) = nets_of inputs
 reads (Joined source) = nets_of (source ∷ [])
 reads (Flop cell inverted) = []
-reads (Lockup cell domain source) = nets_of (source ∷ [])
+reads (Lockup cell domain high source) = nets_of (source ∷ [])
 reads Free = []
 
 -- each net stands after those that it is settled from, and what a lock-up's net shows is the lock-up's cell
 pub record IsRanked (l : Logic) (rank : ℕ → ℕ) : Type 0 where
   pub order : (net : ℕ) → AreBelow rank (rank net) (reads (l.net net))
-  pub lockups : (net c e : ℕ) (source : Source) → l.net net ≡ Lockup c e source → l.cell c ≡ lockup_cell e source
+  pub lockups : (net c e : ℕ) (high : Bool) (source : Source) → l.net net ≡ Lockup c e high source → l.cell c ≡ lockup_cell e high source
+
+-- ---- edges
+
+-- every cell takes its bit at the rise of its clock
+abbrev pub IsRising : Logic → Type 0
+IsRising l = (c : ℕ) → (l.cell c).falling ≡ false

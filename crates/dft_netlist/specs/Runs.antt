@@ -1,5 +1,5 @@
 -- Events, and runs over vectors: every order of the edges and every free bit.
-use Rattle.std.specs.Prelude.{ℕ, Bool, true, false, List, [], ◌∷◌, ◌++◌, ◌≡◌, ◌==◌, ◌+◌, Option, None, Some, if◌then◌else◌, map}
+use Rattle.std.specs.Prelude.{ℕ, Bool, true, false, not, ◌&&◌, List, [], ◌∷◌, ◌++◌, ◌≡◌, ◌==◌, ◌+◌, Option, None, Some, if◌then◌else◌, map}
 use Rattle.dft_base.specs.declared.tri.Tri.{Tri}
 use Rattle.dft_base.specs.Tri.{completed}
 use Rattle.dft_cells.specs.FlipFlops.{forced, chosen}
@@ -55,7 +55,7 @@ abbrev pub taken_by : Option Scan → (Source → Bool) → (data_in : Bool) →
 taken_by None at data_in = data_in
 taken_by (Some scan) at data_in = chosen (at scan.enable) (at scan.input) data_in
 
--- the bit that a flip-flop or lock-up takes at the rise of its clock, from the settled bits just before
+-- the bit that a flip-flop or lock-up takes at an edge of its clock, from the settled bits just before
 abbrev pub next_bit : Cell → Now → Bool
 next_bit cell now =
     let at = bit_from (sources_of now) now.moment.seen in
@@ -69,18 +69,16 @@ pub data Event : Type 0 where
   Rise : (domain : ℕ) → Event
   Fall : (domain : ℕ) → Event
 
-abbrev pub rise : Logic → Now → (domain : ℕ) → State
-rise l now d = record {
-  ports = now.state.ports;
-  flops = λ c. if (l.cell c).domain == d then next_bit (l.cell c) now else now.state.flops c;
-  high = λ e. if e == d then true else now.state.high e;
-}
+-- whether a cell takes its bit at a rise, or at a fall
+abbrev pub takes : (rising falling : Bool) → Bool
+takes rising falling = if rising then not falling else falling
 
-abbrev pub fall : Now → (domain : ℕ) → State
-fall now d = record {
+-- the rise or the fall of a domain: its cells of this edge take their next bits
+abbrev pub edge : Logic → Now → (domain : ℕ) → (rising : Bool) → State
+edge l now d rising = record {
   ports = now.state.ports;
-  flops = now.state.flops;
-  high = λ e. if e == d then false else now.state.high e;
+  flops = λ c. if (l.cell c).domain == d && takes rising (l.cell c).falling then next_bit (l.cell c) now else now.state.flops c;
+  high = λ e. if e == d then rising else now.state.high e;
 }
 
 abbrev pub set_ports : Now → (ℕ → Tri) → State
@@ -89,8 +87,8 @@ set_ports now ports = record { ports = ports; flops = now.state.flops; high = no
 -- the state after an event, before resets and sets act
 abbrev pub after_event : Logic → Now → Event → State
 after_event l now (Set ports) = set_ports now ports
-after_event l now (Rise d) = rise l now d
-after_event l now (Fall d) = fall now d
+after_event l now (Rise d) = edge l now d true
+after_event l now (Fall d) = edge l now d false
 
 -- at each moment a flip-flop whose reset is 0 becomes 0, and one whose set is 0 becomes 1
 abbrev pub at_moment : Logic → Moment → State → State
@@ -135,18 +133,19 @@ pub record Turn : Type 0 where
   pub rises : List Edge
   pub falls : List Edge
 
-abbrev pub rise_step : Edge → Step
-rise_step e = record { event = Rise e.domain; moment = e.moment }
+abbrev pub event_of : (rising : Bool) → (domain : ℕ) → Event
+event_of true d = Rise d
+event_of false d = Fall d
 
-abbrev pub fall_step : Edge → Step
-fall_step e = record { event = Fall e.domain; moment = e.moment }
+abbrev pub edge_step : (rising : Bool) → Edge → Step
+edge_step rising e = record { event = event_of rising e.domain; moment = e.moment }
 
 abbrev pub set_step : Vector → Turn → Step
 set_step x t = record { event = Set x.ports; moment = t.strobe }
 
 -- a vector is: its Set, the strobe, all the rises, all the falls
 abbrev pub steps_of : Vector → Turn → List Step
-steps_of x t = set_step x t ∷ (map rise_step t.rises ++ map fall_step t.falls)
+steps_of x t = set_step x t ∷ (map (edge_step true) t.rises ++ map (edge_step false) t.falls)
 
 -- how many of the edges are of a domain
 abbrev pub times : (domain : ℕ) → List Edge → ℕ

@@ -26,6 +26,10 @@ bit_from s bits (Net net) = bits net
 bit_from s bits (Tied bit) = bit
 bit_from s bits (Loose i pin) = s.loose i pin
 
+-- whether a lock-up is a wire, by the level of its clock
+abbrev pub is_wire : (high level : Bool) → Bool
+is_wire high level = if high then level else not level
+
 -- the bit that a net's meaning gives it
 abbrev pub bit_given : Sources → (ℕ → Bool) → (net : ℕ) → Meaning → Bool
 bit_given s bits net Input = s.ports net
@@ -33,7 +37,7 @@ bit_given s bits net Clock = s.high net
 bit_given s bits net (Gate kind inputs) = bit_of kind (map (bit_from s bits) inputs)
 bit_given s bits net (Joined source) = bit_from s bits source
 bit_given s bits net (Flop cell inverted) = if inverted then not (s.flops cell) else s.flops cell
-bit_given s bits net (Lockup cell domain source) = if s.high domain then s.flops cell else bit_from s bits source
+bit_given s bits net (Lockup cell domain high source) = if is_wire high (s.high domain) then bit_from s bits source else s.flops cell
 bit_given s bits net Free = s.free net
 
 -- every net has its driver's bit
@@ -46,8 +50,8 @@ pub record TriSources : Type 0 where
   pub ports : ℕ → Tri
   pub clocks : ℕ → Tri
   pub flops : ℕ → Tri
-  -- the value of a lock-up, by its instance, its domain and what its input is joined to
-  pub lockups : (cell domain : ℕ) → Source → Tri
+  -- the value of a lock-up, by its instance, its domain, whether it is high, and what its input is joined to
+  pub lockups : (cell domain : ℕ) → (high : Bool) → Source → Tri
 
 abbrev pub value_from : (ℕ → Tri) → Source → Tri
 value_from values (Net net) = values net
@@ -65,7 +69,7 @@ value_given s values net Clock = s.clocks net
 value_given s values net (Gate kind inputs) = tri_of kind (map (value_from values) inputs)
 value_given s values net (Joined source) = value_from values source
 value_given s values net (Flop cell inverted) = if inverted then inverse (s.flops cell) else s.flops cell
-value_given s values net (Lockup cell domain source) = s.lockups cell domain source
+value_given s values net (Lockup cell domain high source) = s.lockups cell domain high source
 value_given s values net Free = Unknown
 
 abbrev pub IsTriSettled : Logic → TriSources → (ℕ → Tri) → Type 0

@@ -1,7 +1,7 @@
 //! Laws about designs, as contracts of functions that do nothing.
 
 ghost use Rattle.dft_netlist.specs.DesignLaws.{ListedDrives, OrderRanks, OrderedIsOrderable};
-ghost use Rattle.dft_netlist.specs.Laws.{OrderIsRank, SettledIsOne, WalkFindsRoot, PortIsFound, ConstantIsFound, TracedBit, TracedConstant};
+ghost use Rattle.dft_netlist.specs.Laws.{OrderIsRank, SettledIsOne, WalkFindsRoot, PortIsFound, ConstantIsFound, TracedBit, TracedConstant, WalkFindsClock, ClockIsFound, ClockBit, TracedIsClock};
 
 /// A design with an order has exactly one settled assignment for given sources.
 pub fn settled_is_one()
@@ -16,6 +16,14 @@ pub fn traces_are_exact()
     ensures constant { ConstantIsFound }
     ensures bit { TracedBit }
     ensures constant_bit { TracedConstant }
+{}
+
+/// Walks back find the clocks that nets show, and what shows one has its port's bit or the inverse.
+pub fn clocks_are_exact()
+    ensures finds { WalkFindsClock }
+    ensures found { ClockIsFound }
+    ensures bit { ClockBit }
+    ensures traced { TracedIsClock }
 {}
 
 /// Where no net has two drivers, what is listed as its driver drives it.

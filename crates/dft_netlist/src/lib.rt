@@ -4,6 +4,7 @@
 mod bits;
 mod builder;
 mod cells;
+mod clock_roots;
 mod design;
 mod driver_notes;
 mod drivers;
@@ -28,12 +29,15 @@ mod root;
 pub use bits::index_at;
 pub use builder::DesignBuilder;
 pub use cells::{is_role, kind_of, role_at, signal_of};
+pub use clock_roots::ClockRoot;
 pub use design::Design;
 pub use dft_base::Dir;
 pub use error::{Counted, NetlistError};
 pub use ids::{InstanceId, NetId, PortId};
 pub use instance::{CellRef, Instance, Join, Signal};
-pub use laws::{listed_drivers_drive, orders_rank, settled_is_one, traces_are_exact};
+pub use laws::{
+    clocks_are_exact, listed_drivers_drive, orders_rank, settled_is_one, traces_are_exact,
+};
 pub use limits::{MAX_INSTANCES, MAX_NETS, MAX_PORTS};
 pub use named::Named;
 pub use net_driver::NetDriver;

@@ -25,7 +25,7 @@ pub record IsClockNet (n : Netlist) (ports : Ports) (net : ℕ) : Type 0 where
 
 -- a modelled flip-flop without scan and reset: its domain, and the net that it takes
 abbrev pub plain_cell : (clock input : ℕ) → Cell
-plain_cell clock input = record { domain = clock; input = Net input; scan = None; force = None }
+plain_cell clock input = record { domain = clock; falling = false; input = Net input; scan = None; force = None }
 
 -- a flip-flop shows its bit at one net, and takes the bit of another
 pub record IsFlop (l : Logic) (clock flop output input : ℕ) : Type 0 where
@@ -49,4 +49,4 @@ abbrev pub LockupStands : Type 0
 LockupStands =
     (n : Netlist) (ports : Ports) (number : ℕ) (clock input output : NetId) → IsSingle n → IsWellFormed n.library → IsClockNet n ports clock.0 →
     Stands n number (Library (first_cell is_lockup n.library)) (pins_between n.library (first_cell is_lockup n.library) clock input output) →
-    (logic_of n ports).net output.0 ≡ Lockup number clock.0 (Net input.0)
+    (logic_of n ports).net output.0 ≡ Lockup number clock.0 false (Net input.0)

@@ -22,12 +22,12 @@ use Rattle.dft_netlist.specs.Drivers as drivers
 use Rattle.dft_netlist.specs.Logic.{Logic, Ports, Meaning, Input, Clock, Gate, Joined, Flop, Lockup, Free, Cell, Force, Scan, cell_or_none, domain_at, flip_flop, flop_meaning, force_of, forcing, lockup_meaning, meaning_of, modelled, modelled_of, or_loose, pin_of, scan_of}
 use Rattle.dft_netlist.specs.Netlist.{Netlist}
 use Rattle.dft_netlist.specs.Runs.{Vector}
-use Rattle.dft_netlist.specs.Settled.{IsTriSettled, inverse, value_given}
+use Rattle.dft_netlist.specs.Settled.{IsTriSettled, inverse, value_given, value_from}
 use Rattle.dft_netlist.specs.Sound.{bits_of}
 use Rattle.dft_netlist.specs.Traces.{Root, Port, Constant, Other, root_of}
 use Rattle.dft_netlist.proofs.LiveDriven.{AreBefore, before_front, before_back}
 use Rattle.dft_netlist.proofs.StoredLemmas.{stored_force}
-use Rattle.dft_abstract.specs.Cycle.{tri_forced_by, pulse_of, strobe_sources, AreHalves, Round, IsRound, after_round}
+use Rattle.dft_abstract.specs.Cycle.{tri_forced_by, rise_of, strobe_sources, AreHalves, Round, IsRound, after_round}
 use Rattle.dft_abstract.specs.Laws.{next_from}
 use Rattle.dft_abstract.proofs.Halves.{closed_views, least_closed}
 use Rattle.dft_config.specs.Config.{Config}
@@ -106,7 +106,7 @@ forced_same n ports x y None t same input = refl
 forced_same n ports x y (Some f) t same input = ap (λ p. tri_forced_by (Some f) (λ _. p) t) (same f.port (input f refl))
 
 -- the sources of a strobe give the same value
-pub given_same : (n : Netlist) (ports : Ports) (l : Logic) (x y : Vector) (old values : ℕ → Tri) (net : ℕ) (m : Meaning) → (m ≡ Input → IsData n ports net) → SameAt n ports x y → ((c : ℕ) → (pulse_of l x old).old c ≡ (pulse_of l y old).old c) →
+pub given_same : (n : Netlist) (ports : Ports) (l : Logic) (x y : Vector) (old values : ℕ → Tri) (net : ℕ) (m : Meaning) → (m ≡ Input → IsData n ports net) → SameAt n ports x y → ((c : ℕ) → (rise_of l x old).old c ≡ (rise_of l y old).old c) →
     value_given (strobe_sources l x old values) values net m ≡ value_given (strobe_sources l y old values) values net m
 given_same n ports l x y old values net Input input same flops = same net (input refl)
 given_same n ports l x y old values net Clock input same flops = refl
@@ -114,7 +114,7 @@ given_same n ports l x y old values net (Gate kind inputs) input same flops = re
 given_same n ports l x y old values net (Joined source) input same flops = refl
 given_same n ports l x y old values net (Flop cell true) input same flops = ap inverse (flops cell)
 given_same n ports l x y old values net (Flop cell false) input same flops = flops cell
-given_same n ports l x y old values net (Lockup cell domain source) input same flops = refl
+given_same n ports l x y old values net (Lockup cell domain high source) input same flops = ap (λ (t : Tri). if high then t else value_from values source) (flops cell)
 given_same n ports l x y old values net Free input same flops = refl
 
 -- ---- resets
@@ -229,7 +229,7 @@ module _ (n : Netlist) (config : Config) (ports : Ports) (p : Pattern) (clear : 
   same : SameAt n (config_ports n config) y cv
   same net its_data = captures.ports net its_data.0 (pulsed_rests n config net p.merged.domain its_data.1)
 
-  flops_same : (cell : ℕ) → (pulse_of original y its).old cell ≡ (pulse_of original cv its).old cell
+  flops_same : (cell : ℕ) → (rise_of original y its).old cell ≡ (rise_of original cv its).old cell
   flops_same cell = forced_same n (config_ports n config) y cv (original.cell cell).force (its cell) same (force_input cell)
 
   settled : IsTriSettled original (strobe_sources original y its is.captured.values) is.captured.values
@@ -275,7 +275,7 @@ module _ (n : Netlist) (config : Config) (ports : Ports) (p : Pattern) (clear : 
   one : (cell : ℕ) (f : Force) → (original.cell cell).force ≡ Some f → y.ports f.port ≡ One
   one cell f e = same f.port (force_input cell f e) ∙ ap (λ b. port_value b (bit_of_port p.merged.ports f.port)) (resets cell f e)
 
-  kept : (cell : ℕ) → (pulse_of original y its).old cell ≡ its cell
+  kept : (cell : ℕ) → (rise_of original y its).old cell ≡ its cell
   kept cell = not_forced (original.cell cell).force y.ports (its cell) (one cell)
 
   halves : AreHalves l capture loaded r.halves

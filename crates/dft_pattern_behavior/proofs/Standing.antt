@@ -23,6 +23,7 @@ use Rattle.dft_netlist.specs.Runs.{Vector}
 use Rattle.dft_netlist.specs.Sound.{IsNetlist, bit_names_of, bits_of}
 use Rattle.dft_netlist.proofs.LiveLemmas.{length-bits}
 use Rattle.dft_netlist.proofs.Ranks.{order_is_rank}
+use Rattle.dft_netlist.proofs.StoredLemmas.{logic_rises}
 use Rattle.dft_abstract.specs.Cycle.{after_halves}
 use Rattle.dft_config.specs.Config.{Config}
 use Rattle.dft_rules.specs.Rules.{is_net}
@@ -146,7 +147,7 @@ stand_over n rank config merged loaded r written p x old can ordered captured co
       λ h halves number cell at. (
           let domain : ℕ = ((original n config).cell cell.0).domain in
           let flop : p.is_flop cell.0 ≡ true = places.flops cell.0 ∙ ap is_some (number_modelled n config number cell.0 can at).flop in
-          let law = capture_law (original n config) written rank p clock y x its old h captured.values ranked covers vector.pulses over settled_over halves cell.0 flop in
+          let law = capture_law (original n config) written rank p clock y x its old h captured.values ranked covers vector.pulses over settled_over halves cell.0 flop (logic_rises n (config_ports n config) cell.0) in
           let pulsed : is_net domain (capture_clock n config merged.domain) ≡ (clock == domain) = ap (is_net domain) vector.captures in
           let after : Tri = after_halves written x old h cell.0 in
           subst (λ (t : Tri). AboveTri t after) (sym (value_at (λ (c : InstanceId). captured_value n config (plan_of n config).chains merged loaded captured.values c.0) r.cells (cells_in n config) number cell captured.cells at))

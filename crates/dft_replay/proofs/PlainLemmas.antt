@@ -6,11 +6,11 @@ use Rattle.dft_base.specs.declared.tri.Tri.TheVariants.{Zero, One, Unknown}
 use Rattle.dft_base.specs.Tri.{AboveTri}
 use Rattle.dft_netlist.specs.Logic.{Logic, no_cell, IsRanked, logic_of}
 use Rattle.dft_netlist.specs.Settled.{IsTriSettled}
-use Rattle.dft_netlist.specs.Runs.{Vector}
+use Rattle.dft_netlist.specs.Runs.{Vector, takes}
 use Rattle.dft_netlist.proofs.Meanings.{source_same}
 use Rattle.dft_netlist.proofs.Ranks.{order_is_rank}
-use Rattle.dft_abstract.specs.Cycle.{Pulse, view_sources, AreViews, next_value, IsClosed, IsLeast, after_pulse, pulse_of, strobe_sources, Round, IsRound, after_round}
-use Rattle.dft_abstract.proofs.Views.{given_same}
+use Rattle.dft_abstract.specs.Cycle.{Pulse, view_sources, AreViews, next_value, IsClosed, IsLeast, after_pulse, rise_of, strobe_sources, Round, IsRound, after_round, changes, Half}
+use Rattle.dft_abstract.proofs.Views.{given_same, lockups_look}
 use Rattle.dft_abstract.proofs.Least.{step_below}
 use Rattle.dft_abstract.proofs.OneDomain.{raised as risen}
 use Rattle.dft_cells.proofs.Completions.{above_self, join_over_left}
@@ -19,7 +19,7 @@ use Rattle.dft_logic.proofs.Compiled.{past_cell}
 use Rattle.dft_replay.specs.declared.verdict.Verdict.{Verdict}
 use Rattle.dft_replay.specs.Rows.{Row, rows_of, ports_of}
 use Rattle.dft_replay.specs.Verdicts.{decided, Stops, HasVerdictFrom}
-use Rattle.dft_replay.specs.Plain.{value_at, table, strobe_values, view_values, Size, raised_value, raised, raised_by, or_later, plain_map, plain_from, size_of, VerdictIsPlain}
+use Rattle.dft_replay.specs.Plain.{value_at, table, strobe_values, view_values, Size, raised_value, raised, raised_by, or_later, plain_map, plain_from, size_of, VerdictIsPlain, plain_fall}
 use Rattle.dft_replay.proofs.Uniqueness.{same_map}
 
 -- ---- lists
@@ -79,7 +79,7 @@ strobe_stable l rank x old ranked (suc f) (suc g) net hf hg =
     let b : ℕ → Tri = strobe_values l x old g in
     let same : (k : ℕ) → rank k < rank net → a k ≡ b k = λ k less. strobe_stable l rank x old ranked f g k (omega arith) (omega arith) in
     given_same rank (strobe_sources l x old a) (strobe_sources l x old b) a b net (l.net net) (λ k. refl) (λ e. refl) (λ c. refl) (ranked.order net) same
-    (λ c e source is below. source_same rank (rank net) a b source below same)
+    (λ c e high source is below. ap (λ (t : Tri). if high then (rise_of l x old).old c else t) (source_same rank (rank net) a b source below same))
 
 view_stable : (l : Logic) (rank : ℕ → ℕ) (p : Pulse) (poss : ℕ → Tri) → IsRanked l rank → (f g net : ℕ) → rank net < f → rank net < g → (d : ℕ) → view_values l p poss f d net ≡ view_values l p poss g d net
 view_stable l rank p poss ranked zero g net hf hg d = absurd (omega arith)
@@ -89,7 +89,7 @@ view_stable l rank p poss ranked (suc f) (suc g) net hf hg d =
     let b : ℕ → ℕ → Tri = view_values l p poss g in
     let same : (k : ℕ) → rank k < rank net → (e : ℕ) → a e k ≡ b e k = λ k less e. view_stable l rank p poss ranked f g k (omega arith) (omega arith) e in
     given_same rank (view_sources l p poss a d) (view_sources l p poss b d) (a d) (b d) net (l.net net) (λ k. refl) (λ e. refl) (λ c. refl) (ranked.order net) (λ k less. same k less d)
-    (λ c e source is below. source_same rank (rank net) (a e) (b e) source below (λ k less. same k less e))
+    (λ c e high source is below. lockups_look rank p (rank net) a b same d c e high source below)
 
 -- ---- rounds
 
@@ -105,11 +105,8 @@ views_settled l rank s p poss fits d net = view_stable l rank p poss fits.ranked
 strobe_settled : (l : Logic) (rank : ℕ → ℕ) (s : Size) (x : Vector) (old : ℕ → Tri) → Fits l rank s → IsTriSettled l (strobe_sources l x old (strobe_values l x old s.levels)) (strobe_values l x old s.levels)
 strobe_settled l rank s x old fits net = strobe_stable l rank x old fits.ranked s.levels (suc s.levels) net (fits.levels net) (let h : rank net < s.levels = fits.levels net in omega arith)
 
-old_past : (l : Logic) (rank : ℕ → ℕ) (s : Size) (x : Vector) (old : List Tri) → Fits l rank s → IsPast s.cells old → (c : ℕ) → s.cells ≤ c → (pulse_of l x (value_at old)).old c ≡ Unknown
+old_past : (l : Logic) (rank : ℕ → ℕ) (s : Size) (x : Vector) (old : List Tri) → Fits l rank s → IsPast s.cells old → (c : ℕ) → s.cells ≤ c → (rise_of l x (value_at old)).old c ≡ Unknown
 old_past l rank s x old fits past c h = rw (fits.cells c h) (past c h)
-
-after_past : (l : Logic) (rank : ℕ → ℕ) (s : Size) (x : Vector) (old : List Tri) (view : ℕ → ℕ → Tri) → Fits l rank s → IsPast s.cells old → (c : ℕ) → s.cells ≤ c → after_pulse l (pulse_of l x (value_at old)) view c ≡ Unknown
-after_past l rank s x old view fits past c h = rw (fits.cells c h) (either_value (λ t. t ≡ Unknown) (x.pulsed 0) Unknown (value_at old c) (λ is. refl) (past c h))
 
 -- each closed map stands above this list
 abbrev IsBelow : Logic → Pulse → List Tri → Type 0
@@ -118,6 +115,9 @@ IsBelow l p poss = (other : ℕ → Tri) (its : ℕ → ℕ → Tri) → IsClose
 -- past the cells each closed map is Unknown
 abbrev OldIsPast : Size → Pulse → Type 0
 OldIsPast s p = (c : ℕ) → s.cells ≤ c → p.old c ≡ Unknown
+
+after_past : (l : Logic) (rank : ℕ → ℕ) (s : Size) (p : Pulse) (view : ℕ → ℕ → Tri) → Fits l rank s → OldIsPast s p → (c : ℕ) → s.cells ≤ c → after_pulse l p view c ≡ Unknown
+after_past l rank s p view fits old c h = rw (fits.cells c h) (either_value (λ t. t ≡ Unknown) (p.pulsed 0 && takes p.rising false) Unknown (p.old c) (λ is. refl) (old c h))
 
 over_past : (l : Logic) (s : Size) (p : Pulse) (other : ℕ → Tri) (its : ℕ → ℕ → Tri) → OldIsPast s p → IsClosed l p other its → (c : ℕ) → s.cells ≤ c → AboveTri (other c) Unknown
 over_past l s p other its old closed c h = subst (AboveTri (other c)) (old c h) (closed.old c)
@@ -129,7 +129,7 @@ raised_below : (l : Logic) (rank : ℕ → ℕ) (s : Size) (p : Pulse) (poss : L
 raised_below l rank s p poss fits old below other its closed c =
     let view : ℕ → ℕ → Tri = view_values l p (value_at poss) s.levels in
     table_cases (AboveTri (other c)) s.cells c (raised_value l p (value_at poss) view)
-    (λ h. either_value (AboveTri (other c)) (p.pulsed (l.cell c).domain) _ _
+    (λ h. either_value (AboveTri (other c)) (changes l p c) _ _
     (step_below l rank p (value_at poss) other view its fits.ranked (views_settled l rank s p (value_at poss) fits) closed (below other its closed) c)
     (below other its closed c))
     (over_past l s p other its old closed c)
@@ -157,7 +157,7 @@ raised_over : (l : Logic) (s : Size) (p : Pulse) (poss : List Tri) → IsOver p 
 raised_over l s p poss over c =
     let view : ℕ → ℕ → Tri = view_values l p (value_at poss) s.levels in
     table_cases (λ t. AboveTri t (p.old c)) s.cells c (raised_value l p (value_at poss) view)
-    (λ h. either_value (λ t. AboveTri t (p.old c)) (p.pulsed (l.cell c).domain) _ _ (λ is. join_over_left (value_at poss c) (next_value l p view c) (p.old c) (over c)) (over c))
+    (λ h. either_value (λ t. AboveTri t (p.old c)) (changes l p c) _ _ (λ is. join_over_left (value_at poss c) (next_value l p view c) (p.old c) (over c)) (over c))
     (λ h. tt)
 
 raised_by_over : (l : Logic) (s : Size) (p : Pulse) (rounds : ℕ) (poss : List Tri) → IsOver p poss → IsOver p (raised_by l p s rounds poss)
@@ -247,25 +247,25 @@ tally_rises (suc count) b f next h =
 
 -- whether a round changes nothing
 abbrev is_closed : Logic → Pulse → Size → List Tri → Bool
-is_closed l p s poss = all_first s.cells (λ c. stays (p.pulsed (l.cell c).domain) (value_at poss c) (next_value l p (view_values l p (value_at poss) s.levels) c))
+is_closed l p s poss = all_first s.cells (λ c. stays (changes l p c) (value_at poss c) (next_value l p (view_values l p (value_at poss) s.levels) c))
 
 closed_same : (l : Logic) (s : Size) (p : Pulse) (poss : List Tri) → IsPast s.cells poss → is_closed l p s poss ≡ true → value_at (raised l p s poss) ≡ value_at poss
 closed_same l s p poss past closed =
     let view : ℕ → ℕ → Tri = view_values l p (value_at poss) s.levels in
     same_map _ _ (λ c. table_cases (λ t. t ≡ value_at poss c) s.cells c (raised_value l p (value_at poss) view)
-    (λ h. stays_same (p.pulsed (l.cell c).domain) (value_at poss c) (next_value l p view c) (all_first_at s.cells c (λ k. stays (p.pulsed (l.cell k).domain) (value_at poss k) (next_value l p view k)) closed h))
+    (λ h. stays_same (changes l p c) (value_at poss c) (next_value l p view c) (all_first_at s.cells c (λ k. stays (changes l p k) (value_at poss k) (next_value l p view k)) closed h))
     (λ h. sym (past c h)))
 
 closed_stays : (l : Logic) (s : Size) (p : Pulse) (rounds : ℕ) (poss : List Tri) → IsPast s.cells poss → is_closed l p s poss ≡ true → is_closed l p s (raised_by l p s rounds poss) ≡ true
 closed_stays l s p zero poss past closed = closed
 closed_stays l s p (suc rounds) poss past closed =
     closed_stays l s p rounds (raised l p s poss) (table_past s.cells _)
-    (subst (λ (w : ℕ → Tri). all_first s.cells (λ c. stays (p.pulsed (l.cell c).domain) (w c) (next_value l p (view_values l p w s.levels) c)) ≡ true) (sym (closed_same l s p poss past closed)) closed)
+    (subst (λ (w : ℕ → Tri). all_first s.cells (λ c. stays (changes l p c) (w c) (next_value l p (view_values l p w s.levels) c)) ≡ true) (sym (closed_same l s p poss past closed)) closed)
 
 round_rises : (l : Logic) (s : Size) (p : Pulse) (poss : List Tri) → is_closed l p s poss ≡ false → tally s.cells (value_at poss) < tally s.cells (value_at (raised l p s poss))
 round_rises l s p poss moves =
     let view : ℕ → ℕ → Tri = view_values l p (value_at poss) s.levels in
-    rw (tally_table s.cells (raised_value l p (value_at poss) view)) (tally_rises s.cells (λ c. p.pulsed (l.cell c).domain) (value_at poss) (next_value l p view) moves)
+    rw (tally_table s.cells (raised_value l p (value_at poss) view)) (tally_rises s.cells (λ c. changes l p c) (value_at poss) (next_value l p view) moves)
 
 closes : (l : Logic) (s : Size) (p : Pulse) (rounds : ℕ) (poss : List Tri) → IsPast s.cells poss → s.cells ≤ tally s.cells (value_at poss) + rounds → is_closed l p s (raised_by l p s rounds poss) ≡ true
 closes l s p zero poss past enough = elim (cases_Bool (is_closed l p s poss)) [
@@ -295,7 +295,7 @@ closed_from l rank s p poss fits past over closed =
       views = views_settled l rank s p (value_at poss) fits;
       old = over;
       next = λ c is. elim (cases_lt c s.cells) [
-        | inl h ↦ tested (p.pulsed (l.cell c).domain) _ _ (all_first_at s.cells c (λ k. stays (p.pulsed (l.cell k).domain) (value_at poss k) (next_value l p view k)) closed h) is
+        | inl h ↦ tested (changes l p c) _ _ (all_first_at s.cells c (λ k. stays (changes l p k) (value_at poss k) (next_value l p view k)) closed h) is
         | inr h ↦ over_unknown _ _ (past c h)
       ];
     }
@@ -309,25 +309,39 @@ least_from l rank s p fits old =
       least = raised_by_below l rank s p s.cells start fits old (start_below l s p old);
     }
 
+abbrev plain_half : Logic → Size → Pulse → Half
+plain_half l s p = record { poss = value_at (plain_map l p s); view = view_values l p (value_at (plain_map l p s)) s.levels }
+
+abbrev plain_falls : Logic → Size → Row → (old : List Tri) → Pulse
+plain_falls l s x old = plain_fall l s x.vector old (plain_map l (rise_of l x.vector (value_at old)) s)
+
 abbrev plain_round : Logic → Size → Row → (old : List Tri) → Round
-plain_round l s x old =
-    let p : Pulse = pulse_of l x.vector (value_at old) in
-    record {
-      strobe = strobe_values l x.vector (value_at old) s.levels;
-      halves = record { rise = record { poss = value_at (plain_map l p s); view = view_values l p (value_at (plain_map l p s)) s.levels } };
-    }
+plain_round l s x old = record {
+  strobe = strobe_values l x.vector (value_at old) s.levels;
+  halves = record { rise = plain_half l s (rise_of l x.vector (value_at old)); fall = plain_half l s (plain_falls l s x old) };
+}
+
+falls_past : (l : Logic) (rank : ℕ → ℕ) (s : Size) (x : Row) (old : List Tri) → Fits l rank s → IsPast s.cells old → OldIsPast s (plain_falls l s x old)
+falls_past l rank s x old fits past =
+    let p : Pulse = rise_of l x.vector (value_at old) in
+    after_past l rank s p (view_values l p (value_at (plain_map l p s)) s.levels) fits (old_past l rank s x.vector old fits past)
 
 round_is : (l : Logic) (rank : ℕ → ℕ) (s : Size) (x : Row) (old : List Tri) → Fits l rank s → IsPast s.cells old → IsRound l x.vector (value_at old) (plain_round l s x old)
 round_is l rank s x old fits past = record {
   strobe = strobe_settled l rank s x.vector (value_at old) fits;
-  least = record { rise = least_from l rank s (pulse_of l x.vector (value_at old)) fits (old_past l rank s x.vector old fits past) };
+  least = record {
+    rise = least_from l rank s (rise_of l x.vector (value_at old)) fits (old_past l rank s x.vector old fits past);
+    fall = least_from l rank s (plain_falls l s x old) fits (falls_past l rank s x old fits past);
+  };
 }
 
 after_is : (l : Logic) (rank : ℕ → ℕ) (s : Size) (x : Row) (old : List Tri) → Fits l rank s → IsPast s.cells old →
     value_at (table s.cells (after_round l x.vector (value_at old) (plain_round l s x old))) ≡ after_round l x.vector (value_at old) (plain_round l s x old)
 after_is l rank s x old fits past =
     let after : ℕ → Tri = after_round l x.vector (value_at old) (plain_round l s x old) in
-    same_map _ _ (λ c. table_cases (λ t. t ≡ after c) s.cells c after (λ h. refl) (λ h. sym (after_past l rank s x.vector old (plain_round l s x old).halves.rise.view fits past c h)))
+    let q : Pulse = plain_falls l s x old in
+    same_map _ _ (λ c. table_cases (λ t. t ≡ after c) s.cells c after (λ h. refl)
+    (λ h. sym (after_past l rank s q (view_values l q (value_at (plain_map l q s)) s.levels) fits (falls_past l rank s x old fits past) c h)))
 
 stops_from : (d : Option Verdict) (later : Verdict) (Later : Verdict → Type 0) → Later later → Stops d (or_later d later) (Later (or_later d later))
 stops_from None later Later h = h

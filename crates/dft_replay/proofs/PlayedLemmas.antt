@@ -1,19 +1,20 @@
 -- The calls for a vector come to its round: inputs are set, nets are looked at, clocks pulse.
-use Rattle.std.proofs.Common.{ℕ, Bool, List, ◌≡◌, Option, length, map, refl, sym, ap, ◌∙◌, subst}
+use Rattle.std.proofs.Common.{ℕ, Bool, List, ◌≡◌, Option, length, map, refl, sym, ap, ◌∙◌, subst, true, false}
+use Rattle.std.specs.Prelude.{if◌then◌else◌}
 use Rattle.dft_base.specs.declared.tri.Tri.{Tri}
-use Rattle.dft_base.specs.declared.tri.Tri.TheVariants.{Zero, Unknown}
+use Rattle.dft_base.specs.declared.tri.Tri.TheVariants.{Zero}
 use Rattle.dft_netlist.specs.declared.ids.NetId.{NetId}
 use Rattle.dft_netlist.specs.Logic.{Logic}
 use Rattle.dft_netlist.specs.Orders.{numbers_of}
 use Rattle.dft_netlist.specs.Runs.{Vector}
-use Rattle.dft_netlist.specs.Settled.{TriSources, value_from, IsTriSettled}
+use Rattle.dft_netlist.specs.Settled.{TriSources, value_from, is_wire, IsTriSettled}
 use Rattle.dft_netlist.proofs.Ranks.{order_is_rank}
-use Rattle.dft_abstract.specs.Cycle.{Pulse, tri_forced_by, after_pulse, IsLeast, pulse_of, strobe_sources, Round, IsRound, after_round}
-use Rattle.dft_abstract.proofs.Views.{family}
+use Rattle.dft_abstract.specs.Cycle.{Pulse, tri_forced_by, after_pulse, IsLeast, rise_of, falls_after, strobe_sources, after_halves, Round, IsRound, after_round}
 use Rattle.dft_logic.specs.Needs.{IsStrobe, strobe_from}
+use Rattle.dft_logic.proofs.ShownLemmas.{still_there}
 use Rattle.dft_cycle.specs.Machine.{Machine, value_at, logic, pulses, pulse_from, ports_of, IsPulsed}
 use Rattle.dft_cycle.specs.MachineLaws.{IsForced, StandsSince}
-use Rattle.dft_cycle.proofs.MachineRounds.{same_logic, by_twice, after_forced}
+use Rattle.dft_cycle.proofs.MachineRounds.{same_logic, halves_forced}
 use Rattle.dft_patterns.specs.declared.act.Act.{Act}
 use Rattle.dft_replay.specs.declared.comparing.Asked.{Asked}
 use Rattle.dft_replay.specs.declared.verdict.Verdict.{Verdict}
@@ -32,46 +33,48 @@ record IsLooked (start set after : Machine) (x : Vector) (shown : ℕ → Tri) :
   pub cells : (c : ℕ) → value_at after.cells c ≡ after_round (logic start) x (value_at start.cells) round c
   pub forced : IsForced after
 
+same_lockup : (high : Bool) (held new input : Tri) → held ≡ new → (if is_wire high false then input else held) ≡ (if high then new else input)
+same_lockup true held new input same = same
+same_lockup false held new input same = refl
+
 looked_round : (start set after : Machine) (x : Vector) (pulsed : List Bool) (shown : ℕ → Tri) → StandsSince start set → ((net : ℕ) → value_at set.inputs net ≡ x.ports net) → ((e : ℕ) → pulses set.clocks pulsed e ≡ x.pulsed e) →
     IsStrobe (logic set) (value_at set.inputs) (value_at set.cells) shown → IsPulsed (logic set) set pulsed after → IsLooked start set after x shown
+unfolding logic
 looked_round start set after x pulsed shown stands ports ups settled pulse =
     let l : Logic = logic start in
     let one = same_logic start set stands.netlist stands.clocks in
     let three = same_logic start after (pulse.netlist ∙ stands.netlist) (pulse.clocks ∙ stands.clocks) in
     let old : ℕ → Tri = value_at start.cells in
-    let p : Pulse = pulse_of l x old in
+    let p : Pulse = rise_of l x old in
     let inputs : value_at set.inputs ≡ x.ports = λ i k. ports k i in
     let cell : (c : ℕ) → value_at set.cells c ≡ p.old c = λ c. stands.cells c ∙ ap (λ (f : ℕ → Tri). tri_forced_by (l.cell c).force f (old c)) inputs in
-    let from : strobe_from (value_at set.inputs) (value_at set.cells) shown ≡ strobe_sources l x old shown =
-    λ i. record { ports = inputs i; clocks = λ e. Zero; flops = λ c. cell c i; lockups = λ c e source. value_from shown source } in
+    let wires : TriSources = strobe_from (value_at set.inputs) (value_at set.cells) shown in
+    let from : wires ≡ strobe_sources l x old shown = λ i. record { ports = inputs i; clocks = λ e. Zero; flops = λ c. cell c i; lockups = λ c e high source. same_lockup high (value_at set.cells c) (p.old c) (value_from shown source) (cell c) i } in
     let S : TriSources → Type 0 = λ t. IsTriSettled l t shown in
-    let T : Logic → Type 0 = λ k. IsTriSettled k (strobe_from (value_at set.inputs) (value_at set.cells) shown) shown in
+    let strobe : IsTriSettled l (strobe_sources l x old shown) shown = subst S from (subst (λ (k : Logic). IsTriSettled k wires shown) one settled) in
     let q : Pulse = pulse_from set pulsed in
-    let qp : q ≡ p = λ i. record { ports = inputs i; pulsed = λ e. ups e i; old = λ c. cell c i } in
-    let L : Pulse → Type 0 = λ k. IsLeast l k pulse.poss pulse.view in
-    let M : Logic → Type 0 = λ k. IsLeast k q pulse.poss pulse.view in
-    let A : Logic → Type 0 = λ k. (c : ℕ) → value_at after.cells c ≡ after_pulse k q pulse.view c in
-    let B : Pulse → Type 0 = λ k. (c : ℕ) → value_at after.cells c ≡ after_pulse l k pulse.view c in
-    let cells : (c : ℕ) → value_at after.cells c ≡ after_pulse l p pulse.view c = subst B qp (subst A one pulse.cells) in
+    let qp : q ≡ p = λ i. record { rising = true; ports = inputs i; pulsed = λ e. ups e i; old = λ c. cell c i } in
+    let P : Logic → Pulse → Type 0 = λ k u. IsLeast k u pulse.halves.rise.poss pulse.halves.rise.view × (IsLeast k (falls_after k u pulse.halves.rise.view) pulse.halves.fall.poss pulse.halves.fall.view
+    × ((c : ℕ) → value_at after.cells c ≡ after_pulse k (falls_after k u pulse.halves.rise.view) pulse.halves.fall.view c)) in
+    let all : P l p = subst (P l) qp (subst (λ (k : Logic). P k q) one (pulse.rise, (pulse.fall, pulse.cells))) in
+    let cells : (c : ℕ) → value_at after.cells c ≡ after_halves l x old pulse.halves c = all.1.1 in
     let kept : value_at after.inputs ≡ x.ports = ap value_at pulse.inputs ∙ inputs in
     record {
-      round = record { strobe = shown; halves = record { rise = record { poss = pulse.poss; view = pulse.view } } };
-      holds = record { strobe = subst S from (subst T one settled); least = record { rise = subst L qp (subst M one pulse.least) } };
+      round = record { strobe = shown; halves = pulse.halves };
+      holds = record { strobe = strobe; least = record { rise = all.0; fall = all.1.0 } };
       strobe = refl;
       cells = cells;
       forced = λ c.
           (let K : Logic → Type 0 = λ k. value_at after.cells c ≡ tri_forced_by (k.cell c).force (value_at after.inputs) (value_at after.cells c) in
           let N : (ℕ → Tri) → Type 0 = λ f. value_at after.cells c ≡ tri_forced_by (l.cell c).force f (value_at after.cells c) in
           let C : Tri → Type 0 = λ t. t ≡ tri_forced_by (l.cell c).force x.ports t in
-          subst K (sym three) (subst N (sym kept) (subst C (sym (cells c)) (after_forced l p pulse.view c (p.pulsed (l.cell c).domain) refl (sym (by_twice (l.cell c).force x.ports (old c)))))));
+          subst K (sym three) (subst N (sym kept) (subst C (sym (cells c)) (halves_forced l x old pulse.halves c))));
     }
 
 -- a strobe has a settled assignment, whatever the values of inputs and flip-flops
 settled_exists : (m : Machine) → HasRanks m.netlist → (values : ℕ → Tri) × IsStrobe (logic m) (value_at m.inputs) (value_at m.cells) values
 unfolding logic
-settled_exists m ranks =
-    let found = family (logic m) ranks.0 (λ d. strobe_from (value_at m.inputs) (value_at m.cells) (λ k. Unknown)) (λ d e. d) (order_is_rank m.netlist (ports_of m.clocks) ranks.0 ranks.1) in
-    (found.0 0, found.1 0)
+settled_exists m ranks = still_there (logic m) ranks.0 (λ e. false) (value_at m.inputs) (value_at m.cells) (order_is_rank m.netlist (ports_of m.clocks) ranks.0 ranks.1)
 
 pub played : (start set after : Machine) (nets : List NetId) (clocks : List ℕ) (pulsed : List Bool) (acts : List Act) (vector : ℕ) (wanted : List NetId) (asked : List Asked) (decision : Option Verdict) →
     (ranks : HasRanks start.netlist) → (differ : Differ (numbers_of nets)) → (same : length acts ≡ length nets) →

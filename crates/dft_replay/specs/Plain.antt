@@ -8,7 +8,7 @@ use Rattle.dft_netlist.specs.Drivers.{IsOrdered}
 use Rattle.dft_netlist.specs.Logic.{Logic, logic_of}
 use Rattle.dft_netlist.specs.Settled.{value_given}
 use Rattle.dft_netlist.specs.Runs.{Vector}
-use Rattle.dft_abstract.specs.Cycle.{Pulse, view_sources, next_value, after_pulse, pulse_of, strobe_sources}
+use Rattle.dft_abstract.specs.Cycle.{Pulse, changes, view_sources, next_value, after_pulse, rise_of, fall_of, strobe_sources}
 use Rattle.dft_patterns.specs.Patterns.{Patterns}
 use Rattle.dft_replay.specs.declared.verdict.Verdict.{Verdict}
 use Rattle.dft_replay.specs.declared.verdict.Verdict.TheVariants.{Pass}
@@ -48,9 +48,9 @@ pub record Size : Type 0 where
   pub levels : ℕ
   pub cells : ℕ
 
--- a cell's value, joined with its next value where its domain pulses
+-- a cell's value, joined with its next value where it takes one
 abbrev pub raised_value : Logic → Pulse → (poss : ℕ → Tri) → (view : ℕ → ℕ → Tri) → (cell : ℕ) → Tri
-raised_value l p poss view c = if p.pulsed (l.cell c).domain then join (poss c) (next_value l p view c) else poss c
+raised_value l p poss view c = if changes l p c then join (poss c) (next_value l p view c) else poss c
 
 abbrev pub raised : Logic → Pulse → Size → List Tri → List Tri
 raised l p s poss = table s.cells (raised_value l p (value_at poss) (view_values l p (value_at poss) s.levels))
@@ -60,7 +60,7 @@ abbrev pub raised_by : Logic → Pulse → Size → (rounds : ℕ) → List Tri 
 raised_by l p s zero poss = poss
 raised_by l p s (suc rounds) poss = raised_by l p s rounds (raised l p s poss)
 
--- the map of a pulse: no cell rises twice, so there are as many rounds as cells
+-- the map of a phase: no cell rises twice, so there are as many rounds as cells
 abbrev pub plain_map : Logic → Pulse → Size → List Tri
 plain_map l p s = raised_by l p s s.cells (table s.cells p.old)
 
@@ -70,16 +70,24 @@ abbrev pub or_later : Option Verdict → Verdict → Verdict
 or_later None later = later
 or_later (Some d) later = d
 
--- what a vector comes to at a map, where the vectors after it come to `later` of the values of the flip-flops
-abbrev pub plain_at : Logic → Size → (vector : ℕ) → Row → (old poss : List Tri) → (later : List Tri → Verdict) → Verdict
-plain_at l s v x old poss later =
+-- the falls behind the rises at a map
+abbrev pub plain_fall : Logic → Size → Vector → (old up : List Tri) → Pulse
+plain_fall l s x old up = fall_of l x (value_at old) (view_values l (rise_of l x (value_at old)) (value_at up) s.levels)
+
+-- what a vector comes to at the maps of its halves, where the vectors after it come to `later` of the values of the cells
+abbrev pub plain_at : Logic → Size → (vector : ℕ) → Row → (old up down : List Tri) → (later : List Tri → Verdict) → Verdict
+plain_at l s v x old up down later =
     or_later (decided (strobe_values l x.vector (value_at old) s.levels) v x.compared)
-    (later (table s.cells (after_pulse l (pulse_of l x.vector (value_at old)) (view_values l (pulse_of l x.vector (value_at old)) (value_at poss) s.levels))))
+    (later (table s.cells (after_pulse l (plain_fall l s x.vector old up) (view_values l (plain_fall l s x.vector old up) (value_at down) s.levels))))
+
+-- the same at the map of the falls behind these rises
+abbrev pub plain_down : Logic → Size → (vector : ℕ) → Row → (old up : List Tri) → (later : List Tri → Verdict) → Verdict
+plain_down l s v x old up later = plain_at l s v x old up (plain_map l (plain_fall l s x.vector old up) s) later
 
 abbrev pub plain_from : Logic → Size → (old : List Tri) → (vector compared : ℕ) → List Row → Verdict
 plain_from l s old v compared [] = Pass compared
 plain_from l s old v compared (x ∷ xs) =
-    plain_at l s v x old (plain_map l (pulse_of l x.vector (value_at old)) s) (λ next. plain_from l s next (suc v) (compared + length x.compared) xs)
+    plain_down l s v x old (plain_map l (rise_of l x.vector (value_at old)) s) (λ next. plain_from l s next (suc v) (compared + length x.compared) xs)
 
 abbrev pub size_of : Netlist → Size
 size_of n = record { levels = suc (length n.nets); cells = length n.instances }

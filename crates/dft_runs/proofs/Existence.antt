@@ -1,8 +1,8 @@
 -- Runs exist: moment by moment there is one settled assignment.
-use Rattle.std.proofs.Common.{ℕ, ◌+◌, ◌==◌, List, [], ◌∷◌, ◌++◌, ◌≡◌, refl, ap, map, ◌∙◌}
+use Rattle.std.proofs.Common.{ℕ, ◌+◌, ◌==◌, List, [], ◌∷◌, ◌++◌, ◌≡◌, refl, ap, map, ◌∙◌, true, false}
 use Rattle.std.specs.Prelude.{if◌then◌else◌}
 use Rattle.dft_netlist.specs.Logic.{Logic, IsRanked}
-use Rattle.dft_netlist.specs.Runs.{State, Moment, Now, sources_of, IsNow, Event, Set, Rise, Fall, after_event, at_moment, Step, next_now, after, AreSteps, Vector, Edge, Turn, rise_step, fall_step, times, IsOrder, IsTurn, after_turn, AreTurns}
+use Rattle.dft_netlist.specs.Runs.{State, Moment, Now, sources_of, IsNow, Event, Set, event_of, after_event, at_moment, Step, next_now, after, AreSteps, Vector, Edge, Turn, edge_step, times, IsOrder, IsTurn, after_turn, AreTurns}
 use Rattle.dft_netlist.proofs.OneSettled.{settled_one}
 use Rattle.dft_runs.specs.Choices.{SameEdges, SameChoice, SameChoices, AreOrders, ChoicesRun}
 
@@ -15,8 +15,8 @@ settled_now l rank ranked s m = (settled_one l rank (sources_of (record { state 
 
 -- ---- edges
 
-abbrev edge_step : (ℕ → Event) → Edge → Step
-edge_step event e = record { event = event e.domain; moment = e.moment }
+abbrev event_step : (ℕ → Event) → Edge → Step
+event_step event e = record { event = event e.domain; moment = e.moment }
 
 abbrev settled_edge : (l : Logic) (rank : ℕ → ℕ) → IsRanked l rank → (ℕ → Event) → Now → Edge → Edge
 settled_edge l rank ranked event now e = record { domain = e.domain; moment = settled l rank ranked (at_moment l e.moment (after_event l now (event e.domain))) e.moment }
@@ -24,22 +24,22 @@ settled_edge l rank ranked event now e = record { domain = e.domain; moment = se
 abbrev settled_edges : (l : Logic) (rank : ℕ → ℕ) → IsRanked l rank → (ℕ → Event) → Now → List Edge → List Edge
 settled_edges l rank ranked event now [] = []
 settled_edges l rank ranked event now (e ∷ es) =
-    settled_edge l rank ranked event now e ∷ settled_edges l rank ranked event (next_now l now (edge_step event (settled_edge l rank ranked event now e))) es
+    settled_edge l rank ranked event now e ∷ settled_edges l rank ranked event (next_now l now (event_step event (settled_edge l rank ranked event now e))) es
 
-edges_step : (l : Logic) (rank : ℕ → ℕ) (ranked : IsRanked l rank) (event : ℕ → Event) (now : Now) (es : List Edge) → AreSteps l now (map (edge_step event) (settled_edges l rank ranked event now es))
+edges_step : (l : Logic) (rank : ℕ → ℕ) (ranked : IsRanked l rank) (event : ℕ → Event) (now : Now) (es : List Edge) → AreSteps l now (map (event_step event) (settled_edges l rank ranked event now es))
 edges_step l rank ranked event now [] = tt
 edges_step l rank ranked event now (e ∷ es) = (
   settled_now l rank ranked (at_moment l e.moment (after_event l now (event e.domain))) e.moment,
-  edges_step l rank ranked event (next_now l now (edge_step event (settled_edge l rank ranked event now e))) es,
+  edges_step l rank ranked event (next_now l now (event_step event (settled_edge l rank ranked event now e))) es,
 )
 
 edges_same : (l : Logic) (rank : ℕ → ℕ) (ranked : IsRanked l rank) (event : ℕ → Event) (now : Now) (es : List Edge) → SameEdges es (settled_edges l rank ranked event now es)
 edges_same l rank ranked event now [] = tt
-edges_same l rank ranked event now (e ∷ es) = (refl, (record { free = refl; loose = refl }, edges_same l rank ranked event (next_now l now (edge_step event (settled_edge l rank ranked event now e))) es))
+edges_same l rank ranked event now (e ∷ es) = (refl, (record { free = refl; loose = refl }, edges_same l rank ranked event (next_now l now (event_step event (settled_edge l rank ranked event now e))) es))
 
 edges_times : (l : Logic) (rank : ℕ → ℕ) (ranked : IsRanked l rank) (event : ℕ → Event) (now : Now) (es : List Edge) (d : ℕ) → times d (settled_edges l rank ranked event now es) ≡ times d es
 edges_times l rank ranked event now [] d = refl
-edges_times l rank ranked event now (e ∷ es) d = ap (λ k. (if d == e.domain then 1 else 0) + k) (edges_times l rank ranked event (next_now l now (edge_step event (settled_edge l rank ranked event now e))) es d)
+edges_times l rank ranked event now (e ∷ es) d = ap (λ k. (if d == e.domain then 1 else 0) + k) (edges_times l rank ranked event (next_now l now (event_step event (settled_edge l rank ranked event now e))) es d)
 
 steps_join : (l : Logic) (now : Now) (front back : List Step) → AreSteps l now front → AreSteps l (after l now front) back → AreSteps l now (front ++ back)
 steps_join l now [] back first second = second
@@ -55,10 +55,10 @@ module _ (l : Logic) (rank : ℕ → ℕ) (ranked : IsRanked l rank) where
   after_strobe x now t = next_now l now (record { event = Set x.ports; moment = turn_strobe x now t })
 
   abbrev turn_rises : Vector → Now → Turn → List Edge
-  turn_rises x now t = settled_edges l rank ranked Rise (after_strobe x now t) t.rises
+  turn_rises x now t = settled_edges l rank ranked (event_of true) (after_strobe x now t) t.rises
 
   abbrev turn_falls : Vector → Now → Turn → List Edge
-  turn_falls x now t = settled_edges l rank ranked Fall (after l (after_strobe x now t) (map rise_step (turn_rises x now t))) t.falls
+  turn_falls x now t = settled_edges l rank ranked (event_of false) (after l (after_strobe x now t) (map (edge_step true) (turn_rises x now t))) t.falls
 
   abbrev settled_turn : Vector → Now → Turn → Turn
   settled_turn x now t = record { strobe = turn_strobe x now t; rises = turn_rises x now t; falls = turn_falls x now t }
@@ -66,21 +66,21 @@ module _ (l : Logic) (rank : ℕ → ℕ) (ranked : IsRanked l rank) where
   turn_is : (x : Vector) (now : Now) (t : Turn) → IsOrder x.pulsed t.rises → IsOrder x.pulsed t.falls → IsTurn l x now (settled_turn x now t)
   turn_is x now t rises falls =
       let first : Now = after_strobe x now t in
-      let last : Now = after l first (map rise_step (turn_rises x now t)) in
+      let last : Now = after l first (map (edge_step true) (turn_rises x now t)) in
       record {
         steps = (
           settled_now l rank ranked (at_moment l t.strobe (after_event l now (Set x.ports))) t.strobe,
-          steps_join l first (map rise_step (turn_rises x now t)) (map fall_step (turn_falls x now t)) (edges_step l rank ranked Rise first t.rises) (edges_step l rank ranked Fall last t.falls),
+          steps_join l first (map (edge_step true) (turn_rises x now t)) (map (edge_step false) (turn_falls x now t)) (edges_step l rank ranked (event_of true) first t.rises) (edges_step l rank ranked (event_of false) last t.falls),
         );
-        rises = λ d. edges_times l rank ranked Rise first t.rises d ∙ rises d;
-        falls = λ d. edges_times l rank ranked Fall last t.falls d ∙ falls d;
+        rises = λ d. edges_times l rank ranked (event_of true) first t.rises d ∙ rises d;
+        falls = λ d. edges_times l rank ranked (event_of false) last t.falls d ∙ falls d;
       }
 
   turn_same : (x : Vector) (now : Now) (t : Turn) → SameChoice t (settled_turn x now t)
   turn_same x now t = record {
     strobe = record { free = refl; loose = refl };
-    rises = edges_same l rank ranked Rise (after_strobe x now t) t.rises;
-    falls = edges_same l rank ranked Fall _ t.falls;
+    rises = edges_same l rank ranked (event_of true) (after_strobe x now t) t.rises;
+    falls = edges_same l rank ranked (event_of false) _ t.falls;
   }
 
   turns_exist : (xs : List Vector) (now : Now) (choices : List Turn) → AreOrders xs choices → (turns : List Turn) × (AreTurns l now xs turns × SameChoices choices turns)

@@ -4,7 +4,7 @@ use Rattle.dft_netlist.specs.Logic.{Logic, Ports, Cell, IsRanked, flip_flop, log
 use Rattle.dft_netlist.specs.Netlist.{Netlist}
 use Rattle.dft_netlist.proofs.RankLemmas.{order_ranks}
 use Rattle.dft_netlist.proofs.Ranks.{order_is_rank}
-use Rattle.dft_netlist.proofs.StoredLemmas.{flop_cell}
+use Rattle.dft_netlist.proofs.StoredLemmas.{flop_cell, logic_rises}
 use Rattle.dft_config.specs.Config.{Config}
 use Rattle.dft_runs.specs.WiderPorts.{Widens}
 use Rattle.dft_runs.proofs.WiderPortsLemmas.{ports_widen}
@@ -64,4 +64,4 @@ strobes_follow n config ports ready suits y x its old values shows over settled 
 pub captures_follow : CapturesFollow
 captures_follow n config ports ready suits d y x its old h values capture over settled halves cell is =
     let r = ranked n config ports ready suits in
-    capture_law (design_logic n config) (edt_logic n config ports) r.0 (places_in Edt n config) d y x its old h values r.1 (covers n config ports ready suits) capture over settled halves cell is
+    capture_law (design_logic n config) (edt_logic n config ports) r.0 (places_in Edt n config) d y x its old h values r.1 (covers n config ports ready suits) capture over settled halves cell is (logic_rises n (config_ports n config) cell)

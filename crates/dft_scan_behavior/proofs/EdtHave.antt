@@ -6,6 +6,7 @@ use Rattle.dft_netlist.specs.declared.ids.NetId.{NetId}
 use Rattle.dft_netlist.specs.declared.ids.InstanceId.{InstanceId}
 use Rattle.dft_netlist.specs.Netlist.{Netlist}
 use Rattle.dft_netlist.specs.Logic.{Logic, Input, logic_of}
+use Rattle.dft_netlist.proofs.StoredLemmas.{logic_rises}
 use Rattle.dft_config.specs.Config.{Config}
 use Rattle.dft_stitch.specs.Chains.{cells_of, plan_of}
 use Rattle.dft_stitch.specs.Plans.{cell_at}
@@ -130,6 +131,7 @@ edt_has n config ready = record {
     channels = channel n config ready;
     run = (ring n config ready).run;
     stages = (ring n config ready).stages;
+    heads = λ chain cell stands. logic_rises (scanned Edt n config) (ports_in Edt n config) cell.0;
     phases = phase n config ready;
   };
   compactor = record {

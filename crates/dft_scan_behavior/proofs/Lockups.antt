@@ -18,6 +18,7 @@ use Rattle.dft_netlist.specs.Connections.{input_net}
 use Rattle.dft_netlist.specs.Drivers.{Net, driver}
 use Rattle.dft_netlist.specs.Logic.{Cell, Lockup, logic_of}
 use Rattle.dft_netlist.proofs.Walks.{port_found}
+use Rattle.dft_netlist.proofs.StoredLemmas.{logic_rises}
 use Rattle.dft_config.specs.Config.{Config}
 use Rattle.dft_rules.specs.declared.judged.Judged.{Judged}
 use Rattle.dft_rules.specs.declared.judged.Judged.TheVariants.{Scanned}
@@ -187,7 +188,7 @@ LockupStands w number library clock input output = Stands w number (Library (fir
 
 -- what a made lock-up is there
 pub lockup_means : (style : Style) (n : Netlist) (config : Config) (number : ℕ) (library : List library_cells.Cell) (clock input output : NetId) → IsReady n config → library ≡ (scanned style n config).library → IsClockNet (scanned style n config) (ports_in style n config) clock.0 →
-    LockupStands (scanned style n config) number library clock input output → (logic_of (scanned style n config) (ports_in style n config)).net output.0 ≡ Lockup number clock.0 (Net input.0)
+    LockupStands (scanned style n config) number library clock input output → (logic_of (scanned style n config) (ports_in style n config)).net output.0 ≡ Lockup number clock.0 false (Net input.0)
 lockup_means style n config number library clock input output ready same is h =
     let w : Netlist = scanned style n config in
     lockup_stands w (ports_in style n config) number clock input output (scanned_single style n config ready) (subst IsWellFormed (sym (parts_grow (framed style n config) (made_in style n config)).library) ready.library) is
@@ -220,16 +221,17 @@ module _ (style : Style) (n : Netlist) (config : Config) (ready : IsReady n conf
       let domain_is : l.domain ≡ s.domain = same_Some l.domain s.domain (sym listed ∙ cell_domain style n config place cell out.cells s out.stands) in
       let clock : pins.domain_in n (gap_in style n config) config l.domain ≡ s.clock.net = ap (pins.domain_in n (gap_in style n config) config) domain_is ∙ domain_net style n config cell.0 s.domain ready s.clock in
       let input : (net_at (row_at (rows_in style n config).value chain) l.after).0 ≡ out.net.0 = ap (λ k. (net_at (row_at (rows_in style n config).value chain) k).0) after_is ∙ ap (λ (k : NetId). k.0) out_net in
-      ByLockup {net = net.0} {lockup = number} {output = out.net.0}
+      ByLockup {net = net.0} {lockup = number} {output = out.net.0} {high = false}
       (lockup_means style n config number library (record { 0 = pins.domain_in n (gap_in style n config) config l.domain }) (net_at (row_at (rows_in style n config).value chain) l.after) net ready same
       (subst (IsClockNet (scanned style n config) (ports_in style n config)) (sym clock) (clock_net style n config cell.0 s.domain ready s.clock)) h
-      ∙ ap (λ d. Lockup number d (Net (net_at (row_at (rows_in style n config).value chain) l.after).0)) (clock ∙ sym its_domain)
-      ∙ ap (λ k. Lockup number ((logic_of (scanned style n config) (ports_in style n config)).cell cell.0).domain (Net k)) input)
-      (means style n config cell s ready out.net out.joined)
+      ∙ ap (λ d. Lockup number d false (Net (net_at (row_at (rows_in style n config).value chain) l.after).0)) (clock ∙ sym its_domain)
+      ∙ ap (λ k. Lockup number ((logic_of (scanned style n config) (ports_in style n config)).cell cell.0).domain false (Net k)) input)
+      (means style n config cell s ready out.net out.joined) (logic_rises (scanned style n config) (ports_in style n config) cell.0) (logic_rises (scanned style n config) (ports_in style n config) next)
 
   -- its output leads to the next of the same domain
   pub directly : (t : IsPlanned style n config next) → s.domain ≡ t.domain → Leads (logic_of (scanned style n config) (ports_in style n config)) cell.0 next (Net (net_at (row_at (rows_in style n config).value chain) place).0)
   directly t same =
       let other : ((logic_of (scanned style n config) (ports_in style n config)).cell next).domain ≡ t.clock.net = ap (λ (c : Cell). c.domain) (flop_is style n config next t) ∙ t.on in
       subst (λ (k : NetId). Leads (logic_of (scanned style n config) (ports_in style n config)) cell.0 next (Net k.0)) (sym out_net)
-      (Directly {net = out.net.0} (means style n config cell s ready out.net out.joined) (its_domain ∙ same_clock n config cell.0 next s.domain t.domain s.clock t.clock same ∙ sym other))
+      (Directly {net = out.net.0} (means style n config cell s ready out.net out.joined) (its_domain ∙ same_clock n config cell.0 next s.domain t.domain s.clock t.clock same ∙ sym other)
+      (logic_rises (scanned style n config) (ports_in style n config) cell.0 ∙ sym (logic_rises (scanned style n config) (ports_in style n config) next)))

@@ -98,7 +98,7 @@ if_some false o c e = absurd (none-some c e)
 modelled_scan : (domain : Option ℕ) (force : Option (Option Force)) (input : Source) (scan : Option Scan) (c : Cell) → modelled domain force input scan ≡ Some c → c.scan ≡ scan
 modelled_scan None force input scan c e = absurd (none-some c e)
 modelled_scan (Some d) None input scan c e = absurd (none-some c e)
-modelled_scan (Some d) (Some f) input scan c e = ap (λ (z : Cell). z.scan) (sym (same_Some (record { domain = d; input = input; scan = scan; force = f }) c e))
+modelled_scan (Some d) (Some f) input scan c e = ap (λ (z : Cell). z.scan) (sym (same_Some (record { domain = d; falling = false; input = input; scan = scan; force = f }) c e))
 
 acts_alike : (p q : Ports) (force : Option Force) → q.is_reset ≡ p.is_reset → ActsByPort p force → ActsByPort q force
 acts_alike p q None e h = tt
@@ -139,11 +139,11 @@ modelled_in style n config i x it clock ready at =
     let force : ActsBy style n config (forcing n p (pin_of Reset i (pins_of n i)) (pin_of Preset i (pins_of n i))) = acts_pins style n config (pin_of Reset i (pins_of n i)) (pin_of Preset i (pins_of n i)) ready it.passed.is_held in
     let input : Source = or_loose i (pin_of Din i (pins_of n i)) in
     let scan : Option Scan = scan_of (pin_of ScanEnable i (pins_of n i)) (pin_of ScanIn i (pins_of n i)) in
-    let old : flip_flop n p i ≡ Some (record { domain = clock.net; input = input; scan = scan; force = force.force }) =
+    let old : flip_flop n p i ≡ Some (record { domain = clock.net; falling = false; input = input; scan = scan; force = force.force }) =
     ap (λ b. if b then modelled_of n p i (pins_of n i) else None) (scannable_flop (kind_at n i) it.kind)
     ∙ ap (λ d. modelled d (forcing n p (pin_of Reset i (pins_of n i)) (pin_of Preset i (pins_of n i))) input scan) (domain_is n config i it.domain clock)
     ∙ ap (λ f. modelled (Some clock.net) f input scan) force.is in
-    let new = matched_new (places_in style n config) (flip_flop n p i) (flip_flop w q i) (record { domain = clock.net; input = input; scan = scan; force = force.force }) old (instance_matched style n config ready (spared style n config ready) i x at) in
+    let new = matched_new (places_in style n config) (flip_flop n p i) (flip_flop w q i) (record { domain = clock.net; falling = false; input = input; scan = scan; force = force.force }) old (instance_matched style n config ready (spared style n config ready) i x at) in
     record {
       flop = new.0;
       is = new.1;

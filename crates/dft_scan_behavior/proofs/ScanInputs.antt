@@ -186,7 +186,7 @@ link_joined Edt n config ready chain place cell next s t stands follows =
 -- in style Plain the net of the chain's scan input port, in style Edt that of a lock-up on edt_clock behind the chain's phase sum
 abbrev pub IsEntry : (style : Style) → Netlist → Config → (chain : ℕ) → NetId → Type 0
 IsEntry Plain n config chain net = net ≡ plain_in (gap_in Plain n config).before chain
-IsEntry Edt n config chain net = (lockup : ℕ) × ((logic_of (scanned Edt n config) (ports_in Edt n config)).net net.0 ≡ Lockup lockup (ports_of n config).edt_clock.0 (Net (net_at (ring_parts n config).value.phases chain).0))
+IsEntry Edt n config chain net = (lockup : ℕ) × ((logic_of (scanned Edt n config) (ports_in Edt n config)).net net.0 ≡ Lockup lockup (ports_of n config).edt_clock.0 false (Net (net_at (ring_parts n config).value.phases chain).0))
 
 pub entry_joined : (style : Style) (n : Netlist) (config : Config) (chain : ℕ) (cell : InstanceId) (s : IsPlanned style n config cell.0) → IsReady n config → cell_at (plan_of n config).chains chain zero ≡ Some cell → IsJoined style n config cell s (IsEntry style n config chain)
 entry_joined Plain n config chain cell s ready stands =

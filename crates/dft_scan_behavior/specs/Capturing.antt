@@ -7,7 +7,7 @@ use Rattle.dft_netlist.specs.Logic.{Logic, Ports, logic_of}
 use Rattle.dft_netlist.specs.Netlist.{Netlist}
 use Rattle.dft_netlist.specs.Runs.{Vector}
 use Rattle.dft_netlist.specs.Settled.{IsTriSettled}
-use Rattle.dft_abstract.specs.Cycle.{pulse_of, strobe_sources, Halves, AreHalves, after_halves}
+use Rattle.dft_abstract.specs.Cycle.{rise_of, strobe_sources, Halves, AreHalves, after_halves}
 use Rattle.dft_abstract.specs.Laws.{next_from}
 use Rattle.dft_config.specs.Config.{Config}
 use Rattle.dft_edt.specs.Captures.{StandsOver, IsCapture}
@@ -39,7 +39,7 @@ CapturesStand n config ports =
     IsCapture (places_in Edt n config) d x → StandsOver (places_in Edt n config) y x its old → IsTriSettled (design_logic n config) (strobe_sources (design_logic n config) y its values) values →
     AreHalves l x old h → (cell : ℕ) → (places_in Edt n config).is_flop cell ≡ true →
     (((design_logic n config).cell cell).domain ≡ d → AboveTri (next_from (design_logic n config) y values cell) (after_halves l x old h cell))
-    × ((((design_logic n config).cell cell).domain == d) ≡ false → AboveTri ((pulse_of (design_logic n config) y its).old cell) (after_halves l x old h cell))
+    × ((((design_logic n config).cell cell).domain == d) ≡ false → AboveTri ((rise_of (design_logic n config) y its).old cell) (after_halves l x old h cell))
 
 -- ---- for every ready design, under all ports that suit
 

@@ -8,7 +8,7 @@ use Rattle.dft_netlist.specs.Logic.{Logic, Ports, logic_of}
 use Rattle.dft_netlist.specs.Netlist.{Netlist}
 use Rattle.dft_netlist.specs.Settled.{IsTriSettled}
 use Rattle.dft_netlist.specs.Runs.{Now, Vector, Turn, IsTurn, after_turn, AreLow}
-use Rattle.dft_abstract.specs.Cycle.{pulse_of, strobe_sources, Halves, AreHalves, after_halves}
+use Rattle.dft_abstract.specs.Cycle.{rise_of, strobe_sources, Halves, AreHalves, after_halves}
 use Rattle.dft_abstract.specs.Laws.{shown}
 use Rattle.dft_config.specs.Config.{Config}
 use Rattle.dft_config.specs.Ring.{step, phase_sum, sum_of}
@@ -125,7 +125,7 @@ pub record Acts (n : Netlist) (config : Config) (ports : Ports) : Type 0 where
   -- a reset or set acts on the last cells at once
   pub strobe : (x : Vector) (old values : ℕ → Tri) → IsTriSettled (edt_logic n config ports) (strobe_sources (edt_logic n config ports) x old values) values → (j : ℕ) → j < length config.compactor.groups →
       values ((edt_hardware n config).output j)
-      ≡ tri_sum (map (λ chain. shown_by (old ((edt_hardware n config).hold chain)) ((pulse_of (edt_logic n config ports) x old).old (last_cell (plan_of n config).chains chain).0)) (group_of config j))
+      ≡ tri_sum (map (λ chain. shown_by (old ((edt_hardware n config).hold chain)) ((rise_of (edt_logic n config ports) x old).old (last_cell (plan_of n config).chains chain).0)) (group_of config j))
 
 -- So it is for every ready design, under all ports that suit.
 abbrev pub VectorsAct : Type 0

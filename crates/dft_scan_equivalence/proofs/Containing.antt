@@ -106,7 +106,7 @@ contains style n config ready spared = record {
   closed = λ net less. reads_by n (config_ports n config) net (length n.nets) (driver n net) (driver_fine n config net ready) (reads_inside n config net ready less);
   shown = λ net cell inverted less is. shows_by n (config_ports n config) net cell inverted (driver n net) (driver_fine n config net ready) is;
   flops = λ cell is. flop_kept style n config cell ready spared is;
-  no_lockup = λ net cell domain source less is. lockup_by n (config_ports n config) net cell domain source (driver n net) (driver_fine n config net ready) is;
+  no_lockup = λ net cell domain high source less is. lockup_by n (config_ports n config) net cell domain high source (driver n net) (driver_fine n config net ready) is;
 }
 
 -- so it behaves as its design while scan is off

@@ -110,6 +110,7 @@ match_by p (Some d) None input old new plain enabled inside within = tt
 match_by p (Some d) (Some x) input old new plain enabled inside within = record {
   plain = plain;
   domain = refl;
+  falling = refl;
   input = refl;
   input_within = inside;
   force = refl;

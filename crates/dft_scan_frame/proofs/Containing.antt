@@ -178,17 +178,17 @@ shows_by n ports net cell inverted (drivers.Flop i other) fine e =
 shows_by n ports net cell inverted (drivers.Lockup i) fine e = absurd fine
 shows_by n ports net cell inverted drivers.Free fine e = absurd cc
 
-clock_no_lockup : (b : Bool) (cell domain : ℕ) (source : Source) → (if b then logic.Clock else logic.Input) ≡ logic.Lockup cell domain source → ⊥
-clock_no_lockup true cell domain source e = cc
-clock_no_lockup false cell domain source e = cc
+clock_no_lockup : (b : Bool) (cell domain : ℕ) (high : Bool) (source : Source) → (if b then logic.Clock else logic.Input) ≡ logic.Lockup cell domain high source → ⊥
+clock_no_lockup true cell domain high source e = cc
+clock_no_lockup false cell domain high source e = cc
 
-pub lockup_by : (n : Netlist) (ports : Ports) (net cell domain : ℕ) (source : Source) (d : drivers.Driver) → FineBy n net d → meaning_of n ports net d ≡ logic.Lockup cell domain source → ⊥
-lockup_by n ports net cell domain source drivers.Input fine e = clock_no_lockup (ports.is_clock net) cell domain source e
-lockup_by n ports net cell domain source (drivers.Gate k inputs) fine e = cc
-lockup_by n ports net cell domain source (drivers.Joined from) fine e = cc
-lockup_by n ports net cell domain source (drivers.Flop i other) fine e = no_flop i other (flip_flop n ports i) cell domain source e
-lockup_by n ports net cell domain source (drivers.Lockup i) fine e = absurd fine
-lockup_by n ports net cell domain source drivers.Free fine e = cc
+pub lockup_by : (n : Netlist) (ports : Ports) (net cell domain : ℕ) (high : Bool) (source : Source) (d : drivers.Driver) → FineBy n net d → meaning_of n ports net d ≡ logic.Lockup cell domain high source → ⊥
+lockup_by n ports net cell domain high source drivers.Input fine e = clock_no_lockup (ports.is_clock net) cell domain high source e
+lockup_by n ports net cell domain high source (drivers.Gate k inputs) fine e = cc
+lockup_by n ports net cell domain high source (drivers.Joined from) fine e = cc
+lockup_by n ports net cell domain high source (drivers.Flop i other) fine e = no_flop i other (flip_flop n ports i) cell domain high source e
+lockup_by n ports net cell domain high source (drivers.Lockup i) fine e = absurd fine
+lockup_by n ports net cell domain high source drivers.Free fine e = cc
 
 -- ---- the port scan_enable
 

@@ -2,9 +2,10 @@
 use Rattle.std.proofs.Common.{map}
 use Rattle.std.specs.Prelude.{if◌then◌else◌}
 use Rattle.dft_cycle.specs.Machine.{value_at}
-use Rattle.dft_logic.specs.Circuit.{cell_of, cell_at, flag_at}
+use Rattle.dft_logic.specs.Circuit.{cell_of, cell_at}
 use Rattle.dft_logic.proofs.Writings.{Written}
+use Rattle.dft_cycle.proofs.MachineLemmas.{changed_by}
 use Rattle.dft_cycle.proofs.machine.take.Given as goal
 
 abbrev pub invariant-loop-place : goal.invariant-loop-place
-invariant-loop-place l = Written l.initial.cells l.cells (λ c old. if flag_at l.pulsed (cell_at (map cell_of l.flops) c).domain then value_at l.next c else old) l.place
+invariant-loop-place l = Written l.initial.cells l.cells (λ c old. if changed_by l.rising l.pulsed (cell_at (map cell_of l.flops) c) then value_at l.next c else old) l.place

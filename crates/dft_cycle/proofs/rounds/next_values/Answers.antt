@@ -21,7 +21,7 @@ loop-clock-preserved c =
     elim c.if-flag_at.branch [
       | then-flag_at w ↦ record {
         next = λ view views right. rw w.next-is (next_more x p (value_at c.args.poss.now) view clocks c.args.held.now c.loop-clock.next w.take_next.new.next w.enter.new.values j clock.0 _ c.requires.circuit views
-            (record { ports = λ k. refl; clocks = λ e. refl; flops = λ k. refl; lockups = λ k e source. refl }) w.enter.ensures.given right w.take_next.ensures refl (c.loop-clock.invariant.next view views right));
+            (record { ports = λ k. refl; clocks = λ e. refl; flops = λ k. refl; lockups = λ k e high source. refl }) w.enter.ensures.given right w.take_next.ensures refl (c.loop-clock.invariant.next view views right));
         given = rw (w.values-is, w.last-is) w.enter.ensures.given;
         clear = rw w.marked-is w.enter.ensures.clear;
         live = λ some. rw w.last-is live;

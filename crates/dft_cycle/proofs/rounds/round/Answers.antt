@@ -38,7 +38,7 @@ loop-clock-preserved c =
     let live : clock.0 < length x.ops.items = c.requires.live c.loop-clock.clock-index clock (slice_get-get_or c.args.clocks.now c.loop-clock.clock-index (record { 0 = 0 }) c.loop-clock-test.true) in
     record {
       rises = rises_more x p (value_at c.args.poss.now) c.args.clocks.now c.args.held.now c.loop-clock.held c.hold-moved.new.held c.change_view.new.values c.loop-clock.clock-index clock.0 _
-          c.requires.circuit (λ view. record { ports = λ k. refl; clocks = λ e. refl; flops = λ k. refl; lockups = λ k e source. refl }) c.change_view.ensures.given c.hold-moved.ensures.each refl c.loop-clock.invariant.rises;
+          c.requires.circuit (λ view. record { ports = λ k. refl; clocks = λ e. refl; flops = λ k. refl; lockups = λ k e high source. refl }) c.change_view.ensures.given c.hold-moved.ensures.each refl c.loop-clock.invariant.rises;
       same = λ h. elim c.if-changed.branch [
         | then-changed w ↦ (let p = w.changed-is in let q = w.if-changed.true in absurd (cc))
         | else-changed w ↦ c.hold-moved.ensures.same (sym w.changed-is ∙ h) ∙ c.loop-clock.invariant.same w.if-changed.false

@@ -1,8 +1,8 @@
 -- The nets before this one are not marked.
 use Rattle.std.proofs.Common.{map}
-use Rattle.dft_logic.specs.Circuit.{cell_of, view_base, held_in}
+use Rattle.dft_logic.specs.Circuit.{cell_of, view_base}
 use Rattle.dft_cycle.proofs.Sweepings.{Sweeping}
 use Rattle.dft_cycle.proofs.sweeping.sweep.Given as goal
 
 abbrev pub invariant-loop-net : goal.invariant-loop-net
-invariant-loop-net l = Sweeping l.circuit.ops.items (view_base (map cell_of l.circuit.flops.items) l.view) (held_in l.view) l.circuit.order.items l.values l.marked l.net-index
+invariant-loop-net l = Sweeping l.circuit.ops.items (view_base (map cell_of l.circuit.flops.items) l.view) l.circuit.order.items l.values l.marked l.net-index

@@ -1,8 +1,7 @@
 -- The nets before this one have their drivers' values.
-use Rattle.std.proofs.Common.{map}
-use Rattle.dft_logic.specs.Circuit.{cell_of, view_base, held_in}
+use Rattle.dft_logic.specs.Circuit.{before_base, pulse_at}
 use Rattle.dft_logic.proofs.Listings.{Listed}
 use Rattle.dft_logic.proofs.lists.settle_list.Given as goal
 
 abbrev pub invariant-loop-net : goal.invariant-loop-net
-invariant-loop-net l = Listed l.circuit.ops.items (view_base (map cell_of l.circuit.flops.items) l.view) (held_in l.view) l.nets l.values l.net-index
+invariant-loop-net l = Listed l.circuit.ops.items (before_base (pulse_at l.pulse)) l.nets l.values l.net-index

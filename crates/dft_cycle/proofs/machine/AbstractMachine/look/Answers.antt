@@ -16,6 +16,7 @@ invariant_of-self c =
     record {
       circuit = i.circuit;
       compiled = i.compiled;
+      rests = i.rests;
       owned = i.owned;
       live = i.live;
       nets = i.nets;
@@ -45,6 +46,7 @@ invariant_of-self-else-not-read c =
     record {
       circuit = i.circuit;
       compiled = i.compiled;
+      rests = i.rests;
       owned = i.owned;
       live = i.live;
       nets = i.nets;

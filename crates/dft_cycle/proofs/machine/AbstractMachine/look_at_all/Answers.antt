@@ -1,5 +1,5 @@
 -- The nets have the values of every settled assignment.
-use Rattle.std.proofs.Common.{ℕ, ◌≡◌, ◌∙◌, refl, ap, map, subst, List}
+use Rattle.std.proofs.Common.{ℕ, ◌≡◌, ◌∙◌, ap, map, subst, List}
 use Rattle.dft_base.specs.declared.tri.Tri.{Tri}
 use Rattle.dft_cycle.specs.Machine.{Machine, logic, value_at}
 use Rattle.dft_logic.specs.Needs.{AreSeen}
@@ -19,6 +19,7 @@ invariant_of-self c =
     record {
       circuit = i.circuit;
       compiled = i.compiled;
+      rests = i.rests;
       owned = i.owned;
       live = i.live;
       nets = i.nets;
@@ -49,6 +50,6 @@ returns-clause-seen c =
     let P : Machine → Type 0 = λ m. AreSeen (logic m) (value_at m.inputs) (value_at m.cells) c.args.nets.now c.read_list.new.row in
     let read : c.deref-3.result.now ≡ c.settle_again.new.values = c.deref-3.ensures.value ∙ filled d.values c.settle_again.new.values c.deref_mut.result.now c.settle_again.auto.values c.deref_mut.ensures.value in
     subst P c.self.view_is
-    (looked (machine_of d) d.circuit _ c.settle_again.new.values c.read_list.new.row c.args.nets.now c.self.invariant.circuit c.self.invariant.compiled
-    (λ k. ap (λ (l : List Tri). value_at l k) c.deref.ensures.value) (λ e. refl) (λ k. ap (λ (l : List Tri). value_at l k) c.deref-2.ensures.value) (λ a b source. refl) (subst V c.strobe_view.ensures c.settle_again.ensures.given)
+    (looked (machine_of d) d.circuit c.deref.result.now c.deref-2.result.now c.deref-2.result.now c.deref-2.result.now c.settle_again.new.values c.read_list.new.row 0 c.args.nets.now c.self.invariant.circuit c.self.invariant.compiled
+    c.deref.ensures.value c.deref-2.ensures.value (subst V c.strobe_view.ensures c.settle_again.ensures.given)
     (c.read_list.ensures ∙ ap (λ (l : List Tri). map (λ (net : NetId). value_at l net.0) c.args.nets.now) read))

@@ -1,14 +1,16 @@
 -- The machine's circuit is the design's.
 use Rattle.std.proofs.Common.{ℕ, Bool, ◌≡◌, ◌∙◌, Some, refl, ap, sym, subst, length, slice_get, List, arith}
 use Rattle.std.proofs.lemmas.List.{length-replicate}
+use Rattle.std.specs.List.{list_any}
 use Rattle.std.specs.Vec.{with_items}
 use Rattle.dft_base.specs.declared.tri.Tri.{Tri}
 use Rattle.dft_netlist.specs.declared.ids.NetId.{NetId}
 use Rattle.dft_netlist.specs.Logic.{Ports, Logic, logic_of}
 use Rattle.dft_cycle.specs.Machine.{logic, is_one_of, value_at}
 use Rattle.dft_cycle.specs.Plans.{ArePlans}
+use Rattle.dft_logic.specs.declared.circuit.FlipFlop.{FlipFlop}
 use Rattle.dft_logic.specs.Circuit.{flag_at, logic_at}
-use Rattle.dft_cycle.proofs.MachineLemmas.{clear_kept, ready_kept, unknown_all, refilled, filled, one_among, same_ports}
+use Rattle.dft_cycle.proofs.MachineLemmas.{circuit_rises, clear_kept, ready_kept, unknown_all, refilled, filled, one_among, same_ports}
 use Rattle.dft_cycle.proofs.DomainLemmas.{ready_view}
 use Rattle.dft_cycle.proofs.machine.AbstractMachine.prepare.Goals as goal
 
@@ -35,7 +37,8 @@ invariant_of-result c =
     record {
       circuit = is.circuit;
       compiled = ap L (sym (same_ports c.deref.result.now clocks same)) ∙ is.compiled;
-      owned = λ k e source h. one_among clocks e (sym (same e) ∙ is.clocked k e source h);
+      rests = λ none. circuit_rises x (sym (ap (λ (l : List FlipFlop). list_any (λ flop. flop.falling) l) c.deref-3.ensures.value) ∙ sym c.has_falling-falls.ensures ∙ none);
+      owned = λ k e high source h. one_among clocks e (sym (same e) ∙ is.clocked k e high source h);
       live = λ place clock at.
           (let S : List NetId → Type 0 = λ l. slice_get l place ≡ Some clock in
           let less = c.requires place clock (subst S named at) in

@@ -1,8 +1,7 @@
 -- The nets show their settled values.
-use Rattle.std.proofs.Common.{ℕ, ◌≡◌, ◌∙◌, refl, ap, subst, List}
+use Rattle.std.proofs.Common.{ℕ, ◌≡◌, ◌∙◌, refl, subst}
 use Rattle.std.specs.Vec.{with_items}
-use Rattle.dft_base.specs.declared.tri.Tri.{Tri}
-use Rattle.dft_cycle.specs.Machine.{Machine, logic, value_at, IsStrobed}
+use Rattle.dft_cycle.specs.Machine.{Machine, logic, IsStrobed}
 use Rattle.dft_cycle.specs.MachineShown.{machine_of}
 use Rattle.dft_logic.specs.declared.settling.View.{View}
 use Rattle.dft_logic.specs.Circuit.{logic_at, IsGivenIn}
@@ -18,6 +17,7 @@ invariant_of-self c =
     record {
       circuit = i.circuit;
       compiled = i.compiled;
+      rests = i.rests;
       owned = i.owned;
       live = i.live;
       nets = i.nets;
@@ -51,6 +51,6 @@ returns c =
     let copied : c.copy_from_slice.new.self ≡ c.settle_again.new.values =
     c.copy_from_slice.ensures.after ∙ c.deref-3.ensures.value ∙ filled d.values c.settle_again.new.values c.deref_mut.result.now c.settle_again.auto.values c.deref_mut.ensures.value in
     subst P c.self.view_is
-    (strobed (machine_of d) after d.circuit _ c.settle_again.new.values c.self.invariant.compiled refl refl refl refl
-    (λ k. ap (λ (l : List Tri). value_at l k) c.deref.ensures.value) (λ e. refl) (λ k. ap (λ (l : List Tri). value_at l k) c.deref-2.ensures.value) (λ a b source. refl) (subst V c.strobe_view.ensures c.settle_again.ensures.given)
+    (strobed (machine_of d) after d.circuit c.deref.result.now c.deref-2.result.now c.deref-2.result.now c.deref-2.result.now c.settle_again.new.values 0 c.self.invariant.compiled refl refl refl refl
+    c.deref.ensures.value c.deref-2.ensures.value (subst V c.strobe_view.ensures c.settle_again.ensures.given)
     (filled d.shown c.copy_from_slice.new.self c.as_mut_slice.result.now c.copy_from_slice.ensures.len c.as_mut_slice.ensures.value ∙ copied))

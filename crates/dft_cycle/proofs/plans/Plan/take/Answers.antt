@@ -7,8 +7,8 @@ use Rattle.dft_cycle.proofs.plans.Plan.take.Goals as goal
 
 pub returns-clause-passed : goal.returns-clause-passed
 returns-clause-passed c = λ yes.
-    passed c.args.circuit.now c.args.clocks.now c.args.pins.now c.args.self.now _ c.settle_strobe.new.values c.args.cells.now c.copy_from_slice.new.self c.requires.circuit c.requires.pins
+    passed c.args.circuit.now c.args.clocks.now c.args.pins.now c.args.self.now _ c.settle_list.new.values c.args.cells.now c.copy_from_slice.new.self c.requires.circuit c.requires.pins
     (c.requires.plan.made (c.is_made.ensures c.if-not-is_made.false)) c.requires.among (λ k far. get_or_past c.args.ports.now k Unknown (omega (arith, c.requires.ports, far))) (λ k. refl) c.requires.loose
-    (c.settle_strobe.auto.values ∙ c.requires.values)
-    (c.fits.ensures.pulsed c.if-not-fits.false) (c.fits.ensures.ports c.if-not-fits.false) (c.fits.ensures.enables c.if-not-fits.false)
-    (rw c.deref.ensures.value at c.settle_strobe.ensures) (rw (sym c.copy_from_slice.ensures.after) at (rw c.deref-2.ensures.value at (rw c.deref-3.ensures.value at c.take_all.ensures)))
+    (c.settle_list.auto.values ∙ c.requires.values)
+    (c.fits.ensures.edge c.if-not-fits.false) (c.fits.ensures.pulsed c.if-not-fits.false) (c.fits.ensures.ports c.if-not-fits.false) (c.fits.ensures.enables c.if-not-fits.false)
+    (rw c.deref.ensures.value at c.settle_list.ensures) (rw (sym c.copy_from_slice.ensures.after) at (rw c.deref-2.ensures.value at (rw c.deref-3.ensures.value at c.take_all.ensures)))

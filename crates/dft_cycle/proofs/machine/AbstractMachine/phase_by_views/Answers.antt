@@ -4,12 +4,12 @@ use Rattle.std.specs.Vec.{with_items}
 use Rattle.dft_base.specs.declared.tri.Tri.{Tri}
 use Rattle.dft_netlist.specs.declared.ids.NetId.{NetId}
 use Rattle.dft_abstract.specs.Cycle.{Pulse}
-use Rattle.dft_cycle.specs.Machine.{Machine, logic, value_at, pulses, IsPulsed}
+use Rattle.dft_cycle.specs.Machine.{Machine, logic, value_at, pulses, IsPhase}
 use Rattle.dft_logic.specs.Circuit.{flag_at, logic_at}
 use Rattle.dft_cycle.specs.Views.{Among}
 use Rattle.dft_cycle.specs.MachineShown.{machine_of}
-use Rattle.dft_cycle.proofs.MachineLemmas.{refilled, filled, clear_kept, ready_kept, pulsed_loose, pulse_done, taken_read, pulses_among, flags_one}
-use Rattle.dft_cycle.proofs.machine.AbstractMachine.pulse_by_views.Goals as goal
+use Rattle.dft_cycle.proofs.MachineLemmas.{refilled, filled, clear_kept, ready_kept, pulsed_loose, phase_done, taken_read, pulses_among, flags_one}
+use Rattle.dft_cycle.proofs.machine.AbstractMachine.phase_by_views.Goals as goal
 
 pub mark-requires-clause-live : goal.mark-requires-clause-live
 mark-requires-clause-live c = λ place clock at.
@@ -18,9 +18,9 @@ mark-requires-clause-live c = λ place clock at.
     omega (arith, ap length c.deref_mut.ensures.value, less))
 
 pub find_least-requires-clause-owned : goal.find_least-requires-clause-owned
-find_least-requires-clause-owned c = λ k e source at.
+find_least-requires-clause-owned c = λ k e high source at.
     (let Q : List NetId → Type 0 = λ l. Among l (length l) e in
-    subst Q (sym c.deref-6.ensures.value) (c.self.invariant.owned k e source at))
+    subst Q (sym c.deref-6.ensures.value) (c.self.invariant.owned k e high source at))
 
 pub find_least-requires-clause-live : goal.find_least-requires-clause-live
 find_least-requires-clause-live c = λ place net at.
@@ -49,10 +49,11 @@ invariant_of-self c =
     let cells = with_items d.cells c.take.new.cells in
     let nexts : c.deref_mut-6.result.now ≡ d.next.items = c.deref_mut-6.ensures.value in
     let before : c.deref_mut-7.result.now ≡ d.cells.items = c.deref_mut-7.ensures.value in
-    let p : Pulse = record { ports = value_at c.deref-3.result.now; pulsed = flag_at c.deref-4.result.now; old = value_at c.deref-5.result.now } in
+    let p : Pulse = record { rising = c.args.rising; ports = value_at c.deref-3.result.now; pulsed = flag_at c.deref-4.result.now; old = value_at c.deref-5.result.now } in
     record {
       circuit = i.circuit;
       compiled = i.compiled;
+      rests = i.rests;
       owned = i.owned;
       live = λ place clock at. (let less = i.live place clock at in let e = refilled d.pulsed c.mark.new.flags in omega arith);
       nets = i.nets;
@@ -71,7 +72,7 @@ invariant_of-self c =
       plans = i.plans;
       looks = i.looks;
       loose = pulsed_loose d.circuit p c.find_least.new.poss c.find_least.new.next d.cells.items cells.items i.circuit (refilled d.cells c.take.new.cells ∙ i.cells) i.loose c.find_least.ensures.next
-          (taken_read d.circuit.flops.items c.deref-7.result.now c.deref-4.result.now c.deref-8.result.now c.find_least.new.next c.deref-9.result.now d.cells.items c.deref_mut-7.result.now cells.items c.take.new.cells
+          (taken_read c.args.rising d.circuit.flops.items c.deref-7.result.now c.deref-4.result.now c.deref-8.result.now c.find_least.new.next c.deref-9.result.now d.cells.items c.deref_mut-7.result.now cells.items c.take.new.cells
           c.deref-7.ensures.value (c.deref-8.ensures.value ∙ sym c.deref-4.ensures.value) (c.deref-9.ensures.value ∙ filled d.next c.find_least.new.next c.deref_mut-6.result.now c.find_least.auto.next nexts) before
           (filled d.cells c.take.new.cells c.deref_mut-7.result.now c.take.auto.cells before) c.take.ensures);
       flags = flags_one d.clocks.items c.args.pulsed.now d.pulsed c.mark.new.flags c.deref.result.now c.deref_mut.result.now c.mark.auto.flags c.deref_mut.ensures.value c.deref.ensures.value c.mark.ensures;
@@ -84,7 +85,7 @@ returns c =
     let d = c.self.inside in
     let cells = with_items d.cells c.take.new.cells in
     let after : Machine = record { netlist = d.design.now; clocks = d.clocks.items; inputs = d.inputs.items; cells = cells.items; shown = d.shown.items } in
-    let P : Machine → Type 0 = λ m. IsPulsed (logic m) m c.args.pulsed.now after in
+    let P : Machine → Type 0 = λ m. IsPhase (logic m) m c.args.rising c.args.pulsed.now after in
     let clocks : c.deref.result.now ≡ d.clocks.items = c.deref.ensures.value in
     let flags : c.deref_mut.result.now ≡ d.pulsed.items = c.deref_mut.ensures.value in
     let read : c.deref-4.result.now ≡ (with_items d.pulsed c.mark.new.flags).items = c.deref-4.ensures.value in
@@ -96,13 +97,13 @@ returns c =
     let next : c.deref-9.result.now ≡ (with_items d.next c.find_least.new.next).items = c.deref-9.ensures.value in
     let flops : c.deref-7.result.now ≡ d.circuit.flops.items = c.deref-7.ensures.value in
     let before : c.deref_mut-7.result.now ≡ d.cells.items = c.deref_mut-7.ensures.value in
-    let p : Pulse = record { ports = value_at c.deref-3.result.now; pulsed = flag_at c.deref-4.result.now; old = value_at c.deref-5.result.now } in
+    let p : Pulse = record { rising = c.args.rising; ports = value_at c.deref-3.result.now; pulsed = flag_at c.deref-4.result.now; old = value_at c.deref-5.result.now } in
     subst P c.self.view_is
-    (pulse_done (machine_of d) after d.circuit c.args.pulsed.now p c.find_least.new.poss c.find_least.new.next i.circuit i.compiled refl refl refl refl
+    (phase_done (machine_of d) after d.circuit c.args.rising c.args.pulsed.now p c.find_least.new.poss c.find_least.new.next i.circuit i.compiled refl refl refl refl refl
     (λ k. ap (λ (l : List Tri). value_at l k) ports)
     (λ e. ap (λ (l : List Bool). flag_at l e) marked ∙ c.mark.ensures e ∙ ap (λ (l : List NetId). pulses l c.args.pulsed.now e) clocks)
     (λ k. ap (λ (l : List Tri). value_at l k) old)
     i.cells (refilled d.cells c.take.new.cells) (c.find_least.auto.next ∙ ap length nexts ∙ i.next) c.find_least.ensures.least c.find_least.ensures.next
-    (taken_read d.circuit.flops.items c.deref-7.result.now c.deref-4.result.now c.deref-8.result.now c.find_least.new.next c.deref-9.result.now d.cells.items c.deref_mut-7.result.now cells.items c.take.new.cells
+    (taken_read c.args.rising d.circuit.flops.items c.deref-7.result.now c.deref-4.result.now c.deref-8.result.now c.find_least.new.next c.deref-9.result.now d.cells.items c.deref_mut-7.result.now cells.items c.take.new.cells
     flops (again ∙ sym read) (next ∙ filled d.next c.find_least.new.next c.deref_mut-6.result.now c.find_least.auto.next nexts) before
     (filled d.cells c.take.new.cells c.deref_mut-7.result.now c.take.auto.cells before) c.take.ensures))
