@@ -6,6 +6,8 @@ mod cells;
 #[cfg(test)]
 mod configurations;
 #[cfg(test)]
+mod endings;
+#[cfg(test)]
 mod keys;
 #[cfg(test)]
 mod lanes;

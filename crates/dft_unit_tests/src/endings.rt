@@ -1,0 +1,150 @@
+//! What a person is told of how a run ended.
+
+use crate::words::words_of;
+use dft_base::Place;
+use dft_explain::{Ending, Page, Refusal, explanation, line_at, said_of};
+use std::alloc::{AllocError, Global};
+use std::test::Fail;
+
+// Words, how their run ended, the text that it ended with, and what is told.
+static TOLD: [(&str, u8, &str, &str); 10] = [
+    ("replay --netlist a --patterns b", 0, "", ""),
+    (
+        "replay --netlist a --patterns=b",
+        1,
+        "q",
+        "dft: b: vector 1, signal q: in every run the opposite of what is printed\n",
+    ),
+    (
+        "generate --seed 1 --size 64",
+        2,
+        "q",
+        "dft: vector 1, signal q: not determined; the start, the order of the clocks or an unknown value may decide\n",
+    ),
+    (
+        "replay --patterns b --netlist a",
+        3,
+        "a",
+        "dft: cannot load a (--netlist): no\n",
+    ),
+    (
+        "replay --patterns b --netlist a\u{1b}",
+        3,
+        "a\u{1b}",
+        "dft: cannot load a? (--netlist): no\n",
+    ),
+    (
+        "scan --netlist a --config b --out c --report d",
+        4,
+        "c",
+        "dft: cannot save c (--out): no\n",
+    ),
+    (
+        "compile --netlist a --config b --cubes c --out-report=f --out-netlist d --out-patterns e",
+        4,
+        "f",
+        "dft: cannot save f (--out-report): no\ndft: saved before it: d e\n",
+    ),
+    (
+        "scan --netlist a --config b --out c --report d",
+        5,
+        "full",
+        "dft: cannot write standard output: full\n",
+    ),
+    ("", 6, "", "dft: memory ran out\n"),
+    (
+        "",
+        7,
+        "no text",
+        "dft: the words of the command line cannot be had: no text\n",
+    ),
+];
+
+fn ending_of(kind: u8, text: &[u8]) -> Ending<'_> {
+    match kind {
+        0 => Ending::Done,
+        1 => Ending::Mismatch {
+            vector: 1,
+            signal: text,
+        },
+        2 => Ending::Undetermined {
+            vector: 1,
+            signal: text,
+        },
+        3 => Ending::NotLoaded {
+            file: text,
+            reason: b"no".as_slice(),
+        },
+        4 => Ending::NotSaved {
+            file: text,
+            reason: b"no".as_slice(),
+        },
+        5 => Ending::NotPrinted { reason: text },
+        6 => Ending::OutOfMemory,
+        _ => Ending::NoWords { reason: text },
+    }
+}
+
+// What is told of the run of a line's words.
+fn told(alloc: Global, line: &str, ending: Ending<'_>) -> Result<Page, AllocError> {
+    let words = words_of(alloc, line)?;
+    explanation(alloc, &words, ending)
+}
+
+#[test]
+fn a_person_is_told_how_a_run_ended(rt: HostRuntime) -> Result<(), Fail> {
+    for (line, kind, text, wanted) in &TOLD {
+        let page = told(rt.alloc(), *line, ending_of(*kind, text.as_bytes()))?;
+        assert_eq!(rt; page.as_slice(), wanted.as_bytes(), "{line}");
+    }
+    Ok(())
+}
+
+const NETLIST: &str = "module m (c, d, q);\ninput c, d; output q;\nMAJ3 u (.A(c), .B(d), .C(q));\n";
+
+const REFUSED: &str = "\
+dft: w.v:3:1: V4: a cell that the library has not: MAJ3
+  MAJ3 u (.A(c), .B(d), .C(q));
+  ^
+dft: try: add the cell to the library, or map to its cells
+";
+
+// A refusal of a cell that the library has not, at a column of a line.
+fn missing_cell<'a>(column: u32, line: Option<&'a [u8]>) -> Ending<'a> {
+    let (sentence, advice) = match said_of("V4", None) {
+        Some(said) => (said.sentence, said.advice),
+        None => ("", ""),
+    };
+    Ending::Refused(Refusal {
+        code: b"V4".as_slice(),
+        sentence: sentence.as_bytes(),
+        advice: advice.as_bytes(),
+        place: Some(Place { line: 3, column }),
+        name: Some(b"MAJ3".as_slice()),
+        first: None,
+        second: None,
+        line,
+    })
+}
+
+const SCAN_OF_W: &str = "scan --netlist w.v --config b --out c --report d";
+
+#[test]
+fn a_refusal_shows_its_line(rt: HostRuntime) -> Result<(), Fail> {
+    let line = line_at(NETLIST.as_bytes(), 3);
+    let page = told(rt.alloc(), SCAN_OF_W, missing_cell(1, line))?;
+    assert_eq!(rt; page.as_slice(), REFUSED.as_bytes());
+    Ok(())
+}
+
+#[test]
+fn a_long_line_is_shown_around_its_column(rt: HostRuntime) -> Result<(), Fail> {
+    let mut line = Vec::new(rt.alloc());
+    line.resize(1_000_000, b'\t')?;
+    let page = told(rt.alloc(), SCAN_OF_W, missing_cell(500_000, Some(&line)))?;
+    let shown = line_at(page.as_slice(), 2);
+    assert_eq!(rt; shown.map(|shown| shown.len()), Some(102));
+    let caret = line_at(page.as_slice(), 3);
+    assert_eq!(rt; caret.map(|caret| caret.len()), Some(63));
+    Ok(())
+}
