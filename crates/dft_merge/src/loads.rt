@@ -1,6 +1,6 @@
 //! A planned design with the load equations of its chains.
 
-ghost use Rattle.std.specs.Prelude.{◌≡◌, ◌≤◌, None, Some, IfOk, MatchOption, length, map};
+ghost use Rattle.std.specs.Prelude.{◌≡◌, ◌≤◌, None, Some, IfOk, MatchOption, is_some, length, map};
 ghost use Rattle.std.specs.List.{All};
 ghost use Rattle.dft_config.specs.Range.{IsInRange};
 ghost use Rattle.dft_rules.specs.Refusals as rules;
@@ -10,6 +10,7 @@ ghost use Rattle.dft_stitch.specs.Limits as limits;
 ghost use Rattle.dft_equations.specs.LoadRows.{AreLoadEquations};
 ghost use Rattle.dft_lanes.specs.Rows.{bits_of, IsPacked};
 ghost use Rattle.dft_merge.specs.LoadPlan.{columns_by, rows_by};
+ghost use Rattle.dft_merge.specs.Placement as spec;
 ghost use Rattle.dft_merge.specs.Slots.{AreRows};
 
 use crate::laws::plans_stand_apart;
@@ -108,6 +109,25 @@ impl<'a> Loads<'a> {
         let at = self.chains().place_of(cell)?;
         Some(self.equations().of_cell(at.chain, at.place))
     }
+
+    // Whether a cell is scanned.
+    fn is_scanned(&self, cell: InstanceId) -> bool
+        ensures { result ≡ is_some (rows_by self.now cell) }
+    {
+        self.row(cell).is_some()
+    }
+
+    // The first of these cells that is not scanned.
+    pub(crate) fn first_unscanned(&self, cells: &[(InstanceId, bool)]) -> Option<InstanceId>
+        ensures { result ≡ spec.first_unscanned (rows_by self.now) cells.now }
+    {
+        for given in cells {
+            if !self.is_scanned(given.0) {
+                return Some(given.0);
+            }
+        }
+        None
+    }
 }
 
 // The load equations of planned chains.
@@ -120,8 +140,8 @@ fn load_equations(alloc: Global, planned: &Planned<'_>) -> Result<Equations, All
     equations(alloc, planned.config(), &lengths, chains.cycles())
 }
 
-/// How many cells each chain has.
-pub fn lengths_of(alloc: Global, chains: &Chains) -> Result<Vec<u16>, AllocError>
+// How many cells each chain has.
+fn lengths_of(alloc: Global, chains: &Chains) -> Result<Vec<u16>, AllocError>
     requires cells { All (λ cells. length cells ≤ chains.now.cycles) chains.now.chains }
     requires cycles { chains.now.cycles ≤ 4096 }
     ensures { IfOk result (λ lengths. lengths.items ≡ map length chains.now.chains) }

@@ -1,10 +1,12 @@
 //! The outcome of a test of certificates: whether the sums that a report prints for cubes show that no channel bits load them.
 
-ghost use Rattle.std.specs.Prelude.{◌≡◌, Err, IfErr, IfOk};
+ghost use Rattle.std.specs.Prelude.{◌≡◌, Err, None, IfErr, IfOk};
 ghost use Rattle.dft_stitch.specs.Chains.{plan_of};
+ghost use Rattle.dft_scan_frame.specs.Statements.{IsReady};
+ghost use Rattle.dft_compile.specs.Refusals.{IsRefusal};
 ghost use Rattle.dft_command_line.specs.Named.{certify_files_of};
 ghost use Rattle.dft_io.specs.Steps.{IsGiven, seen_files};
-ghost use Rattle.dft_top.specs.Checks.{IsPlanned, PlanGives};
+ghost use Rattle.dft_top.specs.Checks.{IsPlanned, PlanGives, plan_refusal};
 ghost use Rattle.dft_top.specs.Outcomes.{IsOutcomeOfReport, course_of_certified, course_of_certify, course_of_planned, course_of_report};
 ghost use Rattle.dft_top.specs.Follows.{ComesTo, Follows};
 
@@ -14,7 +16,6 @@ use dft_certify::certify;
 use dft_command_line::CertifyFiles;
 use dft_compile::CompileError;
 use dft_config::Config;
-use dft_cube_reports::CellSums;
 use dft_cubes::Cube;
 use dft_files::Files;
 use dft_io::Stop;
@@ -65,17 +66,29 @@ fn planned<'a>(alloc: Global, design: &'a Design, config: &'a Config) -> Result<
     ensures given { IfOk result (λ l. IsPlanned design.entry.now config.entry.now (plan_of design.entry.now config.entry.now)) }
     ensures refused { IfErr result (λ stop. IsGiven (PlanGives design.entry.now config.entry.now) (Err stop)) }
 {
-    design.soundness();
-    match Planned::prepare(alloc, design, config) {
-        Ok(planned) => {
-            planned.soundness();
-            Ok(Loads::prepare(alloc, planned)?)
-        }
-        Err(error) => Err(Stop::Refused(compile_refusal(
-            alloc,
-            CompileError::from(error),
-        )?)),
+    match loads_of(alloc, design, config) {
+        Ok(loads) => Ok(loads),
+        Err(error) => Err(Stop::Refused(compile_refusal(alloc, error)?)),
     }
+}
+
+// The design with its chains and their load equations. It is refused by the first check that fails: of the scan rules, then of the plan.
+fn loads_of<'a>(
+    alloc: Global,
+    design: &'a Design,
+    config: &'a Config,
+) -> Result<Loads<'a>, CompileError>
+    ensures design { IfOk result (λ l. l.design ≡ design.entry.now) }
+    ensures config { IfOk result (λ l. l.config ≡ config.entry.now) }
+    ensures ready { IfOk result (λ l. IsReady design.entry.now config.entry.now) }
+    ensures accepted { IfOk result (λ l. plan_refusal design.entry.now config.entry.now ≡ None) }
+    ensures refused { IfErr result (IsRefusal (plan_refusal design.entry.now config.entry.now)) }
+{
+    design.soundness();
+    let planned = Planned::prepare(alloc, design, config)?;
+    planned.soundness();
+    let loads = Loads::prepare(alloc, planned)?;
+    Ok(loads)
 }
 
 // The outcome of a test over planned chains: the named cubes are loaded, and then the named report.
@@ -121,13 +134,7 @@ fn outcome_of_report(
     ensures quiet { result ≡ Err Stop.ReadFault → ⊥ }
 {
     loads.soundness();
-    let sums = CellSums {
-        design: loads.design(),
-        ring: loads.config().ring(),
-        chains: loads.chains(),
-        equations: loads.equations(),
-    };
-    match certify(alloc, &sums, cubes, report) {
+    match certify(alloc, loads, cubes, report) {
         Ok(unsolvable) => Ok(Outcome::Finished(Work::Certified { unsolvable })),
         Err(error) => Err(Stop::Refused(certify_refusal(error)?)),
     }
