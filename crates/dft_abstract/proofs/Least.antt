@@ -10,7 +10,7 @@ use Rattle.dft_netlist.specs.Logic.{Logic, Force, Scan, IsRanked}
 use Rattle.dft_netlist.specs.Settled.{TriSources, value_from, IsTriSettled}
 use Rattle.dft_netlist.specs.Runs.{Vector}
 use Rattle.dft_netlist.proofs.Meanings.{source_monotone, source_over, meaning_monotone, at_nets}
-use Rattle.dft_abstract.specs.Cycle.{Pulse, tri_forced_by, tri_taken_by, view_sources, AreViews, next_value, IsLeast, after_pulse, pulse_of, strobe_sources, Round, IsRound}
+use Rattle.dft_abstract.specs.Cycle.{Pulse, tri_forced_by, tri_taken_by, view_sources, AreViews, next_value, IsLeast, after_pulse, pulse_of, strobe_sources, Halves, AreLeast, after_halves, Round, IsRound}
 use Rattle.dft_abstract.specs.Laws.{StepIsBelow, RoundIsOne}
 
 pub both_above : (t u : Tri) → AboveTri t u → AboveTri u t → t ≡ u
@@ -32,7 +32,7 @@ settled_monotone : (l : Logic) (rank : ℕ → ℕ) (t s : ℕ → TriSources) (
 settled_monotone l rank t s w u ranked tw su ports clocks flops lockups zero net less d = absurd (omega arith)
 settled_monotone l rank t s w u ranked tw su ports clocks flops lockups (suc fuel) net less d =
     let ih : (k : ℕ) → rank k < rank net → (e : ℕ) → AboveTri (w e k) (u e k) = λ k below. settled_monotone l rank t s w u ranked tw su ports clocks flops lockups fuel k (omega arith) in
-    at_nets _ _ _ _ (tw d net) (su d net) (meaning_monotone rank (t d) (s d) (w d) (u d) net (ports d) (clocks d) (flops d) (l.net net) (ranked net) (λ k below. ih k below d) (lockups (rank net) ih d))
+    at_nets _ _ _ _ (tw d net) (su d net) (meaning_monotone rank (t d) (s d) (w d) (u d) net (ports d) (clocks d) (flops d) (l.net net) (ranked.order net) (λ k below. ih k below d) (lockups (rank net) ih d))
 
 choices : (b : Bool) (x y a c : Tri) → AboveTri x a → AboveTri y c → AboveTri (if b then x else y) (if b then a else c)
 choices true x y a c p q = p
@@ -76,8 +76,11 @@ after_over l rank p poss other view its ranked this that c =
     (next_monotone l rank p poss other view its ranked this.closed.views that.closed.views (that.least poss view this.closed) c)
     (above_self (p.old c))
 
+halves_over : (l : Logic) (rank : ℕ → ℕ) (x : Vector) (old : ℕ → Tri) (h k : Halves) → IsRanked l rank → AreLeast l x old h → AreLeast l x old k → (c : ℕ) → AboveTri (after_halves l x old h c) (after_halves l x old k c)
+halves_over l rank x old h k ranked hh kk c = after_over l rank (pulse_of l x old) h.rise.poss k.rise.poss h.rise.view k.rise.view ranked hh.rise kk.rise c
+
 pub round_one : RoundIsOne
 round_one l rank x old r q ranked rr qq = (
   (λ net. both_above _ _ (strobe_over l rank x old r q ranked rr qq net) (strobe_over l rank x old q r ranked qq rr net)),
-  (λ c. both_above _ _ (after_over l rank (pulse_of l x old) r.poss q.poss r.view q.view ranked rr.least qq.least c) (after_over l rank (pulse_of l x old) q.poss r.poss q.view r.view ranked qq.least rr.least c)),
+  (λ c. both_above _ _ (halves_over l rank x old r.halves q.halves ranked rr.least qq.least c) (halves_over l rank x old q.halves r.halves ranked qq.least rr.least c)),
 )

@@ -4,4 +4,5 @@ pub mod Turns
 pub mod Views
 pub mod Least
 pub mod OneDomain
+pub mod Halves
 pub mod Lifts

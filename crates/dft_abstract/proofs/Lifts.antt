@@ -1,15 +1,15 @@
 -- From the abstract cycle to a run.
 use Rattle.std.proofs.Common.{ℕ, Bool, true, false, ◌≡◌, refl}
 use Rattle.dft_base.specs.declared.tri.Tri.{Tri}
-use Rattle.dft_base.specs.declared.tri.Tri.TheVariants.{Unknown}
 use Rattle.dft_base.specs.Tri.{known, Above}
 use Rattle.dft_cells.proofs.Completions.{above_known}
 use Rattle.dft_netlist.specs.Logic.{Logic, IsRanked}
 use Rattle.dft_netlist.specs.Runs.{State, Now, Vector, Turn, IsTurn, after_turn, AreLow}
-use Rattle.dft_abstract.specs.Cycle.{IsClosed, after_pulse, pulse_of}
+use Rattle.dft_abstract.specs.Cycle.{Halves, AreClosed, after_halves}
 use Rattle.dft_abstract.specs.Laws.{Stands, bits, KnownAfterTurn, KnownAtStrobe, LowAfterTurn}
 use Rattle.dft_abstract.proofs.Turns.{strobe_stands, turn_stands}
-use Rattle.dft_abstract.proofs.Views.{closed_exists, strobe_exists}
+use Rattle.dft_abstract.proofs.Views.{strobe_exists}
+use Rattle.dft_abstract.proofs.Halves.{closed_views, halves_exist}
 
 -- a bit below a known value is it
 known_below : (a b : Bool) → Above (known a) b → b ≡ a
@@ -24,14 +24,14 @@ bit_is t b a h is = known_below a b (rw is at h)
 from_bits : (s : State) → AreLow s → Stands (bits s) s
 from_bits s low = record { above = λ c. above_known (s.flops c); low = low }
 
-after_from : (l : Logic) (rank : ℕ → ℕ) (x : Vector) (now : Now) (t : Turn) → IsRanked l rank → AreLow now.state → IsTurn l x now t → (view : ℕ → ℕ → Tri) → IsClosed l (pulse_of l x (bits now.state)) (λ c. Unknown) view →
-    Stands (after_pulse l (pulse_of l x (bits now.state)) view) (after_turn l x now t).state
-after_from l rank x now t ranked low turn view closed = turn_stands l rank x (bits now.state) now t (λ c. Unknown) view ranked (from_bits now.state low) turn closed
+after_from : (l : Logic) (rank : ℕ → ℕ) (x : Vector) (now : Now) (t : Turn) → IsRanked l rank → AreLow now.state → IsTurn l x now t → (h : Halves) → AreClosed l x (bits now.state) h →
+    Stands (after_halves l x (bits now.state) h) (after_turn l x now t).state
+after_from l rank x now t ranked low turn h closed = turn_stands l rank x (bits now.state) now t h ranked (from_bits now.state low) turn closed
 
 pub known_after_turn : KnownAfterTurn
 known_after_turn l rank x now t ranked low turn c b law =
-    let found = closed_exists l rank (pulse_of l x (bits now.state)) ranked in
-    bit_is _ _ b ((after_from l rank x now t ranked low turn found.0 found.1).above c) (law (λ c. Unknown) found.0 found.1.views)
+    let found = halves_exist l rank x (bits now.state) ranked in
+    bit_is _ _ b ((after_from l rank x now t ranked low turn found.0 found.1).above c) (law found.0 (closed_views l x (bits now.state) found.0 found.1))
 
 pub known_at_strobe : KnownAtStrobe
 known_at_strobe l rank x now t ranked low turn net b law =
@@ -40,5 +40,5 @@ known_at_strobe l rank x now t ranked low turn net b law =
 
 pub low_after_turn : LowAfterTurn
 low_after_turn l rank x now t ranked low turn =
-    let found = closed_exists l rank (pulse_of l x (bits now.state)) ranked in
+    let found = halves_exist l rank x (bits now.state) ranked in
     (after_from l rank x now t ranked low turn found.0 found.1).low

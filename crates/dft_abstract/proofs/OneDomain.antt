@@ -79,20 +79,22 @@ one_domain l rank x d old values ranked none one settled =
     let view : ℕ → ℕ → Tri = found.0 in
     let next_at : (other : ℕ → Tri) (its : ℕ → ℕ → Tri) → AreViews l p other its → (c : ℕ) → x.pulsed (l.cell c).domain ≡ true → next_value l p its c ≡ next c =
     λ other its views c pulsed. next_is l x old values its c (λ net. ap (λ (e : ℕ). its e net) (one (l.cell c).domain pulsed) ∙ view_is_strobe l rank x d old values other its ranked none pulses settled views net) in
-    let r : Round = record { strobe = values; poss = poss; view = view } in (
+    let r : Round = record { strobe = values; halves = record { rise = record { poss = poss; view = view } } } in (
       r,
       (
         refl,
         record {
           strobe = settled;
           least = record {
-            closed = record {
-              views = found.1;
-              old = λ c. raised_old (x.pulsed (l.cell c).domain) (p.old c) (next c);
-              next = λ c pulsed. above_equal _ _ _ (sym (next_at poss view found.1 c pulsed)) (raised_next (x.pulsed (l.cell c).domain) (p.old c) (next c) pulsed);
+            rise = record {
+              closed = record {
+                views = found.1;
+                old = λ c. raised_old (x.pulsed (l.cell c).domain) (p.old c) (next c);
+                next = λ c pulsed. above_equal _ _ _ (sym (next_at poss view found.1 c pulsed)) (raised_next (x.pulsed (l.cell c).domain) (p.old c) (next c) pulsed);
+              };
+              least = λ other its closed c. raised_least (x.pulsed (l.cell c).domain) (other c) (p.old c) (next c) (closed.old c)
+                  (λ pulsed. above_equal _ _ _ (next_at other its closed.views c pulsed) (closed.next c pulsed));
             };
-            least = λ other its closed c. raised_least (x.pulsed (l.cell c).domain) (other c) (p.old c) (next c) (closed.old c)
-                (λ pulsed. above_equal _ _ _ (next_at other its closed.views c pulsed) (closed.next c pulsed));
           };
         },
         λ c. chosen_equal (x.pulsed (l.cell c).domain) _ _ _ (next_at poss view found.1 c),

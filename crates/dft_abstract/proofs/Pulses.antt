@@ -1,5 +1,5 @@
 -- The values of an abstract pulse stand above the bits after every order of the rises.
-use Rattle.std.proofs.Common.{ℕ, Bool, true, false, List, [], ◌∷◌, ◌≡◌, ◌<◌, ◌+◌, ◌==◌, inl, inr, zero, suc, refl, ap, arith, Option, None, Some, ◌∙◌, map}
+use Rattle.std.proofs.Common.{ℕ, Bool, true, false, List, [], ◌∷◌, ◌≡◌, ◌<◌, ◌+◌, ◌==◌, inl, inr, zero, suc, refl, ap, subst, arith, Option, None, Some, ◌∙◌, map}
 use Rattle.std.specs.Prelude.{if◌then◌else◌}
 use Rattle.std.proofs.lemmas.Bool.{eqb-true, eq-eqb, cases_Bool}
 use Rattle.dft_base.specs.declared.tri.Tri.{Tri}
@@ -7,9 +7,9 @@ use Rattle.dft_base.specs.declared.tri.Tri.TheVariants.{Zero, Unknown}
 use Rattle.dft_base.specs.Tri.{Above, AboveTri}
 use Rattle.dft_cells.proofs.Completions.{above_self, above_trans, forced_above, chosen_above, forced_again}
 use Rattle.dft_netlist.specs.Drivers.{Source}
-use Rattle.dft_netlist.specs.Logic.{Logic, Meaning, Lockup, Force, Scan, IsRanked}
+use Rattle.dft_netlist.specs.Logic.{Logic, Lockup, Cell, Force, Scan, lockup_cell, IsRanked}
 use Rattle.dft_netlist.specs.Settled.{bit_from, value_from}
-use Rattle.dft_netlist.specs.Runs.{State, Moment, Now, port_bits, sources_of, IsNow, forced_by, taken_by, held_after, rise, at_moment, next_now, after, AreSteps, Edge, rise_step, times}
+use Rattle.dft_netlist.specs.Runs.{State, Moment, Now, port_bits, sources_of, IsNow, forced_by, taken_by, rise, at_moment, next_now, after, AreSteps, Edge, rise_step, times}
 use Rattle.dft_netlist.proofs.Meanings.{completed_above, source_above, source_all, meaning_above, at_net}
 use Rattle.dft_abstract.specs.Cycle.{Pulse, tri_forced_by, tri_taken_by, view_sources, next_value, IsClosed}
 
@@ -44,7 +44,6 @@ pub record Holds (l : Logic) (p : Pulse) (view : ℕ → ℕ → Tri) (s : State
   pub ports : (k : ℕ) → s.ports k ≡ p.ports k
   pub risen : (c : ℕ) → s.high (l.cell c).domain ≡ true → Above (next_value l p view c) (s.flops c)
   pub others : (c : ℕ) → s.high (l.cell c).domain ≡ false → Above (p.old c) (s.flops c)
-  pub held : (net c e : ℕ) (source : Source) → l.net net ≡ Lockup c e source → s.high e ≡ true → Above (value_from (view e) source) (s.held net)
   pub pulsed : (e : ℕ) → s.high e ≡ true → p.pulsed e ≡ true
 
 -- the old values are those that resets and sets leave
@@ -79,6 +78,14 @@ flop_above l p poss view s closed holds d low c =
       | inr h ↦ holds.others c h
     ])
 
+-- what a lock-up holds once its clock rose
+locked_above : (l : Logic) (rank : ℕ → ℕ) (p : Pulse) (view : ℕ → ℕ → Tri) (s : State) → IsRanked l rank → Holds l p view s →
+    (net c e : ℕ) (source : Source) → l.net net ≡ Lockup c e source → s.high e ≡ true → Above (value_from (view e) source) (s.flops c)
+locked_above l rank p view s ranked holds net c e source is high =
+    let cell : l.cell c ≡ lockup_cell e source = ranked.lockups net c e source is in
+    let P : Cell → Type 0 = λ k. s.high k.domain ≡ true → Above (tri_forced_by k.force p.ports (tri_taken_by k.scan (value_from (view k.domain)) (value_from (view k.domain) k.input))) (s.flops c) in
+    subst P cell (holds.risen c) high
+
 view_above : (l : Logic) (rank : ℕ → ℕ) (p : Pulse) (poss : ℕ → Tri) (view : ℕ → ℕ → Tri) (now : Now) →
     IsRanked l rank → IsClosed l p poss view → Holds l p view now.state → IsNow l now →
     (fuel net : ℕ) → rank net < fuel → (d : ℕ) → now.state.high d ≡ false → Above (view d net) (now.moment.seen net)
@@ -90,8 +97,8 @@ view_above l rank p poss view now ranked closed holds settled (suc fuel) net les
     (meaning_above rank (sources_of now) (view_sources l p poss view d) now.moment.seen (view d) net (ports_above p.ports s now.moment holds.ports)
     (λ e. clock_above (p.pulsed e) (e == d) (s.high e) (holds.pulsed e) (low_there s e d low))
     (flop_above l p poss view s closed holds d low)
-    (l.net net) (ranked net) (λ k below. ih k below d low)
-    (λ c e source is below. bit_choice (s.high e) _ _ _ (holds.held net c e source is)
+    (l.net net) (ranked.order net) (λ k below. ih k below d low)
+    (λ c e source is below. bit_choice (s.high e) _ _ _ (locked_above l rank p view s ranked holds net c e source is)
     (λ e_low. source_above rank (rank net) (sources_of now) now.moment.seen (view e) source below (λ k k_below. ih k k_below e e_low))))
 
 moment_keeps : (l : Logic) (p : Pulse) (view : ℕ → ℕ → Tri) (m : Moment) (s : State) → IsForced l p → Holds l p view s → Holds l p view (at_moment l m s)
@@ -99,13 +106,8 @@ moment_keeps l p view m s old holds = record {
   ports = holds.ports;
   risen = λ c h. above_trans _ _ _ (again (l.cell c).force p.ports _) (above_forced (l.cell c).force p.ports (port_bits s m) _ _ (ports_above p.ports s m holds.ports) (holds.risen c h));
   others = λ c h. above_trans _ _ _ (old c) (above_forced (l.cell c).force p.ports (port_bits s m) _ _ (ports_above p.ports s m holds.ports) (holds.others c h));
-  held = holds.held;
   pulsed = holds.pulsed;
 }
-
-held_keeps : (d : ℕ) (now : Now) (old : Bool) (m : Meaning) (c e : ℕ) (source : Source) (t : Tri) → m ≡ Lockup c e source →
-    ((e == d) ≡ true → Above t (bit_from (sources_of now) now.moment.seen source)) → ((e == d) ≡ false → Above t old) → Above t (held_after d now old m)
-held_keeps d now old m c e source t is new same = rw is (bit_choice (e == d) _ _ _ new same)
 
 rise_keeps : (l : Logic) (p : Pulse) (view : ℕ → ℕ → Tri) (now : Now) (d : ℕ) →
     ((d k : ℕ) → now.state.high d ≡ false → Above (view d k) (now.moment.seen k)) → now.state.high d ≡ false → p.pulsed d ≡ true →
@@ -123,9 +125,6 @@ rise_keeps l p view now d seen low pulsed holds =
       others = λ c h. bit_choice ((l.cell c).domain == d) _ _ _
           (λ is. absurd (let q = rw is at h in cc))
           (λ is_not. holds.others c (rw is_not at h));
-      held = λ net c e source is h. held_keeps d now (s.held net) (l.net net) c e source (value_from (view e) source) is
-          (λ same. from e source same)
-          (λ is_not. holds.held net c e source is (rw is_not at h));
       pulsed = λ e h. elim (cases_Bool (e == d)) [
         | inl is ↦ ap p.pulsed (eqb-true e d is) ∙ pulsed
         | inr is_not ↦ holds.pulsed e (rw is_not at h)
@@ -171,6 +170,5 @@ low_holds l p view s ports old low = record {
   ports = ports;
   risen = λ c h. absurd (let q = low (l.cell c).domain in cc);
   others = λ c h. old c;
-  held = λ net c e source is h. absurd (let q = low e in cc);
   pulsed = λ e h. absurd (let q = low e in cc);
 }

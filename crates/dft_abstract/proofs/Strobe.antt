@@ -21,7 +21,7 @@ above_within l rank s t bits values ranked settled tri_settled a zero net less =
 above_within l rank s t bits values ranked settled tri_settled a (suc fuel) net less =
     let ih : (k : ℕ) → rank k < rank net → Above (values k) (bits k) = λ k below. above_within l rank s t bits values ranked settled tri_settled a fuel k (omega arith) in
     at_net _ _ _ _ (tri_settled net) (settled net)
-    (meaning_above rank s t bits values net a.ports a.clocks a.flops (l.net net) (ranked net) ih
+    (meaning_above rank s t bits values net a.ports a.clocks a.flops (l.net net) (ranked.order net) ih
     (λ c e source is below. rw (a.low e, a.wires c e source) (source_above rank (rank net) s bits values source below ih)))
 
 pub strobe_above : (l : Logic) (rank : ℕ → ℕ) (s : Sources) (t : TriSources) (bits : ℕ → Bool) (values : ℕ → Tri) → IsRanked l rank → IsSettled l s bits → IsTriSettled l t values → SourcesAbove s t values →

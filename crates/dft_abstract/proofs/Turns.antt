@@ -81,12 +81,13 @@ pulse_above l p view s holds high c =
     ])
 
 pub turn_stands : TurnIsAbove
-turn_stands l rank x old now t poss view ranked stands turn closed =
+turn_stands l rank x old now t halves ranked stands turn closed =
     let p : Pulse = pulse_of l x old in
+    let view : ℕ → ℕ → Tri = halves.rise.view in
     let first : Now = at_strobe l x now t in
     let split = AreSteps-append l first (map rise_step t.rises) (map fall_step t.falls) turn.steps.1 in
     let stays : IsForced l p = λ c. again (l.cell c).force x.ports (old c) in
-    let rises = rises_above l rank p poss view first t.rises ranked closed stays
+    let rises = rises_above l rank p halves.rise.poss view first t.rises ranked closed.rise stays
     (low_holds l p view first.state (λ k. refl) (set_above l x old now t stands) stands.low) turn.steps.0
     (λ d. turn.rises d ∙ rw (stands.low d)) split.0 in
     let middle : Now = after l first (map rise_step t.rises) in

@@ -44,7 +44,7 @@ unfolding view_by
 stable l rank base through ranked zero g net hf hg d = absurd (omega arith)
 stable l rank base through ranked (suc f) zero net hf hg d = absurd (omega arith)
 stable l rank base through ranked (suc f) (suc g) net hf hg d =
-    family_same rank base through (view_by l base through f) (view_by l base through g) d net (l.net net) (ranked net) (λ k less e. stable l rank base through ranked f g k (omega arith) (omega arith) e)
+    family_same rank base through (view_by l base through f) (view_by l base through g) d net (l.net net) (ranked.order net) (λ k less e. stable l rank base through ranked f g k (omega arith) (omega arith) e)
 
 -- there is a family of settled assignments
 pub family : (l : Logic) (rank : ℕ → ℕ) (base : ℕ → TriSources) (through : ℕ → ℕ → ℕ) → IsRanked l rank → (w : ℕ → ℕ → Tri) × ((d : ℕ) → IsTriSettled l (with_lockups base through w d) (w d))
@@ -52,7 +52,7 @@ unfolding view_by
 family l rank base through ranked = (
   λ d net. view_by l base through (suc (rank net)) d net,
   λ d net.
-      family_same rank base through (view_by l base through (rank net)) (λ e k. view_by l base through (suc (rank k)) e k) d net (l.net net) (ranked net)
+      family_same rank base through (view_by l base through (rank net)) (λ e k. view_by l base through (suc (rank k)) e k) d net (l.net net) (ranked.order net)
       (λ k less e. stable l rank base through ranked (rank net) (suc (rank k)) k less (omega arith) e),
 )
 
@@ -79,7 +79,7 @@ same_within : (l : Logic) (rank : ℕ → ℕ) (t s : TriSources) (a b : ℕ →
 same_within l rank t s a b ranked ta sb ports clocks flops lockups zero net less = absurd (omega arith)
 same_within l rank t s a b ranked ta sb ports clocks flops lockups (suc fuel) net less =
     let ih : (k : ℕ) → rank k < rank net → a k ≡ b k = λ k below. same_within l rank t s a b ranked ta sb ports clocks flops lockups fuel k (omega arith) in
-    ta net ∙ given_same rank t s a b net (l.net net) ports clocks flops (ranked net) ih (λ c e source is below. lockups net c e source is ih below) ∙ sym (sb net)
+    ta net ∙ given_same rank t s a b net (l.net net) ports clocks flops (ranked.order net) ih (λ c e source is below. lockups net c e source is ih below) ∙ sym (sb net)
 
 -- sources that agree settle to the same values
 pub settled_same : (l : Logic) (rank : ℕ → ℕ) (t s : TriSources) (a b : ℕ → Tri) → IsRanked l rank → IsTriSettled l t a → IsTriSettled l s b →

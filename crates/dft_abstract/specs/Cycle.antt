@@ -74,19 +74,43 @@ pulse_of l x old = record { ports = x.ports; pulsed = x.pulsed; old = λ c. tri_
 abbrev pub strobe_sources : Logic → Vector → (old values : ℕ → Tri) → TriSources
 strobe_sources l x old values = record { ports = x.ports; clocks = λ e. Zero; flops = (pulse_of l x old).old; lockups = λ c e source. value_from values source }
 
--- the values of a vector: those of its strobe, the map, and the views of its pulse
-pub record Round : Type 0 where
-  pub strobe : ℕ → Tri
+-- a map, and the view of each domain at it
+pub record Half : Type 0 where
   pub poss : ℕ → Tri
   pub view : ℕ → ℕ → Tri
 
+-- the halves of a vector: that in which its clocks rise
+pub record Halves : Type 0 where
+  pub rise : Half
+
+-- each half has the views at its map
+pub record AreHalves (l : Logic) (x : Vector) (old : ℕ → Tri) (h : Halves) : Type 0 where
+  pub rise : AreViews l (pulse_of l x old) h.rise.poss h.rise.view
+
+-- each half has a closed map
+pub record AreClosed (l : Logic) (x : Vector) (old : ℕ → Tri) (h : Halves) : Type 0 where
+  pub rise : IsClosed l (pulse_of l x old) h.rise.poss h.rise.view
+
+-- each half has the least map
+pub record AreLeast (l : Logic) (x : Vector) (old : ℕ → Tri) (h : Halves) : Type 0 where
+  pub rise : IsLeast l (pulse_of l x old) h.rise.poss h.rise.view
+
+-- the values of the flip-flops after the halves of a vector
+abbrev pub after_halves : Logic → Vector → (old : ℕ → Tri) → Halves → ℕ → Tri
+after_halves l x old h = after_pulse l (pulse_of l x old) h.rise.view
+
+-- the values of a vector: those of its strobe, and its halves
+pub record Round : Type 0 where
+  pub strobe : ℕ → Tri
+  pub halves : Halves
+
 pub record IsRound (l : Logic) (x : Vector) (old : ℕ → Tri) (r : Round) : Type 0 where
   pub strobe : IsTriSettled l (strobe_sources l x old r.strobe) r.strobe
-  pub least : IsLeast l (pulse_of l x old) r.poss r.view
+  pub least : AreLeast l x old r.halves
 
 -- the values of the flip-flops after a vector
 abbrev pub after_round : Logic → Vector → (old : ℕ → Tri) → Round → ℕ → Tri
-after_round l x old r = after_pulse l (pulse_of l x old) r.view
+after_round l x old r = after_halves l x old r.halves
 
 -- before the first vector nothing is known
 abbrev pub all_unknown : ℕ → Tri

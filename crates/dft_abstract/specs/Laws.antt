@@ -7,7 +7,7 @@ use Rattle.dft_netlist.specs.Drivers.{Source}
 use Rattle.dft_netlist.specs.Logic.{Logic, Lockup, IsRanked}
 use Rattle.dft_netlist.specs.Settled.{IsTriSettled, value_from}
 use Rattle.dft_netlist.specs.Runs.{State, Now, Vector, Turn, IsTurn, after_turn, AreLow}
-use Rattle.dft_abstract.specs.Cycle.{Pulse, AreViews, next_value, IsClosed, after_pulse, pulse_of, strobe_sources, Round, IsRound, after_round, tri_forced_by, tri_taken_by}
+use Rattle.dft_abstract.specs.Cycle.{Pulse, AreViews, next_value, IsClosed, pulse_of, strobe_sources, Halves, AreHalves, AreClosed, after_halves, Round, IsRound, after_round, tri_forced_by, tri_taken_by}
 
 -- what holds between vectors: each value stands above its flip-flop's bit, and all clocks are low
 pub record Stands (old : ℕ → Tri) (s : State) : Type 0 where
@@ -24,11 +24,11 @@ StrobeIsAbove =
     (l : Logic) (rank : ℕ → ℕ) (x : Vector) (old values : ℕ → Tri) (now : Now) (t : Turn) → IsRanked l rank → Stands old now.state → IsTurn l x now t →
     IsTriSettled l (strobe_sources l x old values) values → (net : ℕ) → Above (values net) (shown t net)
 
--- After every turn, whatever the order of its edges and the free bits, the values of any closed map stand above the bits.
+-- After every turn, whatever the order of its edges and the free bits, the values of any closed halves stand above the bits.
 abbrev pub TurnIsAbove : Type 0
 TurnIsAbove =
-    (l : Logic) (rank : ℕ → ℕ) (x : Vector) (old : ℕ → Tri) (now : Now) (t : Turn) (poss : ℕ → Tri) (view : ℕ → ℕ → Tri) → IsRanked l rank → Stands old now.state → IsTurn l x now t →
-    IsClosed l (pulse_of l x old) poss view → Stands (after_pulse l (pulse_of l x old) view) (after_turn l x now t).state
+    (l : Logic) (rank : ℕ → ℕ) (x : Vector) (old : ℕ → Tri) (now : Now) (t : Turn) (h : Halves) → IsRanked l rank → Stands old now.state → IsTurn l x now t →
+    AreClosed l x old h → Stands (after_halves l x old h) (after_turn l x now t).state
 
 -- The map that is Unknown everywhere is closed, with its views; and a vector has strobe values.
 abbrev pub ClosedExists : Type 0
@@ -70,11 +70,11 @@ OneDomain =
 abbrev pub bits : State → ℕ → Tri
 bits s c = known (s.flops c)
 
--- a cell that all views give a known bit has it after every turn
+-- a cell that all halves give a known bit has it after every turn
 abbrev pub KnownAfterTurn : Type 0
 KnownAfterTurn =
     (l : Logic) (rank : ℕ → ℕ) (x : Vector) (now : Now) (t : Turn) → IsRanked l rank → AreLow now.state → IsTurn l x now t → (c : ℕ) (b : Bool) →
-    ((poss : ℕ → Tri) (view : ℕ → ℕ → Tri) → AreViews l (pulse_of l x (bits now.state)) poss view → after_pulse l (pulse_of l x (bits now.state)) view c ≡ known b) →
+    ((h : Halves) → AreHalves l x (bits now.state) h → after_halves l x (bits now.state) h c ≡ known b) →
     (after_turn l x now t).state.flops c ≡ b
 
 -- a net that the strobe gives a known bit shows it

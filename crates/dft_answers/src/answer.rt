@@ -167,11 +167,24 @@ pub struct Refusal {
     pub second: Option<i64>,
 }
 
-/// What a command answers. The refusal is there exactly where the status is `Refused`.
+/// The first compared bit of a replay that does not pass.
+#[derive(Debug, Drop)]
+pub struct Unpassed {
+    /// The vector, from 0.
+    pub vector: u32,
+    /// The signal's name.
+    pub signal: Name,
+    /// Whether the bit is the opposite in every run, else it is not determined.
+    pub is_opposite: bool,
+}
+
+/// What a command answers. The refusal is there exactly where the status is `Refused`, the bit that does not pass exactly where
+/// it is `NotPassed`.
 #[derive(Debug, Drop)]
 pub struct Answer {
     pub status: Status,
     pub refusal: Option<Refusal>,
+    pub unpassed: Option<Unpassed>,
 }
 
 impl Answer {
@@ -182,6 +195,22 @@ impl Answer {
         Answer {
             status,
             refusal: None,
+            unpassed: None,
+        }
+    }
+
+    // The answer of a replay that does not pass.
+    fn failed(vector: u32, signal: Name, is_opposite: bool) -> Answer
+        ensures { result ≡ spec.failed vector signal is_opposite }
+    {
+        Answer {
+            status: Status::NotPassed,
+            refusal: None,
+            unpassed: Some(Unpassed {
+                vector,
+                signal,
+                is_opposite,
+            }),
         }
     }
 
@@ -194,29 +223,33 @@ impl Answer {
             Outcome::Refused(refusal) => Answer {
                 status: Status::Refused,
                 refusal: Some(refusal),
+                unpassed: None,
             },
-            Outcome::Finished(work) => Answer::stopped(work_status(&work)),
+            Outcome::Finished(work) => Answer::of_work(work),
         }
     }
-}
 
-// A replay may not pass, that of a generated job too; all else that is finished is done.
-fn work_status(work: &Work) -> Status
-    ensures { result ≡ spec.work_status work.now }
-{
-    match work {
-        Work::Replayed(replay) => replayed_status(replay),
-        Work::Generated { replay, .. } => replayed_status(replay),
-        Work::Scanned { .. } | Work::Compiled { .. } | Work::Certified { .. } => Status::Done,
+    // A replay may not pass, that of a generated job too; all else that is finished is done.
+    fn of_work(work: Work) -> Answer
+        ensures { result ≡ spec.answer_of (Outcome.Finished work) }
+    {
+        match work {
+            Work::Replayed(replay) => Answer::of_replay(replay),
+            Work::Generated { replay, .. } => Answer::of_replay(replay),
+            Work::Scanned { .. } | Work::Compiled { .. } | Work::Certified { .. } => {
+                Answer::stopped(Status::Done)
+            }
+        }
     }
-}
 
-// A replay is done where the patterns pass.
-fn replayed_status(replay: &Replayed) -> Status
-    ensures { result ≡ spec.replayed_status replay.now }
-{
-    match replay {
-        Replayed::Passed { .. } => Status::Done,
-        Replayed::Mismatch { .. } | Replayed::Undetermined { .. } => Status::NotPassed,
+    // A replay is done where the patterns pass.
+    fn of_replay(replay: Replayed) -> Answer
+        ensures { result ≡ spec.answer_of_replay replay }
+    {
+        match replay {
+            Replayed::Passed { .. } => Answer::stopped(Status::Done),
+            Replayed::Mismatch { vector, signal } => Answer::failed(vector, signal, true),
+            Replayed::Undetermined { vector, signal } => Answer::failed(vector, signal, false),
+        }
     }
 }

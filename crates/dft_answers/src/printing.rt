@@ -13,7 +13,8 @@ use std::alloc::{AllocError, Global};
 const USAGE: &str =
     "usage: dft replay, scan, compile, certify or generate, each option once as --name value\n";
 
-fn code_text(code: Code) -> &'static str
+/// A code as it is printed.
+pub fn code_text(code: Code) -> &'static str
     ensures { result.now ≡ spec.code_text code }
 {
     match code {

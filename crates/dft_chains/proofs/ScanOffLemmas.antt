@@ -56,7 +56,7 @@ seen_by original written rank p now its ranked has alike free settled its_settle
     settled (p.moved net) ∙ ap (bit_given (sources_of now) now.moment.seen (p.moved net)) (has.nets net inside)
     ∙ given_same rank p (sources_of now) (sources_of its) now.moment.seen its.moment.seen net (port_same p now its alike free net inside) alike.high alike.flops (free.nets net inside) free.pins
     (λ k k_inside below. seen_by original written rank p now its ranked has alike free settled its_settled fuel k (omega (arith, less, below)) k_inside)
-    (original.net net) (has.closed net inside) (ranked net) (λ cell inverted is. has.shown net cell inverted inside is) (λ cell domain source is. has.no_lockup net cell domain source inside is)
+    (original.net net) (has.closed net inside) (ranked.order net) (λ cell inverted is. has.shown net cell inverted inside is) (λ cell domain source is. has.no_lockup net cell domain source inside is)
     ∙ sym (its_settled net)
 
 seen_same : (original written : Logic) (rank : ℕ → ℕ) (p : Places) (now its : Now) → IsRanked original rank → Contains original written p → AreAlike p now.state its.state → AreFreeAlike p now.moment its.moment →

@@ -75,13 +75,19 @@ takes_source l ports chains w x old poss view source cell has shift views is =
     (port_value l (pulse_of l x old) poss view d w.enable views has.enable ∙ shift.enabled)
 
 pub link_law : LinkLaw
-link_law l ports chains w x old poss view has shift views chain place cell next stands follows =
+link_law l ports chains w x old h has shift halves chain place cell next stands follows =
+    let poss : ℕ → Tri = h.rise.poss in
+    let view : ℕ → ℕ → Tri = h.rise.view in
+    let views : AreViews l (pulse_of l x old) poss view = halves.rise in
     takes_source l ports chains w x old poss view (w.into chain (suc place)) next.0 has shift views (has.cells chain (suc place) next follows)
     ∙ lead_value l (pulse_of l x old) poss view cell.0 next.0 (w.into chain (suc place)) views (has.links chain place cell next stands follows)
     ∙ not_forced ports w.enable x (l.cell cell.0).force (old cell.0) (has.cells chain place cell stands).force shift
 
 pub entry_law : EntryLaw
-entry_law l ports chains w x old poss view has shift views chain cell stands enters =
+entry_law l ports chains w x old h has shift halves chain cell stands enters =
+    let poss : ℕ → Tri = h.rise.poss in
+    let view : ℕ → ℕ → Tri = h.rise.view in
+    let views : AreViews l (pulse_of l x old) poss view = halves.rise in
     let d : ℕ = (l.cell cell.0).domain in
     takes_source l ports chains w.nets x old poss view (w.nets.into chain zero) cell.0 has shift views (has.cells chain zero cell stands)
     ∙ ap (value_from (view d)) enters.first
@@ -98,9 +104,9 @@ pub shift_in_runs : ShiftInRuns
 shift_in_runs l rank ports chains w x now t ranked plain shift low turn = record {
   entries = λ chain cell stands. above_by (x.ports (w.scan_in chain)) ((after_turn l x now t).state.flops cell.0)
       (λ a is. known_after_turn l rank x now t ranked low turn cell.0 a
-      (λ poss view views. entry_law l ports chains w x (bits now.state) poss view plain.has shift views chain cell stands (plain.entries chain cell stands) ∙ is));
+      (λ h halves. entry_law l ports chains w x (bits now.state) h plain.has shift halves chain cell stands (plain.entries chain cell stands) ∙ is));
   links = λ chain place cell next stands follows. known_after_turn l rank x now t ranked low turn next.0 (now.state.flops cell.0)
-      (λ poss view views. link_law l ports chains w.nets x (bits now.state) poss view plain.has shift views chain place cell next stands follows);
+      (λ h halves. link_law l ports chains w.nets x (bits now.state) h plain.has shift halves chain place cell next stands follows);
 }
 
 -- a chain that has a place has every place before it

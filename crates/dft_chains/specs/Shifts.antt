@@ -6,7 +6,7 @@ use Rattle.dft_base.specs.Tri.{Above}
 use Rattle.dft_netlist.specs.declared.ids.InstanceId.{InstanceId}
 use Rattle.dft_netlist.specs.Logic.{Logic, Ports, IsRanked}
 use Rattle.dft_netlist.specs.Runs.{State, Now, next_now, set_step, Vector, Turn, IsTurn, after_turn, AreTurns, AreLow, IsRun}
-use Rattle.dft_abstract.specs.Cycle.{AreViews, after_pulse, pulse_of}
+use Rattle.dft_abstract.specs.Cycle.{Halves, AreHalves, after_halves}
 use Rattle.dft_abstract.specs.Laws.{shown}
 use Rattle.dft_runs.specs.Passes.{after_turns}
 use Rattle.dft_stitch.specs.Plans.{cell_at}
@@ -18,22 +18,22 @@ pub record IsShift (ports : Ports) (enable : ℕ) (x : Vector) : Type 0 where
   pub resets : (net : ℕ) → ports.is_reset net ≡ true → x.ports net ≡ One
   pub domains : (net : ℕ) → ports.is_clock net ≡ true → x.pulsed net ≡ true
 
--- ---- one shift vector on the abstract cycle, at any map
+-- ---- one shift vector on the abstract cycle, for any halves
 
 -- each cell behind another one takes the value that this one had
 abbrev pub LinkLaw : Type 0
 LinkLaw =
-    (l : Logic) (ports : Ports) (chains : List (List InstanceId)) (w : ChainNets) (x : Vector) (old poss : ℕ → Tri) (view : ℕ → ℕ → Tri) →
-    HasChains l ports chains w → IsShift ports w.enable x → AreViews l (pulse_of l x old) poss view →
+    (l : Logic) (ports : Ports) (chains : List (List InstanceId)) (w : ChainNets) (x : Vector) (old : ℕ → Tri) (h : Halves) →
+    HasChains l ports chains w → IsShift ports w.enable x → AreHalves l x old h →
     (chain place : ℕ) (cell next : InstanceId) → cell_at chains chain place ≡ Some cell → cell_at chains chain (suc place) ≡ Some next →
-    after_pulse l (pulse_of l x old) view next.0 ≡ old cell.0
+    after_halves l x old h next.0 ≡ old cell.0
 
 -- the first cell takes the value of its scan input port
 abbrev pub EntryLaw : Type 0
 EntryLaw =
-    (l : Logic) (ports : Ports) (chains : List (List InstanceId)) (w : ScanNets) (x : Vector) (old poss : ℕ → Tri) (view : ℕ → ℕ → Tri) →
-    HasChains l ports chains w.nets → IsShift ports w.nets.enable x → AreViews l (pulse_of l x old) poss view →
-    (chain : ℕ) (cell : InstanceId) → cell_at chains chain zero ≡ Some cell → Enters l w chain → after_pulse l (pulse_of l x old) view cell.0 ≡ x.ports (w.scan_in chain)
+    (l : Logic) (ports : Ports) (chains : List (List InstanceId)) (w : ScanNets) (x : Vector) (old : ℕ → Tri) (h : Halves) →
+    HasChains l ports chains w.nets → IsShift ports w.nets.enable x → AreHalves l x old h →
+    (chain : ℕ) (cell : InstanceId) → cell_at chains chain zero ≡ Some cell → Enters l w chain → after_halves l x old h cell.0 ≡ x.ports (w.scan_in chain)
 
 -- ---- in every run
 

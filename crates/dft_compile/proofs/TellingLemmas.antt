@@ -166,12 +166,12 @@ equation_count : (row : CellRows) (k : ℕ) (cells : List (InstanceId × Bool)) 
 equation_count row k [] = refl
 equation_count row k (given ∷ cells) = ap suc (equation_count row (suc k) cells)
 
-certificate_short : (n : ℕ) (row : CellRows) (cells : List (InstanceId × Bool)) (ids : List ℕ) → StatesCertificate n (equations_of row cells) ids → length ids ≤ length cells
+pub certificate_short : (n : ℕ) (row : CellRows) (cells : List (InstanceId × Bool)) (ids : List ℕ) → StatesCertificate n (equations_of row cells) ids → length ids ≤ length cells
 certificate_short n row cells ids states = omega (arith, states_short n [] (equations_of row cells) ids states, equation_count row 0 cells)
 
 -- ---- cubes
 
-pattern_small : (n : ℕ) (row : CellRows) (window : ℕ) (old new : List Merged) (cube : Cube) (p : ℕ) → Places n row window old cube (word.Into p) new → p ≤ length old
+pub pattern_small : (n : ℕ) (row : CellRows) (window : ℕ) (old new : List Merged) (cube : Cube) (p : ℕ) → Places n row window old cube (word.Into p) new → p ≤ length old
 pattern_small n row window old new cube p (none, inl joins) = let less = slice_get_within old p joins.pattern joins.is in omega (arith, less)
 pattern_small n row window old new cube p (none, inr begins) = omega (arith, begins.number)
 

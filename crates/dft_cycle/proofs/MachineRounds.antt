@@ -113,14 +113,14 @@ calls_round start set strobed after x pulsed stands ports ups strobe pulse =
     } in
     let L : Pulse → Type 0 = λ k. IsLeast l k pulse.poss pulse.view in
     let M : Logic → Type 0 = λ k. IsLeast k q pulse.poss pulse.view in
-    let r : Round = record { strobe = shown; poss = pulse.poss; view = pulse.view } in
+    let r : Round = record { strobe = shown; halves = record { rise = record { poss = pulse.poss; view = pulse.view } } } in
     let A : Logic → Type 0 = λ k. (c : ℕ) → value_at after.cells c ≡ after_pulse k q pulse.view c in
     let B : Pulse → Type 0 = λ k. (c : ℕ) → value_at after.cells c ≡ after_pulse l k pulse.view c in
     let cells : (c : ℕ) → value_at after.cells c ≡ after_pulse l p pulse.view c = subst B qp (subst A two pulse.cells) in
     let kept : value_at after.inputs ≡ x.ports = ap value_at (pulse.inputs ∙ strobe.inputs) ∙ inputs in (
       r,
       (
-        record { strobe = subst S from (subst T one strobe.settled); least = subst L qp (subst M two pulse.least) },
+        record { strobe = subst S from (subst T one strobe.settled); least = record { rise = subst L qp (subst M two pulse.least) } },
         refl,
         cells,
         (λ c.

@@ -32,7 +32,7 @@ pub agree : (x : Circuit) (p : Pulse) (poss : ℕ → Tri) (view : ℕ → ℕ �
 agree x p poss view d held t values r is views same settled right zero k less low = absurd (omega arith)
 agree x p poss view d held t values r is views same settled right (suc fuel) k less low =
     settled k
-    ∙ given_same (rank_of x) t (view_sources (logic_at x) p poss view d) values (view d) k ((logic_at x).net k) same.ports same.clocks same.flops (circuit_ranked x is k)
+    ∙ given_same (rank_of x) t (view_sources (logic_at x) p poss view d) values (view d) k ((logic_at x).net k) same.ports same.clocks same.flops ((circuit_ranked x is).order k)
     (λ n below. agree x p poss view d held t values r is views same settled right fuel n (omega arith) (omega arith))
     (λ c e source h below. same.lockups c e source ∙ right k c e source h low)
     ∙ sym (views d k)
@@ -63,7 +63,7 @@ no_latch_held x view held r is none net c e source here low = absurd (no_latch x
 source_in : (x : Circuit) → IsCircuit x → (net c e : ℕ) (source : Source) → (m : Meaning) → (logic_at x).net net ≡ m → m ≡ Lockup c e source → AreBelow (rank_of x) (rank_of x net) (nets_of (source ∷ []))
 source_in x is net c e source m here lockup =
     let R : Meaning → Type 0 = λ n. AreBelow (rank_of x) (rank_of x net) (reads n) in
-    subst R (here ∙ lockup) (circuit_ranked x is net)
+    subst R (here ∙ lockup) ((circuit_ranked x is).order net)
 
 -- one domain more, or one that was there
 pub among_before : (clocks : List NetId) (j d e : ℕ) → (get_or clocks j (record { 0 = 0 })).0 ≡ d → (e ≡ d → ⊥) → Among clocks (j + 1) e → Among clocks j e

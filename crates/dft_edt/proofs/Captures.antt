@@ -67,7 +67,7 @@ values_by original written rank p s t a b ranked has over settled its_settled (s
       | inr same ↦ same_over (a net) (value_given s a net (original.net net)) (b (p.moved net)) (value_given t b (p.moved net) (moved_meaning p.moved (original.net net))) (settled net)
           (value_at written t b (p.moved net) (moved_meaning p.moved (original.net net)) its_settled same)
           (given_over rank p s t a b net inside over (λ k k_inside below. values_by original written rank p s t a b ranked has over settled its_settled fuel k (omega (arith, less, below)) k_inside)
-          (original.net net) (has.closed net inside) (ranked net) (λ cell inverted is. has.shown net cell inverted inside is) (λ cell domain source is. has.no_lockup net cell domain source inside is))
+          (original.net net) (has.closed net inside) (ranked.order net) (λ cell inverted is. has.shown net cell inverted inside is) (λ cell domain source is. has.no_lockup net cell domain source inside is))
     ]
 
 values_over : (original written : Logic) (rank : ℕ → ℕ) (p : Places) (s t : TriSources) (a b : ℕ → Tri) → IsRanked original rank → Covers original written p → SourcesOver p s t → IsTriSettled original s a → IsTriSettled written t b →
@@ -162,9 +162,9 @@ stays original written p d y x its old view has capture over cell is other =
     subst (λ t. AboveTri ((pulse_of original y its).old cell) t) (sym (pick_false (x.pulsed (written.cell cell).domain) (next_value written q view cell) (q.old cell) low)) (old_over original written p y x its old has over cell is)
 
 pub capture_law : CaptureLaw
-capture_law original written rank p d y x its old poss view values ranked has capture over settled views cell is = (
-  λ own. captured original written rank p d y x its old poss view values ranked has capture over settled views cell is own,
-  λ other. stays original written p d y x its old view has capture over cell is other,
+capture_law original written rank p d y x its old h values ranked has capture over settled halves cell is = (
+  λ own. captured original written rank p d y x its old h.rise.poss h.rise.view values ranked has capture over settled halves.rise cell is own,
+  λ other. stays original written p d y x its old h.rise.view has capture over cell is other,
 )
 
 pub containing_covers : ContainingCovers

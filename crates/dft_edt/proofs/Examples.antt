@@ -1,5 +1,5 @@
 -- The small design has the hardware.
-use Rattle.std.proofs.Common.{ℕ, zero, suc, ◌≡◌, ◌<◌, Some, [], ◌∷◌, refl, subst, arith}
+use Rattle.std.proofs.Common.{ℕ, zero, suc, ◌≡◌, ◌<◌, Some, [], ◌∷◌, refl, subst, arith, sym, ap, ◌∙◌}
 use Rattle.std.proofs.lemmas.Option.{none-some, same_Some}
 use Rattle.dft_netlist.specs.declared.ids.InstanceId.{InstanceId}
 use Rattle.std.specs.Prelude.{◌&&◌, not, IsTrue, List}
@@ -7,7 +7,8 @@ use Rattle.std.specs.List.{All, list_any}
 use Rattle.dft_base.specs.Words.{is_simple_name, is_later_reserved, reserved_words, later_reserved_words}
 use Rattle.dft_config.specs.declared.config.Injector.{Injector}
 use Rattle.dft_config.specs.Range.{has, same_number, names_of, IsSet, IsInRange}
-use Rattle.dft_netlist.specs.Logic.{IsRanked}
+use Rattle.dft_netlist.specs.Logic.{IsRanked, Meaning, Lockup, lockup_cell, reads}
+use Rattle.dft_netlist.specs.Drivers.{Source, Net, AreBelow}
 use Rattle.dft_stitch.specs.Plans.{cell_at}
 use Rattle.dft_chains.specs.Hardware.{IsScanCell, Leads, ByLockup}
 use Rattle.dft_edt.specs.Hardware.{HasStage, HasPhase, HasRing, HasEnd, HasOutput, HasCompactor, before_in}
@@ -26,34 +27,74 @@ two P a b (suc zero) h = b
 two P a b (suc (suc i)) h = absurd (omega arith)
 
 -- each net reads nets before it
+order : (net : ℕ) → AreBelow (λ k. k) net (reads (small.net net))
+order zero = tt
+order (suc zero) = tt
+order (suc (suc zero)) = tt
+order (suc (suc (suc zero))) = tt
+order (suc (suc (suc (suc zero)))) = tt
+order (suc (suc (suc (suc (suc zero))))) = tt
+order (suc (suc (suc (suc (suc (suc zero)))))) = tt
+order (suc (suc (suc (suc (suc (suc (suc zero))))))) = (omega arith, tt)
+order (suc (suc (suc (suc (suc (suc (suc (suc zero)))))))) = tt
+order (suc (suc (suc (suc (suc (suc (suc (suc (suc zero))))))))) = tt
+order (suc (suc (suc (suc (suc (suc (suc (suc (suc (suc zero)))))))))) = (omega arith, (omega arith, tt))
+order (suc (suc (suc (suc (suc (suc (suc (suc (suc (suc (suc zero))))))))))) = (omega arith, (omega arith, tt))
+order (suc (suc (suc (suc (suc (suc (suc (suc (suc (suc (suc (suc zero)))))))))))) = (omega arith, (omega arith, tt))
+order (suc (suc (suc (suc (suc (suc (suc (suc (suc (suc (suc (suc (suc zero))))))))))))) = (omega arith, (omega arith, tt))
+order (suc (suc (suc (suc (suc (suc (suc (suc (suc (suc (suc (suc (suc (suc zero)))))))))))))) = (omega arith, tt)
+order (suc (suc (suc (suc (suc (suc (suc (suc (suc (suc (suc (suc (suc (suc (suc zero))))))))))))))) = tt
+order (suc (suc (suc (suc (suc (suc (suc (suc (suc (suc (suc (suc (suc (suc (suc (suc zero)))))))))))))))) = (omega arith, tt)
+order (suc (suc (suc (suc (suc (suc (suc (suc (suc (suc (suc (suc (suc (suc (suc (suc (suc zero))))))))))))))))) = tt
+order (suc (suc (suc (suc (suc (suc (suc (suc (suc (suc (suc (suc (suc (suc (suc (suc (suc (suc zero)))))))))))))))))) = tt
+order (suc (suc (suc (suc (suc (suc (suc (suc (suc (suc (suc (suc (suc (suc (suc (suc (suc (suc (suc zero))))))))))))))))))) = tt
+order (suc (suc (suc (suc (suc (suc (suc (suc (suc (suc (suc (suc (suc (suc (suc (suc (suc (suc (suc (suc zero)))))))))))))))))))) = (omega arith, (omega arith, tt))
+order (suc (suc (suc (suc (suc (suc (suc (suc (suc (suc (suc (suc (suc (suc (suc (suc (suc (suc (suc (suc (suc zero))))))))))))))))))))) = (omega arith, (omega arith, tt))
+order (suc (suc (suc (suc (suc (suc (suc (suc (suc (suc (suc (suc (suc (suc (suc (suc (suc (suc (suc (suc (suc (suc zero)))))))))))))))))))))) = (omega arith, (omega arith, tt))
+order (suc (suc (suc (suc (suc (suc (suc (suc (suc (suc (suc (suc (suc (suc (suc (suc (suc (suc (suc (suc (suc (suc (suc zero))))))))))))))))))))))) = (omega arith, tt)
+order (suc (suc (suc (suc (suc (suc (suc (suc (suc (suc (suc (suc (suc (suc (suc (suc (suc (suc (suc (suc (suc (suc (suc (suc zero)))))))))))))))))))))))) = (omega arith, (omega arith, tt))
+order (suc (suc (suc (suc (suc (suc (suc (suc (suc (suc (suc (suc (suc (suc (suc (suc (suc (suc (suc (suc (suc (suc (suc (suc (suc zero))))))))))))))))))))))))) = (omega arith, tt)
+order (suc (suc (suc (suc (suc (suc (suc (suc (suc (suc (suc (suc (suc (suc (suc (suc (suc (suc (suc (suc (suc (suc (suc (suc (suc (suc k)))))))))))))))))))))))))) = tt
+
+-- what a net that is a lock-up shows is the cell of its instance
+abbrev IsStored : Meaning → Type 0
+IsStored m = (c e : ℕ) (source : Source) → m ≡ Lockup c e source → small.cell c ≡ lockup_cell e source
+
+locked_in : (i d : ℕ) (from : Source) → small.cell i ≡ lockup_cell d from → IsStored (Lockup i d from)
+locked_in i d from is c e source h =
+    (let p : i ≡ c = cc in let q : d ≡ e = cc in let r : from ≡ source = cc in sym (ap small.cell p) ∙ is ∙ (λ t. lockup_cell (q t) (r t)))
+
+stored_at : (net : ℕ) → IsStored (small.net net)
+stored_at zero c e source is = absurd cc
+stored_at (suc zero) c e source is = absurd cc
+stored_at (suc (suc zero)) c e source is = absurd cc
+stored_at (suc (suc (suc zero))) c e source is = absurd cc
+stored_at (suc (suc (suc (suc zero)))) c e source is = absurd cc
+stored_at (suc (suc (suc (suc (suc zero))))) c e source is = absurd cc
+stored_at (suc (suc (suc (suc (suc (suc zero)))))) c e source is = absurd cc
+stored_at (suc (suc (suc (suc (suc (suc (suc zero))))))) c e source is = absurd cc
+stored_at (suc (suc (suc (suc (suc (suc (suc (suc zero)))))))) c e source is = absurd cc
+stored_at (suc (suc (suc (suc (suc (suc (suc (suc (suc zero))))))))) c e source is = absurd cc
+stored_at (suc (suc (suc (suc (suc (suc (suc (suc (suc (suc zero)))))))))) c e source is = absurd cc
+stored_at (suc (suc (suc (suc (suc (suc (suc (suc (suc (suc (suc zero))))))))))) c e source is = absurd cc
+stored_at (suc (suc (suc (suc (suc (suc (suc (suc (suc (suc (suc (suc zero)))))))))))) c e source is = absurd cc
+stored_at (suc (suc (suc (suc (suc (suc (suc (suc (suc (suc (suc (suc (suc zero))))))))))))) c e source is = absurd cc
+stored_at (suc (suc (suc (suc (suc (suc (suc (suc (suc (suc (suc (suc (suc (suc zero)))))))))))))) c e source is = locked_in 2 3 (Net 13) refl c e source is
+stored_at (suc (suc (suc (suc (suc (suc (suc (suc (suc (suc (suc (suc (suc (suc (suc zero))))))))))))))) c e source is = absurd cc
+stored_at (suc (suc (suc (suc (suc (suc (suc (suc (suc (suc (suc (suc (suc (suc (suc (suc zero)))))))))))))))) c e source is = locked_in 4 4 (Net 15) refl c e source is
+stored_at (suc (suc (suc (suc (suc (suc (suc (suc (suc (suc (suc (suc (suc (suc (suc (suc (suc zero))))))))))))))))) c e source is = absurd cc
+stored_at (suc (suc (suc (suc (suc (suc (suc (suc (suc (suc (suc (suc (suc (suc (suc (suc (suc (suc zero)))))))))))))))))) c e source is = absurd cc
+stored_at (suc (suc (suc (suc (suc (suc (suc (suc (suc (suc (suc (suc (suc (suc (suc (suc (suc (suc (suc zero))))))))))))))))))) c e source is = absurd cc
+stored_at (suc (suc (suc (suc (suc (suc (suc (suc (suc (suc (suc (suc (suc (suc (suc (suc (suc (suc (suc (suc zero)))))))))))))))))))) c e source is = absurd cc
+stored_at (suc (suc (suc (suc (suc (suc (suc (suc (suc (suc (suc (suc (suc (suc (suc (suc (suc (suc (suc (suc (suc zero))))))))))))))))))))) c e source is = absurd cc
+stored_at (suc (suc (suc (suc (suc (suc (suc (suc (suc (suc (suc (suc (suc (suc (suc (suc (suc (suc (suc (suc (suc (suc zero)))))))))))))))))))))) c e source is = absurd cc
+stored_at (suc (suc (suc (suc (suc (suc (suc (suc (suc (suc (suc (suc (suc (suc (suc (suc (suc (suc (suc (suc (suc (suc (suc zero))))))))))))))))))))))) c e source is = absurd cc
+stored_at (suc (suc (suc (suc (suc (suc (suc (suc (suc (suc (suc (suc (suc (suc (suc (suc (suc (suc (suc (suc (suc (suc (suc (suc zero)))))))))))))))))))))))) c e source is = absurd cc
+stored_at (suc (suc (suc (suc (suc (suc (suc (suc (suc (suc (suc (suc (suc (suc (suc (suc (suc (suc (suc (suc (suc (suc (suc (suc (suc zero))))))))))))))))))))))))) c e source is = absurd cc
+stored_at (suc (suc (suc (suc (suc (suc (suc (suc (suc (suc (suc (suc (suc (suc (suc (suc (suc (suc (suc (suc (suc (suc (suc (suc (suc (suc k)))))))))))))))))))))))))) c e source is = absurd cc
+
 ranked : IsRanked small (λ net. net)
-ranked zero = tt
-ranked (suc zero) = tt
-ranked (suc (suc zero)) = tt
-ranked (suc (suc (suc zero))) = tt
-ranked (suc (suc (suc (suc zero)))) = tt
-ranked (suc (suc (suc (suc (suc zero))))) = tt
-ranked (suc (suc (suc (suc (suc (suc zero)))))) = tt
-ranked (suc (suc (suc (suc (suc (suc (suc zero))))))) = (omega arith, tt)
-ranked (suc (suc (suc (suc (suc (suc (suc (suc zero)))))))) = tt
-ranked (suc (suc (suc (suc (suc (suc (suc (suc (suc zero))))))))) = tt
-ranked (suc (suc (suc (suc (suc (suc (suc (suc (suc (suc zero)))))))))) = (omega arith, (omega arith, tt))
-ranked (suc (suc (suc (suc (suc (suc (suc (suc (suc (suc (suc zero))))))))))) = (omega arith, (omega arith, tt))
-ranked (suc (suc (suc (suc (suc (suc (suc (suc (suc (suc (suc (suc zero)))))))))))) = (omega arith, (omega arith, tt))
-ranked (suc (suc (suc (suc (suc (suc (suc (suc (suc (suc (suc (suc (suc zero))))))))))))) = (omega arith, (omega arith, tt))
-ranked (suc (suc (suc (suc (suc (suc (suc (suc (suc (suc (suc (suc (suc (suc zero)))))))))))))) = (omega arith, tt)
-ranked (suc (suc (suc (suc (suc (suc (suc (suc (suc (suc (suc (suc (suc (suc (suc zero))))))))))))))) = tt
-ranked (suc (suc (suc (suc (suc (suc (suc (suc (suc (suc (suc (suc (suc (suc (suc (suc zero)))))))))))))))) = (omega arith, tt)
-ranked (suc (suc (suc (suc (suc (suc (suc (suc (suc (suc (suc (suc (suc (suc (suc (suc (suc zero))))))))))))))))) = tt
-ranked (suc (suc (suc (suc (suc (suc (suc (suc (suc (suc (suc (suc (suc (suc (suc (suc (suc (suc zero)))))))))))))))))) = tt
-ranked (suc (suc (suc (suc (suc (suc (suc (suc (suc (suc (suc (suc (suc (suc (suc (suc (suc (suc (suc zero))))))))))))))))))) = tt
-ranked (suc (suc (suc (suc (suc (suc (suc (suc (suc (suc (suc (suc (suc (suc (suc (suc (suc (suc (suc (suc zero)))))))))))))))))))) = (omega arith, (omega arith, tt))
-ranked (suc (suc (suc (suc (suc (suc (suc (suc (suc (suc (suc (suc (suc (suc (suc (suc (suc (suc (suc (suc (suc zero))))))))))))))))))))) = (omega arith, (omega arith, tt))
-ranked (suc (suc (suc (suc (suc (suc (suc (suc (suc (suc (suc (suc (suc (suc (suc (suc (suc (suc (suc (suc (suc (suc zero)))))))))))))))))))))) = (omega arith, (omega arith, tt))
-ranked (suc (suc (suc (suc (suc (suc (suc (suc (suc (suc (suc (suc (suc (suc (suc (suc (suc (suc (suc (suc (suc (suc (suc zero))))))))))))))))))))))) = (omega arith, tt)
-ranked (suc (suc (suc (suc (suc (suc (suc (suc (suc (suc (suc (suc (suc (suc (suc (suc (suc (suc (suc (suc (suc (suc (suc (suc zero)))))))))))))))))))))))) = (omega arith, (omega arith, tt))
-ranked (suc (suc (suc (suc (suc (suc (suc (suc (suc (suc (suc (suc (suc (suc (suc (suc (suc (suc (suc (suc (suc (suc (suc (suc (suc zero))))))))))))))))))))))))) = (omega arith, tt)
-ranked (suc (suc (suc (suc (suc (suc (suc (suc (suc (suc (suc (suc (suc (suc (suc (suc (suc (suc (suc (suc (suc (suc (suc (suc (suc (suc k)))))))))))))))))))))))))) = tt
+ranked = record { order = order; lockups = stored_at }
 
 scan_cell : (chain place : ℕ) (cell : InstanceId) → cell_at small_chains chain place ≡ Some cell → IsScanCell small small_ports 0 (small_scan.into chain place) cell.0
 scan_cell zero zero cell is = subst (λ (c : InstanceId). IsScanCell small small_ports 0 (small_scan.into 0 0) c.0) (same_Some (record { 0 = 3 }) cell is) (record { scan = refl; domain = refl; force = tt })

@@ -47,7 +47,7 @@ shift_in_runs l rank ports config chains w hw row x now t ranked has range shift
   stages = λ i less. (
       let s : ℕ → Bool = λ k. now.state.flops (hw.stage k) in
       ap known (known_after_turn l rank x now t ranked low turn (hw.stage i) (step config.ring row s i)
-      (λ poss view views. (shift_law l ports config chains w hw x (bits now.state) poss view has range shift views).stages i less
+      (λ h halves. (shift_law l ports config chains w hw x (bits now.state) h has range shift halves).stages i less
       ∙ stage_known config i (λ k. known (s k)) (λ j. x.ports (hw.channel j)) s row range less (λ k inside. refl) carries))
       ∙ sym (stage_known config i (λ k. known (s k)) (λ j. known (row j)) s row range less (λ k inside. refl) (λ j inside. refl))
       );
@@ -55,15 +55,15 @@ shift_in_runs l rank ports config chains w hw row x now t ranked has range shift
       let s : ℕ → Bool = λ k. now.state.flops (hw.stage k) in
       let sum = phase_known config chain (λ k. known (s k)) s range (λ k inside. refl) in
       ap known (known_after_turn l rank x now t ranked low turn cell.0 (phase_sum config.ring chain s)
-      (λ poss view views. (shift_law l ports config chains w hw x (bits now.state) poss view has range shift views).firsts chain cell stands ∙ sum)) ∙ sym sum
+      (λ h halves. (shift_law l ports config chains w hw x (bits now.state) h has range shift halves).firsts chain cell stands ∙ sum)) ∙ sym sum
       );
   others = λ chain place cell next stands follows. ap known (known_after_turn l rank x now t ranked low turn next.0 (now.state.flops cell.0)
-      (λ poss view views. (shift_law l ports config chains w hw x (bits now.state) poss view has range shift views).others chain place cell next stands follows));
+      (λ h halves. (shift_law l ports config chains w hw x (bits now.state) h has range shift halves).others chain place cell next stands follows));
 }
 
 pub clear_in_runs : ClearInRuns
 clear_in_runs l rank ports config chains w hw x now t ranked has clearing low turn i less =
-    ap known (known_after_turn l rank x now t ranked low turn (hw.stage i) false (λ poss view views. clear_law l ports config chains w hw x (bits now.state) poss view has clearing views i less))
+    ap known (known_after_turn l rank x now t ranked low turn (hw.stage i) false (λ h halves. clear_law l ports config chains w hw x (bits now.state) h has clearing halves i less))
 
 -- what is before a mask bit, where the ports are known
 before_known : (config : Config) (p : ℕ → Tri) (row s : ℕ → Bool) (m k : ℕ) → p m ≡ known (row m) → before_in config p (λ chain. known (s chain)) m k ≡ known (before_in config row s m k)
@@ -74,16 +74,16 @@ pub masks_in_runs : MasksInRuns
 masks_in_runs l rank config chains hw row x now t ranked has pulsed sends low turn m k m_less k_less =
     let s : ℕ → Bool = λ chain. now.state.flops (hw.mask chain) in
     ap known (known_after_turn l rank x now t ranked low turn (hw.mask (chain_in config m k)) (before_in config row s m k)
-    (λ poss view views. mask_law l config chains hw x (bits now.state) poss view has pulsed views m k m_less k_less
+    (λ h halves. mask_law l config chains hw x (bits now.state) h has pulsed halves m k m_less k_less
     ∙ before_known config (λ i. x.ports (hw.mask_port i)) row s m k (sends m m_less)))
     ∙ sym (before_known config (λ i. known (row i)) row s m k refl)
 
 pub holds_in_runs : HoldsInRuns
 holds_in_runs l rank ports config chains w hw x now t ranked ring has range pulsed low turn = (
   λ off chain less. ap known (known_after_turn l rank x now t ranked low turn (hw.hold chain) (now.state.flops (hw.hold chain))
-      (λ poss view views. (hold_law l ports config chains w hw x (bits now.state) poss view ring has range pulsed views).0 off chain less)),
+      (λ h halves. (hold_law l ports config chains w hw x (bits now.state) h ring has range pulsed halves).0 off chain less)),
   λ on chain less. ap known (known_after_turn l rank x now t ranked low turn (hw.hold chain) (now.state.flops (hw.mask chain))
-      (λ poss view views. (hold_law l ports config chains w hw x (bits now.state) poss view ring has range pulsed views).1 on chain less)),
+      (λ h halves. (hold_law l ports config chains w hw x (bits now.state) h ring has range pulsed halves).1 on chain less)),
 )
 
 -- ---- the load
@@ -110,13 +110,13 @@ loaded_cells : (l : Logic) (ports : Ports) (config : Config) (chains : List (Lis
     (chain place u : ℕ) (cell : InstanceId) → (stands : cell_at chains chain place ≡ Some cell) → (is : suc (place + u) ≡ suc t) → p.new cell.0 ≡ known (phase_sum config.ring chain (state_after config.ring table u))
 loaded_cells l ports config chains w hw table t x old p has range shift passes loaded chain zero u cell stands is =
     passes.after cell.0 (phase_sum config.ring chain (state_after config.ring table t))
-    (λ poss view views. (shift_law l ports config chains w hw x old poss view has range shift views).firsts chain cell stands
+    (λ h halves. (shift_law l ports config chains w hw x old h has range shift halves).firsts chain cell stands
     ∙ phase_known config chain (λ k. old (hw.stage k)) (state_after config.ring table t) range loaded.stages)
     ∙ ap (λ (i : ℕ). known (phase_sum config.ring chain (state_after config.ring table i))) (omega (arith, is))
 loaded_cells l ports config chains w hw table t x old p has range shift passes loaded chain (suc place) u cell stands is =
     let other = place_before (slice_get chains chain) place cell stands in
     passes.after cell.0 (phase_sum config.ring chain (state_after config.ring table u))
-    (λ poss view views. (shift_law l ports config chains w hw x old poss view has range shift views).others chain place other.0 cell other.1 stands
+    (λ h halves. (shift_law l ports config chains w hw x old h has range shift halves).others chain place other.0 cell other.1 stands
     ∙ loaded.cells chain place u other.0 other.1 (omega (arith, is)))
 
 pub loaded_step : (l : Logic) (ports : Ports) (config : Config) (chains : List (List InstanceId)) (w : ChainNets) (hw : EdtNets) (table : Table) (t : ℕ) (x : Vector) (old : ℕ → Tri) (p : Pass) →
@@ -124,14 +124,14 @@ pub loaded_step : (l : Logic) (ports : Ports) (config : Config) (chains : List (
 unfolding state_after
 loaded_step l ports config chains w hw table t x old p has range shift carries passes loaded = record {
   stages = λ i less. passes.after (hw.stage i) (step config.ring (λ j. table j t) (state_after config.ring table t) i)
-      (λ poss view views. (shift_law l ports config chains w hw x old poss view has range shift views).stages i less
+      (λ h halves. (shift_law l ports config chains w hw x old h has range shift halves).stages i less
       ∙ stage_known config i (λ k. old (hw.stage k)) (λ j. x.ports (hw.channel j)) (state_after config.ring table t) (λ j. table j t) range less loaded.stages carries);
   cells = loaded_cells l ports config chains w hw table t x old p has range shift passes loaded;
 }
 
 pub cleared : (l : Logic) (ports : Ports) (config : Config) (chains : List (List InstanceId)) (w : ChainNets) (hw : EdtNets) (x : Vector) (old : ℕ → Tri) (p : Pass) →
     HasRing l ports config chains w hw → IsClearing hw x → Passes l x old p → Clears config hw p.new
-cleared l ports config chains w hw x old p has clearing passes i less = passes.after (hw.stage i) false (λ poss view views. clear_law l ports config chains w hw x old poss view has clearing views i less)
+cleared l ports config chains w hw x old p has clearing passes i less = passes.after (hw.stage i) false (λ h halves. clear_law l ports config chains w hw x old h has clearing halves i less)
 
 pub loaded_all : (l : Logic) (ports : Ports) (config : Config) (chains : List (List InstanceId)) (w : ChainNets) (hw : EdtNets) (table : Table) (t total : ℕ) (xs : List Vector) (old : ℕ → Tri) (ps : List Pass) →
     HasRing l ports config chains w hw → IsInRange config → CarryTable ports config w hw table t xs → ArePasses l old xs ps → t + length xs ≡ total →

@@ -7,7 +7,7 @@ use Rattle.dft_netlist.specs.Drivers.{Source, AreBelow}
 use Rattle.dft_netlist.specs.Logic.{Logic, Input, Flop, Lockup, Free, reads, IsRanked}
 use Rattle.dft_netlist.specs.Settled.{IsTriSettled}
 use Rattle.dft_netlist.specs.Runs.{Vector}
-use Rattle.dft_abstract.specs.Cycle.{AreViews, after_pulse, pulse_of, strobe_sources}
+use Rattle.dft_abstract.specs.Cycle.{pulse_of, strobe_sources, Halves, AreHalves, after_halves}
 use Rattle.dft_abstract.specs.Laws.{next_from}
 use Rattle.dft_runs.specs.WiderPorts.{MeansMore}
 use Rattle.dft_chains.specs.ScanOff.{moved_meaning, Places, KeepsFlop, Contains}
@@ -54,8 +54,8 @@ pub record IsCapture (p : Places) (d : ℕ) (x : Vector) : Type 0 where
 -- what it had.
 abbrev pub CaptureLaw : Type 0
 CaptureLaw =
-    (original written : Logic) (rank : ℕ → ℕ) (p : Places) (d : ℕ) (y x : Vector) (its old poss : ℕ → Tri) (view : ℕ → ℕ → Tri) (values : ℕ → Tri) →
+    (original written : Logic) (rank : ℕ → ℕ) (p : Places) (d : ℕ) (y x : Vector) (its old : ℕ → Tri) (h : Halves) (values : ℕ → Tri) →
     IsRanked original rank → Covers original written p → IsCapture p d x → StandsOver p y x its old → IsTriSettled original (strobe_sources original y its values) values →
-    AreViews written (pulse_of written x old) poss view → (cell : ℕ) → p.is_flop cell ≡ true →
-    ((original.cell cell).domain ≡ d → AboveTri (next_from original y values cell) (after_pulse written (pulse_of written x old) view cell))
-    × (((original.cell cell).domain == d) ≡ false → AboveTri ((pulse_of original y its).old cell) (after_pulse written (pulse_of written x old) view cell))
+    AreHalves written x old h → (cell : ℕ) → p.is_flop cell ≡ true →
+    ((original.cell cell).domain ≡ d → AboveTri (next_from original y values cell) (after_halves written x old h cell))
+    × (((original.cell cell).domain == d) ≡ false → AboveTri ((pulse_of original y its).old cell) (after_halves written x old h cell))

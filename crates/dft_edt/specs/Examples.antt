@@ -3,7 +3,7 @@ use Rattle.std.specs.Prelude.{codes, ◌==◌, ◌||◌, false, List, [], ◌∷
 use Rattle.dft_cells.specs.declared.kind.Kind.TheVariants.{Buf, Inv, And, Or, Xor}
 use Rattle.dft_netlist.specs.declared.ids.InstanceId.{InstanceId}
 use Rattle.dft_netlist.specs.Drivers.{Net}
-use Rattle.dft_netlist.specs.Logic.{Logic, Ports, Cell, Meaning, Input, Clock, Gate, Flop, Lockup, Free, IsRanked}
+use Rattle.dft_netlist.specs.Logic.{Logic, Ports, Cell, Meaning, Input, Clock, Gate, Flop, Lockup, Free, IsRanked, lockup_cell}
 use Rattle.dft_config.specs.declared.config.FillRule.TheVariants.{Zeros}
 use Rattle.dft_config.specs.Config.{Config}
 use Rattle.dft_config.specs.Range.{IsInRange}
@@ -50,8 +50,8 @@ small_nets =
 
 abbrev pub small_cells : List Cell
 small_cells =
-    plain_cell 3 10 ∷ plain_cell 3 12 ∷ plain_cell 0 0
-    ∷ record { domain = 4; input = Net 17; scan = Some (record { enable = Net 0; input = Net 14 }); force = None } ∷ plain_cell 0 0
+    plain_cell 3 10 ∷ plain_cell 3 12 ∷ lockup_cell 3 (Net 13)
+    ∷ record { domain = 4; input = Net 17; scan = Some (record { enable = Net 0; input = Net 14 }); force = None } ∷ lockup_cell 4 (Net 15)
     ∷ record { domain = 5; input = Net 15; scan = Some (record { enable = Net 0; input = Net 16 }); force = None }
     ∷ plain_cell 3 6 ∷ plain_cell 3 22 ∷ []
 

@@ -32,7 +32,7 @@ pub fn parts_compute()
     ensures output_values { OutputValues }
 {}
 
-/// What one vector does on the abstract cycle, at any map and its views.
+/// What one vector does on the abstract cycle, for any halves.
 pub fn vectors_act()
     ensures shift { ShiftLaw }
     ensures clear { ClearLaw }

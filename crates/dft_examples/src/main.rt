@@ -1,9 +1,8 @@
-//! Runs each command line of the file `commands` on the files beside it, and prints the line that it puts, its exit status
-//! and what it saved. The stored output holds what was worked out by hand; it promises nothing.
+//! Runs each command line of the file `commands` on the files beside it, and prints the line that it puts, its exit status,
+//! what a person is told on standard error, and what it saved. The stored output holds what was worked out by hand; it promises nothing.
 #![tactic(auto)]
 
-use dft_files::{HostFiles, OutSink};
-use dft_program::status_of_run;
+use dft_program::told_run;
 use std::alloc::Global;
 use std::{fs, io};
 
@@ -19,10 +18,10 @@ fn main(rt: HostRuntime) -> io::Result<()> {
 // Runs the words of a line, and shows what they saved.
 fn play<R: AllocGlobal + Print + std::rt::Files>(rt: &R, line: &str) -> io::Result<()> {
     let words = words_of(rt.alloc(), line)?;
-    let mut files = HostFiles::new(rt, rt.alloc());
-    let mut out = OutSink::new(rt);
-    let status = status_of_run(rt.alloc(), words.as_slice(), &mut files, &mut out);
+    let (status, page) = told_run(rt, words.as_slice());
     println!(rt; "status {status}")?;
+    let page = page?;
+    print!(rt; "{}", str::from_utf8(page.as_slice()).unwrap_or("?"))?;
     if status == 0 {
         show_saved(rt, words.as_slice(), line.starts_with("scan "))?;
     }

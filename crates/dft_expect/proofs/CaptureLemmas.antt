@@ -32,7 +32,7 @@ stands_by l m rank s t values shows ranked means above settled its (suc fuel) ne
     elim (means net) [
       | inl free ↦ at_nets (values net) (shows net) (value_given s values net (l.net net)) (shows net) (settled net) refl (free_over s values net (l.net net) (shows net) free)
       | inr same ↦ at_nets (values net) (shows net) (value_given s values net (l.net net)) (value_given t shows net (l.net net)) (settled net) (its net ∙ ap (value_given t shows net) same)
-          (meaning_monotone rank s t values shows net above.ports above.clocks above.flops (l.net net) (ranked net) ih (λ c e source below. above.lockups (rank net) c e source ih below))
+          (meaning_monotone rank s t values shows net above.ports above.clocks above.flops (l.net net) (ranked.order net) ih (λ c e source below. above.lockups (rank net) c e source ih below))
     ]
 
 pub stands_above : SettledStandsAbove

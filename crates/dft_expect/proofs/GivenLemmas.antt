@@ -21,6 +21,7 @@ use Rattle.dft_netlist.specs.NetDrivers.{driver_at, is_inverted, joined_by, role
 use Rattle.dft_netlist.specs.Traces.{Root, Port, Constant, Other, root_of}
 use Rattle.dft_netlist.specs.Logic.{Cell, Force, Ports, Scan, Input, Clock, cell_or_none, flip_flop, flop_meaning, force_of, forcing, meaning_of, modelled, modelled_of, pin_of}
 use Rattle.dft_netlist.specs.Settled.{TriSources, inverse}
+use Rattle.dft_netlist.proofs.StoredLemmas.{stored_force}
 use Rattle.dft_abstract.specs.Cycle.{strobe_sources, tri_forced_by}
 use Rattle.dft_logic.proofs.Pasts.{past_free}
 use Rattle.dft_config.specs.Config.{Config}
@@ -81,7 +82,7 @@ not_forced is_reset x (Some force) t one may = ap (λ (p : Tri). tri_forced forc
 pub stays : (n : Netlist) (config : Config) (merged : Merged) (i : ℕ) (t : Tri) → tri_forced_by ((original n config).cell i).force (capture_vector n config merged).ports t ≡ t
 stays n config merged i t =
     not_forced (config_ports n config).is_reset (capture_vector n config merged).ports ((original n config).cell i).force t
-    (λ net is. ap (λ (b : Bool). port_value b (bit_of_port merged.ports net)) is) (flop_forces n (config_ports n config) i (is_flip_flop (kind_at n i)))
+    (λ net is. ap (λ (b : Bool). port_value b (bit_of_port merged.ports net)) is) (subst (ByReset (config_ports n config).is_reset) (sym (stored_force n (config_ports n config) i)) (flop_forces n (config_ports n config) i (is_flip_flop (kind_at n i))))
 
 -- ---- a port
 

@@ -20,10 +20,11 @@ use Rattle.dft_netlist.specs.declared.instance.Signal.TheVariants as signal
 use Rattle.dft_netlist.specs.Netlist.{Netlist}
 use Rattle.dft_netlist.specs.Connections.{joined_to, signal_of}
 use Rattle.dft_netlist.specs.Drivers.{Source, Tied, Loose, Connection, pins_of, source_of}
-use Rattle.dft_netlist.specs.Logic.{Cell, cell_or_none, or_loose, pin_of, same_role}
+use Rattle.dft_netlist.specs.Logic.{Cell, or_loose, pin_of, same_role}
 use Rattle.dft_netlist.specs.Settled.{value_from}
 use Rattle.dft_netlist.specs.Traces.{root_of}
 use Rattle.dft_netlist.proofs.TraceLemmas.{is_walk}
+use Rattle.dft_netlist.proofs.StoredLemmas.{flop_cell}
 use Rattle.dft_abstract.specs.Cycle.{tri_forced_by, tri_taken_by}
 use Rattle.dft_config.specs.Config.{Config}
 use Rattle.dft_rules.specs.Rules.{is_net}
@@ -33,7 +34,7 @@ use Rattle.dft_expect.specs.declared.pattern.Pattern.{Pattern}
 use Rattle.dft_expect.specs.declared.response.Response.{Response}
 use Rattle.dft_expect.specs.declared.reads.Read.{Read}
 use Rattle.dft_expect.specs.Loaded.{all_cells, loaded_values, or_unknown}
-use Rattle.dft_expect.specs.Captures.{capture_clock, capture_vector, captured_value, original, output_bits}
+use Rattle.dft_expect.specs.Captures.{capture_clock, capture_vector, captured_value, original, output_bits, config_ports}
 use Rattle.dft_expect.specs.Capturing.{CanCapture, Captures, Settles, cells_in}
 use Rattle.dft_expect.specs.Reads.{AreReads, IsReadOf, clock_at, clock_net, or_unconnected, port_of, read_at, read_value, same_net, value_of_signal}
 use Rattle.dft_expect.proofs.CellNumbers.{bit_is, stands_once}
@@ -140,7 +141,7 @@ read_is n config merged loaded values number cell read can at is =
     let m : IsModelled n config i = number_modelled n config number i can at in
     let input : Source = or_loose i (pin_of role.Din i (pins_of n i)) in
     let q : Cell = record { domain = m.clock; input = input; scan = None; force = m.force } in
-    let e : (original n config).cell i ≡ q = ap (cell_or_none i) m.flop in
+    let e : (original n config).cell i ≡ q = flop_cell n (config_ports n config) i q m.flop in
     let idle : tri_forced_by m.force x.ports (value_from values input) ≡ value_from values input =
     ap (λ (c : Cell). tri_forced_by c.force x.ports (value_from values input)) (sym e) ∙ stays n config merged i (value_from values input) in
     let clock : same_net read.clock captures ≡ is_net m.clock captures = clock_same read.clock captures m.clock (is.clock ∙ ap (clock_net n) m.pin ∙ ap port_of m.root) in

@@ -1,5 +1,5 @@
 -- The three lists of words that ask for help or for the version.
-use Rattle.std.specs.Prelude.{ℕ, Bool, true, false, List, [], ◌∷◌, codes, Option, None, Some, option_map, if◌then◌else◌}
+use Rattle.std.specs.Prelude.{ℕ, List, [], ◌∷◌, codes, Option, None, Some, option_map, if◌then◌else◌}
 use Rattle.std.specs.Str.{bytes_eq}
 use Rattle.dft_explain.specs.declared.asking.Request.{Request}
 use Rattle.dft_explain.specs.declared.asking.Request.TheVariants as request

@@ -2,12 +2,24 @@
 #![tactic(auto)]
 
 mod asking;
+mod ending;
+mod explaining;
 mod faults;
 mod forms;
 mod helping;
+mod options;
 mod page;
+mod pieces;
+mod sentences;
+mod texts;
+mod windows;
 
 pub use asking::{Request, Topic, asked};
+pub use ending::{Ending, Refusal};
+pub use explaining::explanation;
 pub use faults::fault_of_words;
 pub use helping::help;
+pub use options::{file_of, value_of};
 pub use page::Page;
+pub use sentences::{Said, said_of};
+pub use texts::line_at;

@@ -1,8 +1,9 @@
 //! Text for a person.
 
-ghost use Rattle.std.specs.Prelude.{◌≡◌, ◌++◌, true, [], ◌∷◌, OnOk};
+ghost use Rattle.std.specs.Prelude.{◌≡◌, ◌++◌, true, [], ◌∷◌, OnOk, map};
 ghost use Rattle.dft_explain.specs.Told as spec;
 ghost use Rattle.dft_explain.specs.Told.{is_told, shown};
+ghost use Rattle.dft_explain.specs.Explained.{told_line};
 
 use dft_base::is_printed;
 use std::alloc::{AllocError, Global};
@@ -48,6 +49,16 @@ impl Page {
         ensures { OnOk result (self.new ≡ self.old ++ shown text.now) }
     {
         self.put(text.as_bytes())
+    }
+
+    // Adds a line of these pieces.
+    pub(crate) fn put_line(&mut self, pieces: &[&[u8]]) -> Result<(), AllocError>
+        ensures { OnOk result (self.new ≡ self.old ++ told_line (map (λ piece. piece.now) pieces.now)) }
+    {
+        for piece in pieces {
+            self.put(piece)?;
+        }
+        self.end()
     }
 
     // Ends a line.

@@ -3,14 +3,15 @@ ghost use Rattle.dft_files.specs.Outside.{Rose, RoseBy};
 
 use crate::outside::{Files, LoadError, PutError, SaveError, Sink};
 use std::alloc::Global;
-use std::fs;
 use std::io::{Read, Write};
+use std::{fs, io};
 
 /// The real files. They tell nothing of what they hold.
 #[derive(Drop)]
 pub struct HostFiles<'a, R: std::rt::Files> {
     rt: &'a R,
     failed: String,
+    reason: Option<io::Error>,
     read_faults: u64,
     write_faults: u64,
     taken: u64,
@@ -27,10 +28,24 @@ impl<'a, R: std::rt::Files> HostFiles<'a, R> {
         HostFiles {
             rt,
             failed: String::new(alloc),
+            reason: None,
             read_faults: 0,
             write_faults: 0,
             taken: 0,
         }
+    }
+
+    /// The name in the last call that failed, empty before the first.
+    pub fn failed_name(&self) -> &str
+        ensures { result.now ≡ ⟦<HostFiles<'a, R> as Files>⟧.failed self.now }
+    {
+        self.failed.as_str()
+    }
+
+    /// Why the host refused the last call that failed. There is no reason before the first, nor where a file's length grew
+    /// without end.
+    pub fn reason(&self) -> Option<io::Error> {
+        self.reason
     }
 }
 
@@ -47,9 +62,11 @@ impl<'a, R: std::rt::Files> Files for HostFiles<'a, R> {
 
     fn load(&mut self, alloc: Global, name: &str, limit: u32) -> Result<Vec<u8>, LoadError> {
         let own_name = String::from_str(alloc, name)?;
-        match read_up_to(self.rt, alloc, name, limit, &mut self.taken) {
+        let mut reason = None;
+        match read_up_to(self.rt, alloc, name, limit, &mut self.taken, &mut reason) {
             Err(LoadError::Failed) => {
                 note(&mut self.failed, &mut self.read_faults, own_name);
+                self.reason = reason;
                 Err(LoadError::Failed)
             }
             answer => answer,
@@ -58,11 +75,14 @@ impl<'a, R: std::rt::Files> Files for HostFiles<'a, R> {
 
     fn save(&mut self, alloc: Global, name: &str, bytes: &[u8]) -> Result<(), SaveError> {
         let own_name = String::from_str(alloc, name)?;
-        if write_whole(self.rt, name, bytes) {
-            return Ok(());
+        match write_whole(self.rt, name, bytes) {
+            Ok(()) => Ok(()),
+            Err(error) => {
+                note(&mut self.failed, &mut self.write_faults, own_name);
+                self.reason = Some(error);
+                Err(SaveError::Failed)
+            }
         }
-        note(&mut self.failed, &mut self.write_faults, own_name);
-        Err(SaveError::Failed)
     }
 }
 
@@ -76,23 +96,37 @@ fn note(failed: &mut String, count: &mut u64, name: String)
     *count = count.saturating_add(1);
 }
 
-// Reads a file up to its end, or past the limit. `taken` counts the bytes that were read.
+// Reads a file up to its end, or past the limit. `taken` counts the bytes that were read, and `reason` takes the error of
+// the host.
 fn read_up_to<R: std::rt::Files>(
     rt: &R,
     alloc: Global,
     name: &str,
     limit: u32,
     taken: &mut u64,
+    reason: &mut Option<io::Error>,
 ) -> Result<Vec<u8>, LoadError>
     ensures limit { IfOk result (λ v. length v.items ≤ limit) }
     ensures too_long { result ≡ Err LoadError.TooLong → RoseBy (limit + 1) taken.old taken.new }
     ensures taken { taken.old ≤ taken.new }
 {
-    let mut file = fs::open(rt, name).map_err(|_| LoadError::Failed)?;
+    let mut file = match fs::open(rt, name) {
+        Ok(file) => file,
+        Err(error) => {
+            *reason = Some(error);
+            return Err(LoadError::Failed);
+        }
+    };
     let mut bytes = Vec::new(alloc);
     let mut buffer = [0u8; 4096];
     for _turn in 0..u64::MAX {
-        let count = file.read(&mut buffer).map_err(|_| LoadError::Failed)?;
+        let count = match file.read(&mut buffer) {
+            Ok(count) => count,
+            Err(error) => {
+                *reason = Some(error);
+                return Err(LoadError::Failed);
+            }
+        };
         if count == 0 {
             return Ok(bytes);
         }
@@ -105,25 +139,25 @@ fn read_up_to<R: std::rt::Files>(
     Err(LoadError::Failed)
 }
 
-// Writes all the bytes into a file that is made or emptied first, and says whether each call of the host succeeded.
-fn write_whole<R: std::rt::Files>(rt: &R, name: &str, bytes: &[u8]) -> bool {
-    let Ok(mut file) = fs::create(rt, name) else {
-        return false;
-    };
+// Writes all the bytes into a file that is made or emptied first, up to the first call of the host that fails.
+fn write_whole<R: std::rt::Files>(rt: &R, name: &str, bytes: &[u8]) -> Result<(), io::Error> {
+    let mut file = fs::create(rt, name)?;
     let mut rest = bytes;
     while !rest.is_empty() {
         match file.write(rest) {
-            Ok(count) if count > 0 => rest = &rest[count..],
-            _ => return false,
+            Ok(0) => return Err(io::Error::from(io::ErrorKind::WriteZero)),
+            Ok(count) => rest = &rest[count..],
+            Err(error) => return Err(error),
         }
     }
-    true
+    Ok(())
 }
 
 /// Standard output. It tells nothing of what was put.
 #[derive(Drop)]
 pub struct OutSink<'a, R: Print> {
     rt: &'a R,
+    reason: Option<io::Error>,
     faults: u64,
 }
 
@@ -132,7 +166,16 @@ impl<'a, R: Print> OutSink<'a, R> {
     pub fn new(rt: &'a R) -> OutSink<'a, R>
         ensures { ⟦<OutSink<'a, R> as Sink>⟧.faults result ≡ 0 }
     {
-        OutSink { rt, faults: 0 }
+        OutSink {
+            rt,
+            reason: None,
+            faults: 0,
+        }
+    }
+
+    /// Why the host refused the last call that failed. There is no reason before the first.
+    pub fn reason(&self) -> Option<io::Error> {
+        self.reason
     }
 }
 
@@ -142,22 +185,26 @@ impl<'a, R: Print> Sink for OutSink<'a, R> {
     ghost faults = { λ s. s.faults };
 
     fn put(&mut self, bytes: &[u8]) -> Result<(), PutError> {
-        if print_whole(self.rt, bytes) {
-            return Ok(());
+        match print_whole(self.rt, bytes) {
+            Ok(()) => Ok(()),
+            Err(error) => {
+                self.faults = self.faults.saturating_add(1);
+                self.reason = Some(error);
+                Err(PutError::Failed)
+            }
         }
-        self.faults = self.faults.saturating_add(1);
-        Err(PutError::Failed)
     }
 }
 
-// Prints all the bytes, and says whether each call of the host succeeded.
-fn print_whole<R: Print>(rt: &R, bytes: &[u8]) -> bool {
+// Prints all the bytes, up to the first call of the host that fails.
+fn print_whole<R: Print>(rt: &R, bytes: &[u8]) -> Result<(), io::Error> {
     let mut rest = bytes;
     while !rest.is_empty() {
         match rt.write_some(rest) {
-            Ok(count) if count > 0 => rest = &rest[count..],
-            _ => return false,
+            Ok(0) => return Err(io::Error::from(io::ErrorKind::WriteZero)),
+            Ok(count) => rest = &rest[count..],
+            Err(error) => return Err(error),
         }
     }
-    true
+    Ok(())
 }

@@ -64,12 +64,12 @@ terms_few channels stages stage =
       length-append (tap_feeds configuration.ring.taps stage) (injector_feeds configuration.ring.injectors stage),
     )
 
-stage_most : (ports : EdtPorts) (run : NetId) (stages : List NetId) (stage : ℕ) → AtMost (a_stage configuration.ring ports run stages stage) 28
+stage_most : (ports : EdtPorts) (run : NetId) (stages : List NetId) (stage : ℕ) → AtMost (a_stage configuration.ring ports run stages stage) 81
 unfolding a_stage
 stage_most ports run stages stage =
-    bind_most (a_sum (stage_terms configuration.ring ports.channels stages stage)) (λ sum. a_driving_gate And (sum ∷ run ∷ []) >>= (λ kept. a_flop ports.edt_clock kept (net_at stages stage))) 25 3
+    bind_most (a_sum (stage_terms configuration.ring ports.channels stages stage)) (λ sum. a_driving_gate And (sum ∷ run ∷ []) >>= (λ kept. a_flop ports.edt_clock kept (net_at stages stage))) 75 6
     (sum_most (stage_terms configuration.ring ports.channels stages stage) 5 (terms_few ports.channels stages stage))
-    (λ sum. bind_most (a_driving_gate And (sum ∷ run ∷ [])) (λ kept. a_flop ports.edt_clock kept (net_at stages stage)) 2 1 (driving_most And (sum ∷ run ∷ [])) (λ kept. flop_most ports.edt_clock kept (net_at stages stage)))
+    (λ sum. bind_most (a_driving_gate And (sum ∷ run ∷ [])) (λ kept. a_flop ports.edt_clock kept (net_at stages stage)) 5 1 (driving_most And (sum ∷ run ∷ [])) (λ kept. flop_most ports.edt_clock kept (net_at stages stage)))
 
 -- lists of lists that are short
 get_few : (most : ℕ) (xs : List (List ℕ)) (k : ℕ) → list_all (λ l. nat_le (length l) most) xs ≡ true → length (get_or xs k []) ≤ most
@@ -77,89 +77,89 @@ get_few most [] k h = omega arith
 get_few most (x ∷ xs) zero h = let p = and_parts (nat_le (length x) most) (list_all (λ l. nat_le (length l) most) xs) h in let a = p.0 in grind (arith, nat_tests)
 get_few most (x ∷ xs) (suc k) h = get_few most xs k (and_parts (nat_le (length x) most) (list_all (λ l. nat_le (length l) most) xs) h).1
 
-phase_most : (stages : List NetId) (chain : ℕ) → AtMost (a_phase configuration.ring stages chain) 9
+phase_most : (stages : List NetId) (chain : ℕ) → AtMost (a_phase configuration.ring stages chain) 27
 phase_most stages chain =
     sum_most (map (net_at stages) (phase_of configuration.ring chain)) 3 (omega (arith, get_few 3 configuration.ring.phase chain refl, length-map (phase_of configuration.ring chain) (net_at stages)))
 
 abbrev end_with : NetId → List NetId → Recipe Ring
 end_with run phases = pure (record { run = run; phases = phases })
 
-ring_most : (ports : EdtPorts) → AtMost (a_ring configuration ports) 610
+ring_most : (ports : EdtPorts) → AtMost (a_ring configuration ports) 1748
 unfolding a_ring
 ring_most ports =
     bind_most (a_driving_gate Inv (ports.edt_update ∷ []))
-    (λ run. nets_made 16 >>= (λ stages. each (a_stage configuration.ring ports run stages) (range_with_len 0 16) >>= (λ _. collect (a_phase configuration.ring stages) (range_with_len 0 16) >>= end_with run))) 2 608 (driving_most Inv (ports.edt_update ∷ []))
-    (λ run. bind_most (nets_made 16) (λ stages. each (a_stage configuration.ring ports run stages) (range_with_len 0 16) >>= (λ _. collect (a_phase configuration.ring stages) (range_with_len 0 16) >>= end_with run)) 16 592
+    (λ run. nets_made 16 >>= (λ stages. each (a_stage configuration.ring ports run stages) (range_with_len 0 16) >>= (λ _. collect (a_phase configuration.ring stages) (range_with_len 0 16) >>= end_with run))) 4 1744 (driving_most Inv (ports.edt_update ∷ []))
+    (λ run. bind_most (nets_made 16) (λ stages. each (a_stage configuration.ring ports run stages) (range_with_len 0 16) >>= (λ _. collect (a_phase configuration.ring stages) (range_with_len 0 16) >>= end_with run)) 16 1728
     (collect_same (λ _. a_net) 1 (range_with_len 0 16) (λ x. net_most))
-    (λ stages. bind_most (each (a_stage configuration.ring ports run stages) (range_with_len 0 16)) (λ _. collect (a_phase configuration.ring stages) (range_with_len 0 16) >>= end_with run) 448 144
-    (each_same (a_stage configuration.ring ports run stages) 28 (range_with_len 0 16) (stage_most ports run stages))
-    (λ _. bind_most (collect (a_phase configuration.ring stages) (range_with_len 0 16)) (end_with run) 144 0 (collect_same (a_phase configuration.ring stages) 9 (range_with_len 0 16) (phase_most stages))
+    (λ stages. bind_most (each (a_stage configuration.ring ports run stages) (range_with_len 0 16)) (λ _. collect (a_phase configuration.ring stages) (range_with_len 0 16) >>= end_with run) 1296 432
+    (each_same (a_stage configuration.ring ports run stages) 81 (range_with_len 0 16) (stage_most ports run stages))
+    (λ _. bind_most (collect (a_phase configuration.ring stages) (range_with_len 0 16)) (end_with run) 432 0 (collect_same (a_phase configuration.ring stages) 27 (range_with_len 0 16) (phase_most stages))
     (λ phases. pure_none {A = Ring} (record { run = run; phases = phases })))))
 
 -- ---- the compactor
 
-next_most : (ports : EdtPorts) (run : NetId) (nets : MaskNets) → AtMost (a_next ports run nets) 6
+next_most : (ports : EdtPorts) (run : NetId) (nets : MaskNets) → AtMost (a_next ports run nets) 15
 unfolding a_next
 next_most ports run nets =
-    bind_most (a_driving_gate And (ports.edt_update ∷ nets.mask ∷ [])) (λ taken. a_driving_gate And (run ∷ nets.hold ∷ []) >>= (λ kept. a_driving_gate Or (taken ∷ kept ∷ []))) 2 4 (driving_most And (ports.edt_update ∷ nets.mask ∷ []))
-    (λ taken. bind_most (a_driving_gate And (run ∷ nets.hold ∷ [])) (λ kept. a_driving_gate Or (taken ∷ kept ∷ [])) 2 2 (driving_most And (run ∷ nets.hold ∷ [])) (λ kept. driving_most Or (taken ∷ kept ∷ [])))
+    bind_most (a_driving_gate And (ports.edt_update ∷ nets.mask ∷ [])) (λ taken. a_driving_gate And (run ∷ nets.hold ∷ []) >>= (λ kept. a_driving_gate Or (taken ∷ kept ∷ []))) 5 10 (driving_most And (ports.edt_update ∷ nets.mask ∷ []))
+    (λ taken. bind_most (a_driving_gate And (run ∷ nets.hold ∷ [])) (λ kept. a_driving_gate Or (taken ∷ kept ∷ [])) 5 5 (driving_most And (run ∷ nets.hold ∷ [])) (λ kept. driving_most Or (taken ∷ kept ∷ [])))
 
 abbrev pair_of : (mask hold : NetId) → MaskNets
 pair_of mask hold = record { mask = mask; hold = hold }
 
-mask_most : (ports : EdtPorts) (run before : NetId) → AtMost (a_mask ports run before) 10
+mask_most : (ports : EdtPorts) (run before : NetId) → AtMost (a_mask ports run before) 19
 unfolding a_mask
 mask_most ports run before =
-    bind_most a_net (λ mask. a_flop ports.edt_clock before mask >>= (λ _. a_net >>= (λ hold. a_next ports run (pair_of mask hold) >>= (λ next. a_flop ports.edt_clock next hold >>= (λ _. pure (pair_of mask hold)))))) 1 9 net_most
-    (λ mask. bind_most (a_flop ports.edt_clock before mask) (λ _. a_net >>= (λ hold. a_next ports run (pair_of mask hold) >>= (λ next. a_flop ports.edt_clock next hold >>= (λ _. pure (pair_of mask hold))))) 1 8 (flop_most ports.edt_clock before mask)
-    (λ _. bind_most a_net (λ hold. a_next ports run (pair_of mask hold) >>= (λ next. a_flop ports.edt_clock next hold >>= (λ _. pure (pair_of mask hold)))) 1 7 net_most
-    (λ hold. bind_most (a_next ports run (pair_of mask hold)) (λ next. a_flop ports.edt_clock next hold >>= (λ _. pure (pair_of mask hold))) 6 1 (next_most ports run (pair_of mask hold))
+    bind_most a_net (λ mask. a_flop ports.edt_clock before mask >>= (λ _. a_net >>= (λ hold. a_next ports run (pair_of mask hold) >>= (λ next. a_flop ports.edt_clock next hold >>= (λ _. pure (pair_of mask hold)))))) 1 18 net_most
+    (λ mask. bind_most (a_flop ports.edt_clock before mask) (λ _. a_net >>= (λ hold. a_next ports run (pair_of mask hold) >>= (λ next. a_flop ports.edt_clock next hold >>= (λ _. pure (pair_of mask hold))))) 1 17 (flop_most ports.edt_clock before mask)
+    (λ _. bind_most a_net (λ hold. a_next ports run (pair_of mask hold) >>= (λ next. a_flop ports.edt_clock next hold >>= (λ _. pure (pair_of mask hold)))) 1 16 net_most
+    (λ hold. bind_most (a_next ports run (pair_of mask hold)) (λ next. a_flop ports.edt_clock next hold >>= (λ _. pure (pair_of mask hold))) 15 1 (next_most ports run (pair_of mask hold))
     (λ next. bind_most (a_flop ports.edt_clock next hold) (λ _. pure (pair_of mask hold)) 1 0 (flop_most ports.edt_clock next hold) (λ _. pure_none (pair_of mask hold))))))
 
-segment_most : (ports : EdtPorts) (run before : NetId) (count : ℕ) → AtMost (a_segment ports run before count) (count * 10)
+segment_most : (ports : EdtPorts) (run before : NetId) (count : ℕ) → AtMost (a_segment ports run before count) (count * 19)
 unfolding a_segment
 segment_most ports run before zero = λ at. omega arith
 segment_most ports run before (suc count) =
-    at_most (a_segment ports run before (suc count)) (10 + (count * 10 + 0)) (suc count * 10) (omega arith)
-    (bind_most (a_mask ports run before) (λ first. a_segment ports run first.mask count >>= (λ more. pure (first ∷ more))) 10 (count * 10 + 0) (mask_most ports run before)
-    (λ first. bind_most (a_segment ports run first.mask count) (λ more. pure (first ∷ more)) (count * 10) 0 (segment_most ports run first.mask count) (λ more. pure_none (first ∷ more))))
+    at_most (a_segment ports run before (suc count)) (19 + (count * 19 + 0)) (suc count * 19) (omega arith)
+    (bind_most (a_mask ports run before) (λ first. a_segment ports run first.mask count >>= (λ more. pure (first ∷ more))) 19 (count * 19 + 0) (mask_most ports run before)
+    (λ first. bind_most (a_segment ports run first.mask count) (λ more. pure (first ∷ more)) (count * 19) 0 (segment_most ports run first.mask count) (λ more. pure_none (first ∷ more))))
 
-segment_few : (m : ℕ) → segment_length configuration m * 10 ≤ 90
+segment_few : (m : ℕ) → segment_length configuration m * 19 ≤ 171
 segment_few m = by (ltb m 0)
   where
-    by : (t : Bool) → (8 + cond t 1 0) * 10 ≤ 90
+    by : (t : Bool) → (8 + cond t 1 0) * 19 ≤ 171
     by true = omega arith
     by false = omega arith
 
-segments_most : (ports : EdtPorts) (run : NetId) (segment count : ℕ) → AtMost (segments configuration ports run segment count) (count * 90)
+segments_most : (ports : EdtPorts) (run : NetId) (segment count : ℕ) → AtMost (segments configuration ports run segment count) (count * 171)
 unfolding segments
 segments_most ports run segment zero = λ at. omega arith
 segments_most ports run segment (suc count) =
-    at_most (segments configuration ports run segment (suc count)) (90 + (count * 90 + 0)) (suc count * 90) (omega arith)
-    (bind_most (a_segment ports run (net_at ports.masks segment) (segment_length configuration segment)) (λ first. segments configuration ports run (segment + 1) count >>= (λ more. pure (first ++ more))) 90 (count * 90 + 0)
-    (at_most (a_segment ports run (net_at ports.masks segment) (segment_length configuration segment)) (segment_length configuration segment * 10) 90 (segment_few segment) (segment_most ports run (net_at ports.masks segment) (segment_length configuration segment)))
-    (λ first. bind_most (segments configuration ports run (segment + 1) count) (λ more. pure (first ++ more)) (count * 90) 0 (segments_most ports run (segment + 1) count) (λ more. pure_none (first ++ more))))
+    at_most (segments configuration ports run segment (suc count)) (171 + (count * 171 + 0)) (suc count * 171) (omega arith)
+    (bind_most (a_segment ports run (net_at ports.masks segment) (segment_length configuration segment)) (λ first. segments configuration ports run (segment + 1) count >>= (λ more. pure (first ++ more))) 171 (count * 171 + 0)
+    (at_most (a_segment ports run (net_at ports.masks segment) (segment_length configuration segment)) (segment_length configuration segment * 19) 171 (segment_few segment) (segment_most ports run (net_at ports.masks segment) (segment_length configuration segment)))
+    (λ first. bind_most (segments configuration ports run (segment + 1) count) (λ more. pure (first ++ more)) (count * 171) 0 (segments_most ports run (segment + 1) count) (λ more. pure_none (first ++ more))))
 
-gated_most : (hold end : NetId) → AtMost (a_gated hold end) 4
+gated_most : (hold end : NetId) → AtMost (a_gated hold end) 9
 unfolding a_gated
-gated_most hold end = bind_most (a_driving_gate Inv (hold ∷ [])) (λ shown. a_driving_gate And (shown ∷ end ∷ [])) 2 2 (driving_most Inv (hold ∷ [])) (λ shown. driving_most And (shown ∷ end ∷ []))
+gated_most hold end = bind_most (a_driving_gate Inv (hold ∷ [])) (λ shown. a_driving_gate And (shown ∷ end ∷ [])) 4 5 (driving_most Inv (hold ∷ [])) (λ shown. driving_most And (shown ∷ end ∷ []))
 
-output_most : (ports : EdtPorts) (gated : List NetId) (output : ℕ) → AtMost (an_output configuration ports gated output) 65
+output_most : (ports : EdtPorts) (gated : List NetId) (output : ℕ) → AtMost (an_output configuration ports gated output) 195
 unfolding an_output
 output_most ports gated output =
-    bind_most (a_sum (map (net_at gated) (group_of configuration output))) (λ sum. a_gate Buf (sum ∷ []) (net_at ports.outputs output)) 64 1
+    bind_most (a_sum (map (net_at gated) (group_of configuration output))) (λ sum. a_gate Buf (sum ∷ []) (net_at ports.outputs output)) 192 3
     (sum_most (map (net_at gated) (group_of configuration output)) 8 (omega (arith, get_few 8 configuration.compactor.groups output refl, length-map (group_of configuration output) (net_at gated)))) (λ sum. gate_most Buf (sum ∷ []) (net_at ports.outputs output))
 
 abbrev gates : (ends : List NetId) → (masks : List MaskNets) → Recipe (List NetId)
 gates ends masks = collect (λ chain. a_gated (masks_at masks chain).hold (net_at ends chain)) (range_with_len 0 16)
 
-compactor_most : (ports : EdtPorts) (run : NetId) (ends : List NetId) → AtMost (a_compactor configuration ports run ends) 374
+compactor_most : (ports : EdtPorts) (run : NetId) (ends : List NetId) → AtMost (a_compactor configuration ports run ends) 876
 unfolding a_compactor
 compactor_most ports run ends =
-    bind_most (segments configuration ports run 0 2) (λ masks. gates ends masks >>= (λ gated. each (an_output configuration ports gated) (range_with_len 0 2))) 180 194 (segments_most ports run 0 2)
-    (λ masks. bind_most (gates ends masks) (λ gated. each (an_output configuration ports gated) (range_with_len 0 2)) 64 130
-    (collect_same (λ chain. a_gated (masks_at masks chain).hold (net_at ends chain)) 4 (range_with_len 0 16) (λ chain. gated_most (masks_at masks chain).hold (net_at ends chain)))
-    (λ gated. each_same (an_output configuration ports gated) 65 (range_with_len 0 2) (output_most ports gated)))
+    bind_most (segments configuration ports run 0 2) (λ masks. gates ends masks >>= (λ gated. each (an_output configuration ports gated) (range_with_len 0 2))) 342 534 (segments_most ports run 0 2)
+    (λ masks. bind_most (gates ends masks) (λ gated. each (an_output configuration ports gated) (range_with_len 0 2)) 144 390
+    (collect_same (λ chain. a_gated (masks_at masks chain).hold (net_at ends chain)) 9 (range_with_len 0 16) (λ chain. gated_most (masks_at masks chain).hold (net_at ends chain)))
+    (λ gated. each_same (an_output configuration ports gated) 195 (range_with_len 0 2) (output_most ports gated)))
 
 -- ---- the chains
 
@@ -228,14 +228,14 @@ chains_few lockups count =
 -- ---- all of it
 
 pub edt_most : (n : Netlist) (plan : Plan) (gap : Gap) (ports : EdtPorts)
-    → AtMost (edt_recipe n configuration plan gap ports) (sum_of (λ cells. length cells * 1) plan.chains + (610 + ((length plan.chains * 2 + length plan.lockups * 2) + 374)))
+    → AtMost (edt_recipe n configuration plan gap ports) (sum_of (λ cells. length cells * 1) plan.chains + (1748 + ((length plan.chains * 2 + length plan.lockups * 2) + 876)))
 unfolding edt_recipe behind_rows
 edt_most n plan gap ports =
     let chains : ℕ = length plan.chains * 2 + length plan.lockups * 2 in
-    bind_most (rows n gap plan.chains) (behind_rows n configuration plan gap ports) (sum_of (λ cells. length cells * 1) plan.chains) (610 + (chains + 374)) (collect_most (a_row n gap) (λ cells. length cells * 1) plan.chains (row_most n gap))
+    bind_most (rows n gap plan.chains) (behind_rows n configuration plan gap ports) (sum_of (λ cells. length cells * 1) plan.chains) (1748 + (chains + 876)) (collect_most (a_row n gap) (λ cells. length cells * 1) plan.chains (row_most n gap))
     (λ outputs. bind_most (a_ring configuration ports)
-    (λ ring. each (an_edt_chain n configuration plan gap ports ring.phases outputs) (range_with_len 0 (length plan.chains)) >>= (λ _. a_compactor configuration ports ring.run (map last_net outputs))) 610 (chains + 374) (ring_most ports)
-    (λ ring. bind_most (each (an_edt_chain n configuration plan gap ports ring.phases outputs) (range_with_len 0 (length plan.chains))) (λ _. a_compactor configuration ports ring.run (map last_net outputs)) chains 374
+    (λ ring. each (an_edt_chain n configuration plan gap ports ring.phases outputs) (range_with_len 0 (length plan.chains)) >>= (λ _. a_compactor configuration ports ring.run (map last_net outputs))) 1748 (chains + 876) (ring_most ports)
+    (λ ring. bind_most (each (an_edt_chain n configuration plan gap ports ring.phases outputs) (range_with_len 0 (length plan.chains))) (λ _. a_compactor configuration ports ring.run (map last_net outputs)) chains 876
     (at_most (each (an_edt_chain n configuration plan gap ports ring.phases outputs) (range_with_len 0 (length plan.chains))) (sum_of (λ chain. 2 + here plan.lockups chain) (range_with_len 0 (length plan.chains))) chains (chains_few plan.lockups (length plan.chains))
     (each_most (an_edt_chain n configuration plan gap ports ring.phases outputs) (λ chain. 2 + here plan.lockups chain) (range_with_len 0 (length plan.chains))
     (λ chain. late_most n configuration gap plan.lockups chain (cells_at plan.chains chain) (row_at outputs chain) ports.edt_clock (net_at ring.phases chain))))

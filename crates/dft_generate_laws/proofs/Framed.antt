@@ -94,7 +94,7 @@ pub record IsSmall (size : ℕ) (plan : Plan) : Type 0 where
   pub lockups : length plan.lockups ≤ size
   pub chains : length plan.chains ≡ 16
 
-plan_small : (size : ℕ) (words : List ℕ) → size ≤ 20000 → 0 < size → IsSmall size (plan_of (design size words) configuration)
+pub plan_small : (size : ℕ) (words : List ℕ) → size ≤ 20000 → 0 < size → IsSmall size (plan_of (design size words) configuration)
 plan_small size words few some =
     let verdicts : List (Option Judged) = judgements (design size words) configuration in
     let cells : List InstanceId = cells_of (design size words) configuration in
@@ -171,7 +171,7 @@ module _ (size : ℕ) (words : List ℕ) (few : size ≤ 20000) (some : 0 < size
       cut (suc k) [] = omega arith
       cut (suc k) (x ∷ xs) = let i = cut k xs in omega (arith, i)
 
-  fresh : IsFresh (framed Edt (design size words) configuration) 61016
+  fresh : IsFresh (framed Edt (design size words) configuration) 62656
   fresh =
       let nets = nets-few size words in
       let instances = instances-length all size words size 0 in
@@ -195,7 +195,7 @@ module _ (size : ℕ) (words : List ℕ) (few : size ≤ 20000) (some : 0 < size
       let cells = small.cells in
       let lockups = small.lockups in
       let chains = small.chains in
-      parts_pass (parts_of Edt n configuration plan) (framed Edt n configuration) 61016 (omega (arith, most, cells, lockups, ap (λ (k : ℕ). k * 2) chains, few)) fresh
+      parts_pass (parts_of Edt n configuration plan) (framed Edt n configuration) 62656 (omega (arith, most, cells, lockups, ap (λ (k : ℕ). k * 2) chains, few)) fresh
 
   -- ---- the added ports
 

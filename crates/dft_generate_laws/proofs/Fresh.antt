@@ -21,7 +21,7 @@ use Rattle.dft_netlist.proofs.RefusalLemmas.{net_open, instance_open}
 use Rattle.dft_parts.specs.MadeNames.{made_net, made_instance}
 use Rattle.dft_parts.specs.Parts.{Part, ANet, AnInstance, APin, Making, with_net, with_instance, with_pin, instance_joined, parts_refusal, or_else}
 use Rattle.dft_generate_laws.proofs.Nets.{has-other}
-use Rattle.dft_generate_laws.proofs.Sizes.{size_of}
+use Rattle.dft_generate_laws.proofs.Sizes.{instance_counts, size_of}
 
 -- ---- names that are not there
 
@@ -168,11 +168,11 @@ parts_pass (ANet ∷ parts) s (suc room) le f =
     ap (λ (o : Option NetlistError). or_else o (parts_refusal (with_net s) parts))
     (net_open s.netlist (made_net s.made.nets) (free_is s.netlist (made_net s.made.nets) (f.nets s.made.nets (omega arith) (omega (arith, low)))) (omega (arith, few)))
     ∙ parts_pass parts (with_net s) room (omega (arith, le)) (net_fresh s room f)
-parts_pass (AnInstance cell pins ∷ parts) s zero le f = absurd (omega (arith, le))
+parts_pass (AnInstance cell pins ∷ parts) s zero le f = absurd (omega (arith, le, instance_counts cell pins parts))
 parts_pass (AnInstance cell pins ∷ parts) s (suc room) le f =
     let few = f.few_instances in
     let low = f.low_instances in
     ap (λ (o : Option NetlistError). or_else o (parts_refusal (with_instance s cell pins) parts))
     (instance_open s.netlist (Some (made_instance s.made.instances)) (first_free s.netlist (made_instance s.made.instances) (free_is s.netlist (made_instance s.made.instances) (f.instances s.made.instances (omega arith) (omega (arith, low))))) (omega (arith, few)))
-    ∙ parts_pass parts (with_instance s cell pins) room (omega (arith, le)) (instance_fresh s cell pins room f)
+    ∙ parts_pass parts (with_instance s cell pins) room (omega (arith, le, instance_counts cell pins parts)) (instance_fresh s cell pins room f)
 parts_pass (APin instance pin net ∷ parts) s room le f = parts_pass parts (with_pin s instance pin net) room le (pin_fresh s instance pin net room f)

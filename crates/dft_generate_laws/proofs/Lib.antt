@@ -19,8 +19,10 @@ pub mod NetNames
 pub mod NetlistLaws
 pub mod Nets
 pub mod Places
+pub mod Reported
 pub mod Plans
 pub mod Said
+pub mod ScannedTexts
 pub mod Seeds
 pub mod Sizes
 pub mod Sound

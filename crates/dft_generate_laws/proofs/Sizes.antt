@@ -1,16 +1,21 @@
 -- How many nets and instances recipes make at most.
-use Rattle.std.proofs.Common.{◌≡◌, ℕ, zero, suc, ◌+◌, ◌*◌, ◌<◌, ◌≤◌, Bool, true, false, List, [], ◌∷◌, ◌++◌, length, refl, sym, ap, ◌∙◌, arith}
+use Rattle.std.proofs.Common.{◌≡◌, ℕ, zero, suc, ◌+◌, ◌*◌, ◌<◌, ◌≤◌, Bool, true, false, List, [], ◌∷◌, ◌++◌, length, refl, sym, ap, ◌∙◌, arith, length-append}
 use Rattle.std.specs.Prelude.{◌==◌, if◌then◌else◌}
 use Rattle.std.specs.List.{range_with_len}
 use Rattle.std.proofs.Math.Nat.{suc-mul}
 use Rattle.std.proofs.lemmas.Bool.Decides.{nat_tests}
 use Rattle.std.proofs.lemmas.Nat.{mul-le}
+use Rattle.std.proofs.lemmas.List.{length-map}
 use Rattle.dft_parts.specs.Parts.{Part, ANet, AnInstance, APin}
-use Rattle.dft_parts.specs.Recipes.{Start, Recipe, pure, ◌>>=◌, behind, each, collect, a_net, a_gate, a_flop, a_lockup}
+use Rattle.dft_parts.specs.Recipes.{Start, Recipe, pure, ◌>>=◌, behind, each, collect, at_nets, a_net, a_gate, a_flop, a_lockup}
 use Rattle.dft_parts.specs.Sums.{a_driving_gate, pairs, levels, a_sum}
 use Rattle.dft_cells.specs.declared.kind.Kind.{Kind}
 use Rattle.dft_cells.specs.declared.kind.Kind.TheVariants.{Xor}
 use Rattle.dft_netlist.specs.declared.ids.NetId.{NetId}
+use Rattle.dft_netlist.specs.declared.instance.CellRef.{CellRef}
+use Rattle.dft_netlist.specs.declared.instance.CellRef.TheVariants.{Library, Gate}
+use Rattle.dft_netlist.specs.declared.instance.Signal.{Signal}
+use Rattle.dft_netlist.specs.declared.instance.Signal.TheVariants.{Net}
 
 -- ---- sums
 
@@ -54,18 +59,25 @@ sum_swap f (x ∷ xs) ys = let i = sum_swap f xs ys in let a = sum_add (f x) (λ
 
 -- ---- parts
 
--- how many nets and instances are among parts
+-- how many nets and instances are among parts, where a gate counts once more for each pin
 abbrev pub size_of : List Part → ℕ
 size_of [] = 0
 size_of (ANet ∷ parts) = suc (size_of parts)
-size_of (AnInstance cell pins ∷ parts) = suc (size_of parts)
+size_of (AnInstance (Library id) pins ∷ parts) = suc (size_of parts)
+size_of (AnInstance (Gate kind inputs) pins ∷ parts) = suc (length pins + size_of parts)
 size_of (APin instance pin net ∷ parts) = size_of parts
 
 pub size_append : (xs ys : List Part) → size_of (xs ++ ys) ≡ size_of xs + size_of ys
 size_append [] ys = omega arith
 size_append (ANet ∷ xs) ys = let i = size_append xs ys in omega (arith, i)
-size_append (AnInstance cell pins ∷ xs) ys = let i = size_append xs ys in omega (arith, i)
+size_append (AnInstance (Library id) pins ∷ xs) ys = let i = size_append xs ys in omega (arith, i)
+size_append (AnInstance (Gate kind inputs) pins ∷ xs) ys = let i = size_append xs ys in omega (arith, i)
 size_append (APin instance pin net ∷ xs) ys = size_append xs ys
+
+-- an instance counts
+pub instance_counts : (cell : CellRef) (pins : List Signal) (parts : List Part) → suc (size_of parts) ≤ size_of (AnInstance cell pins ∷ parts)
+instance_counts (Library id) pins parts = omega arith
+instance_counts (Gate kind inputs) pins parts = omega arith
 
 -- a recipe makes so many at most, wherever it begins
 abbrev pub AtMost : {A : Type 0} → Recipe A → ℕ → Type 0
@@ -115,8 +127,8 @@ collect_same f most xs h = at_most (collect f xs) (sum_of (λ x. most) xs) (leng
 pub net_most : AtMost a_net 1
 net_most at = omega arith
 
-pub gate_most : (kind : Kind) (inputs : List NetId) (output : NetId) → AtMost (a_gate kind inputs output) 1
-gate_most kind inputs output at = omega arith
+pub gate_most : (kind : Kind) (inputs : List NetId) (output : NetId) → AtMost (a_gate kind inputs output) (2 + length inputs)
+gate_most kind inputs output at = omega (arith, length-append (at_nets inputs) (Net output ∷ []), length-map inputs (λ (net : NetId). Net net))
 
 pub flop_most : (clock input output : NetId) → AtMost (a_flop clock input output) 1
 flop_most clock input output at = omega arith
@@ -124,13 +136,13 @@ flop_most clock input output at = omega arith
 pub lockup_most : (clock input output : NetId) → AtMost (a_lockup clock input output) 1
 lockup_most clock input output at = omega arith
 
-pub driving_most : (kind : Kind) (inputs : List NetId) → AtMost (a_driving_gate kind inputs) 2
+pub driving_most : (kind : Kind) (inputs : List NetId) → AtMost (a_driving_gate kind inputs) (3 + length inputs)
 unfolding a_driving_gate
-driving_most kind inputs at = omega arith
+driving_most kind inputs at = let output : NetId = record { 0 = at.next } in omega (arith, length-append (at_nets inputs) (Net output ∷ []), length-map inputs (λ (net : NetId). Net net))
 
--- a level makes no more than there are nets, and leaves no more
+-- a level makes no more than three for each net, and leaves no more nets
 pub record PairsMost (nets : List NetId) (at : Start) : Type 0 where
-  pub made : size_of (pairs nets at).parts ≤ length nets
+  pub made : size_of (pairs nets at).parts ≤ length nets * 3
   pub left : length (pairs nets at).value ≤ length nets
 
 pairs_most : (nets : List NetId) (at : Start) → PairsMost nets at
@@ -144,7 +156,7 @@ pairs_most (a ∷ b ∷ nets) at =
     let left = rest.left in
     record { made = omega (arith, made, size_append (pairs nets start).parts []); left = omega (arith, left) }
 
-levels_most : (count most : ℕ) (nets : List NetId) (at : Start) → length nets ≤ most → size_of (levels count nets at).parts ≤ count * most
+levels_most : (count most : ℕ) (nets : List NetId) (at : Start) → length nets ≤ most → size_of (levels count nets at).parts ≤ count * (most * 3)
 unfolding levels
 levels_most zero most nets at le = omega arith
 levels_most (suc count) most nets at le =
@@ -153,12 +165,12 @@ levels_most (suc count) most nets at le =
     let left = first.left in
     let start = behind at (pairs nets at).parts in
     let rest = levels_most count most (pairs nets at).value start (omega (arith, left, le)) in
-    let e : suc count * most ≡ count * most + most = suc-mul count most in
+    let e : suc count * (most * 3) ≡ count * (most * 3) + most * 3 = suc-mul count (most * 3) in
     omega (arith, made, rest, e, le, size_append (pairs nets at).parts (levels count (pairs nets at).value start).parts)
 
-pub sum_most : (terms : List NetId) (most : ℕ) → length terms ≤ most → AtMost (a_sum terms) (most * most)
+pub sum_most : (terms : List NetId) (most : ℕ) → length terms ≤ most → AtMost (a_sum terms) (most * (most * 3))
 unfolding a_sum
 sum_most terms most le at =
     let made = levels_most (length terms) most terms at le in
-    let few : length terms * most ≤ most * most = mul-le (length terms) most most most le (omega arith) in
+    let few : length terms * (most * 3) ≤ most * (most * 3) = mul-le (length terms) (most * 3) most (most * 3) le (omega arith) in
     omega (arith, made, few, size_append (levels (length terms) terms at).parts [])

@@ -40,7 +40,7 @@ part_few cells few = by (ltb 0 (cells % 16)) refl
     by true is = let some : 0 < cells % 16 = grind (arith, nat_tests) in omega (arith, few, some)
     by false is = omega (arith, few)
 
-cycles_few : (cells : ℕ) → cells ≤ 16240 → cycles_of configuration cells ≤ 1031
+pub cycles_few : (cells : ℕ) → cells ≤ 16240 → cycles_of configuration cells ≤ 1031
 cycles_few cells few = max-le {a = 16 + part_length cells 16 0} {b = 8} {k = 1031} (let p = part_few cells few in omega (arith, p)) (omega arith)
 
 -- the vectors of so many patterns

@@ -17,6 +17,8 @@ use Rattle.dft_vectors.specs.VectorList.{notes_of}
 use Rattle.dft_encode.specs.Compiled.{Placing}
 use Rattle.dft_encode.specs.Laws.{vectors_in}
 use Rattle.dft_cubes.specs.Cubes.{cubes_of}
+use Rattle.dft_report.specs.declared.limits.TheConstants.{MAX_BYTES}
+use Rattle.dft_compile.specs.Texts.{netlist_text as scanned_text, report_text}
 use Rattle.dft_generate.specs.Configurations.{configuration, configuration_text}
 use Rattle.dft_generate.specs.Configurations as stated
 use Rattle.dft_generate.specs.Cubes.{cubes_text}
@@ -71,6 +73,16 @@ PatternTextsFit =
     (size : ℕ) (words : List ℕ) → IsSize size → (placing : Placing configuration (plan_of (design size words) configuration) (cubes_in size words)) →
     let cycles = (plan_of (design size words) configuration).cycles in
     let patterns = length placing.merged in written_length (signals_of (scanned Edt (design size words) configuration)) (vectors_in cycles patterns) (notes_of cycles patterns) ≤ MAX_TEXT
+
+-- up to a size of 16,240, and however the cubes are placed, the report is no longer than a report may be
+abbrev pub ReportsFit : Type 0
+ReportsFit =
+    (size : ℕ) (words : List ℕ) → IsSize size → size ≤ 16240 → (placing : Placing configuration (plan_of (design size words) configuration) (cubes_in size words)) →
+    length (report_text (design size words) configuration placing.rows (cubes_in size words) placing.placed) ≤ MAX_BYTES
+
+-- the text of the scanned netlist is short: at most 1,600 bytes for each cell and 900,000 more
+abbrev pub ScannedAreShort : Type 0
+ScannedAreShort = (size : ℕ) (words : List ℕ) → IsSize size → length (scanned_text (design size words) configuration) ≤ 1600 * size + 900000
 
 -- the texts are short: at most 100 bytes for each cell and 81 more, 1,024, and 80 for each cube
 pub record AreShort (size : ℕ) (words : List ℕ) : Type 0 where

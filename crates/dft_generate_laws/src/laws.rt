@@ -1,6 +1,6 @@
 //! Laws of generated jobs, as contracts of functions that do nothing.
 
-ghost use Rattle.dft_generate_laws.specs.Laws.{CubesAreRead, DesignsAreAccepted, JobsAreRead, NetlistsAreRead, PatternTextsFit, PatternsFit, SeedsGiveWords, TextsAreShort};
+ghost use Rattle.dft_generate_laws.specs.Laws.{CubesAreRead, DesignsAreAccepted, JobsAreRead, NetlistsAreRead, PatternTextsFit, PatternsFit, ReportsFit, ScannedAreShort, SeedsGiveWords, TextsAreShort};
 
 /// The law that the netlist text of every size from 16 to 20,000, from whatever words, stands for the stated design over the standard
 /// library: so it is read, and as this design.
@@ -36,6 +36,16 @@ pub fn patterns_fit()
 /// The law that of every size, and however the cubes are placed, the text of their patterns is no longer than a pattern text may be.
 pub fn pattern_texts_fit()
     ensures { PatternTextsFit }
+{}
+
+/// The law that up to a size of 16,240, and however the cubes are placed, the report of them is no longer than a report may be.
+pub fn reports_fit()
+    ensures { ReportsFit }
+{}
+
+/// The law that the netlist text that comes of every size is short, far below the limit of a netlist file.
+pub fn scanned_texts_are_short()
+    ensures { ScannedAreShort }
 {}
 
 /// The law that the texts of the job of every seed and size are short, each far below the limit of its file.

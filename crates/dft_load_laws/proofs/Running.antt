@@ -144,7 +144,7 @@ module _ (n : Netlist) (config : Config) (ready : IsReady n config) where
 
 begin : Now
 begin = record {
-  state = record { ports = λ net. Unknown; flops = λ c. false; held = λ net. false; high = λ d. false };
+  state = record { ports = λ net. Unknown; flops = λ c. false; high = λ d. false };
   moment = record { free = λ net. false; loose = λ i pin. false; seen = λ net. false };
 }
 

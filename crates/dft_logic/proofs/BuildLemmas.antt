@@ -3,8 +3,9 @@ use Rattle.std.proofs.Common.{ℕ, List, [], ◌∷◌, ◌++◌, ◌≡◌, ◌
 use Rattle.std.proofs.Math.ListN.{get_or-append}
 use Rattle.std.proofs.Math.Seq.{get_or-append_seam}
 use Rattle.dft_netlist.specs.Netlist.{Netlist}
-use Rattle.dft_netlist.specs.Logic.{Ports, Cell, cell_or_none}
+use Rattle.dft_netlist.specs.Logic.{Ports, Cell, is_lockup, cell_or_none}
 use Rattle.std.specs.Prelude.{if◌then◌else◌}
+use Rattle.std.specs.Option.{option_or}
 use Rattle.dft_cells.specs.declared.kind.Kind.{Kind}
 use Rattle.dft_cells.specs.FlipFlops.{is_flip_flop}
 use Rattle.dft_netlist.specs.Drivers.{kind_at, pins_of}
@@ -12,10 +13,10 @@ use Rattle.dft_logic.specs.declared.circuit.Op.{Op}
 use Rattle.dft_logic.specs.declared.circuit.Operand.TheVariants.{Net}
 use Rattle.dft_logic.specs.declared.circuit.FlipFlop.{FlipFlop}
 use Rattle.dft_logic.specs.declared.circuit.Latch.{Latch}
-use Rattle.dft_logic.proofs.OpLemmas.{modelled_same}
+use Rattle.dft_logic.proofs.OpLemmas.{modelled_same, lockup_in_same}
 use Rattle.dft_logic.specs.declared.circuit.Op.TheVariants.{Free}
 use Rattle.dft_logic.specs.Circuit.{op_at, cell_of, latch_of}
-use Rattle.dft_logic.specs.Compiling.{Wired, wired_by, modelled_in, latch_in, latch_kept, IsOpOf, IsFlopOf, IsLatchOf, AreFlops, AreLatches}
+use Rattle.dft_logic.specs.Compiling.{Wired, wired_by, stored_in, latch_in, latch_kept, IsOpOf, IsFlopOf, IsLatchOf, AreFlops, AreLatches}
 
 -- each place of a list has what it should, and one more
 pub pushed : {X : Type 0} (P : ℕ → X → Type 0) (xs new : List X) (x d : X) (count : ℕ) → length xs ≡ count → new ≡ xs ++ x ∷ [] → ((k : ℕ) → k < count → P k (get_or xs k d)) → P count x →
@@ -38,11 +39,12 @@ flop_pushed n ports flops new f count grown before here = (let both = pushed (Is
 pub latch_pushed : (n : Netlist) (ports : Ports) (latches new : List (Option Latch)) (x : Option Latch) (count : ℕ) → new ≡ latches ++ x ∷ [] → AreLatches n ports count latches → IsLatchOf n ports count x → AreLatches n ports (count + 1) new
 latch_pushed n ports latches new x count grown before here = (let both = pushed (IsLatchOf n ports) latches new x None count before.size grown before.each here in record { size = both.0; each = both.1 })
 
--- the flip-flop of an instance, from its pins
-pub flop_is : (n : Netlist) (ports : Ports) (i : ℕ) (k : Kind) (ws : List Wired) (f : FlipFlop) → cell_of f ≡ cell_or_none i (if is_flip_flop k then modelled_in n ports i ws else None) → k ≡ kind_at n i → ws ≡ map (wired_by i) (pins_of n i) → IsFlopOf n ports i f
+-- the cell of an instance, from its pins
+pub flop_is : (n : Netlist) (ports : Ports) (i : ℕ) (k : Kind) (ws : List Wired) (f : FlipFlop) → cell_of f ≡ cell_or_none i (stored_in n ports i k ws) → k ≡ kind_at n i → ws ≡ map (wired_by i) (pins_of n i) → IsFlopOf n ports i f
 flop_is n ports i k ws f is ke we =
     let C : Option Cell → Cell = cell_or_none i in
-    is ∙ (λ t. C (if is_flip_flop (ke t) then modelled_in n ports i (we t) else None)) ∙ (λ t. C (if is_flip_flop (kind_at n i) then modelled_same n ports i (pins_of n i) t else None))
+    is ∙ (λ t. C (stored_in n ports i (ke t) (we t)))
+    ∙ (λ t. C (option_or (if is_flip_flop (kind_at n i) then modelled_same n ports i (pins_of n i) t else None) (if is_lockup (kind_at n i) then lockup_in_same n ports i (pins_of n i) t else None)))
 
 pub latch_is_kept : (n : Netlist) (ports : Ports) (i : ℕ) (k : Kind) (ws : List Wired) (x : Option Latch) → latch_of x ≡ latch_kept k (latch_in n ports i ws) → k ≡ kind_at n i → ws ≡ map (wired_by i) (pins_of n i) → IsLatchOf n ports i x
 latch_is_kept n ports i k ws x is ke we = is ∙ (λ t. latch_kept (ke t) (latch_in n ports i (we t)))

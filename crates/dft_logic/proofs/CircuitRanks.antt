@@ -97,12 +97,16 @@ rank_lower x is k less =
     let m = length-map x.order.items (λ (n : NetId). n.0) in
     omega arith
 
-pub circuit_ranked : (x : Circuit) → IsCircuit x → IsRanked (logic_at x) (rank_of x)
+circuit_order : (x : Circuit) → IsCircuit x → (k : ℕ) → AreBelow (rank_of x) (rank_of x k) (reads ((logic_at x).net k))
 unfolding logic_at rank_of
-circuit_ranked x is k =
+circuit_order x is k =
     let s = ranked_from x.ops.items (numbers_of x.order.items) [] 0 (λ n. 0) is.after (start x.ops.items) in
     elim (leb_tells (length x.ops.items) k) [
       | inl out ↦ (let R : Op → Type 0 = λ o. AreBelow (rank_from 0 (λ n. 0) (numbers_of x.order.items)) (rank_from 0 (λ n. 0) (numbers_of x.order.items) k) (reads (meaning o)) in
           subst R (sym (get_or_past x.ops.items k op.Free out.1)) tt)
       | inr live ↦ s.below k (inr (is.whole k live.1))
     ]
+
+pub circuit_ranked : (x : Circuit) → IsCircuit x → IsRanked (logic_at x) (rank_of x)
+unfolding logic_at
+circuit_ranked x is = record { order = circuit_order x is; lockups = is.stored }

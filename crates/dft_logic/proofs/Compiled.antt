@@ -2,6 +2,7 @@
 use Rattle.std.proofs.Common.{ℕ, Bool, true, false, List, [], ◌∷◌, ◌≡◌, ◌<◌, ◌≤◌, Option, None, Some, inl, inr, length, map, refl, sym, ap, ◌∙◌, subst, arith}
 use Rattle.std.specs.Prelude.{if◌then◌else◌}
 use Rattle.std.specs.List.{AllByRecursion}
+use Rattle.std.specs.Option.{option_or}
 use Rattle.std.proofs.lemmas.Bool.Decides.{leb_tells}
 use Rattle.std.proofs.lemmas.List.{get_or_past, length-map}
 use Rattle.std.proofs.lemmas.Option.{slice_get_past}
@@ -17,9 +18,10 @@ use Rattle.dft_netlist.specs.Sound.{IsNetlist}
 use Rattle.dft_netlist.specs.Traces.{Root, Port, Constant, Other, root_of}
 use Rattle.dft_netlist.specs.Drivers.{Source, Net, Tied, Loose, Driver, Connection, source_of, kind_of, kind_at, pins_of, driver, nets_of, nets_read, is_lockup_input, lockup_inputs}
 use Rattle.dft_netlist.specs.Drivers as drivers
-use Rattle.dft_netlist.specs.Logic.{Ports, Cell, Meaning, same_role, pin_of, or_loose, domain_of, domain_at, flip_flop, modelled_of, no_cell, cell_or_none, flop_meaning, lockup_meaning, meaning_of, logic_of, reads}
+use Rattle.dft_netlist.specs.Logic.{Ports, Cell, Meaning, same_role, pin_of, or_loose, domain_of, domain_at, flip_flop, modelled_of, locked, is_lockup, no_cell, cell_or_none, flop_meaning, lockup_meaning, meaning_of, logic_of, reads}
 use Rattle.dft_netlist.specs.Logic as meanings
 use Rattle.dft_netlist.specs.Orders.{Has, IsOrderFrom, IsOrder, numbers_of}
+use Rattle.dft_netlist.proofs.StoredLemmas.{lockup_stored}
 use Rattle.dft_logic.specs.declared.circuit.Op.{Op}
 use Rattle.dft_logic.specs.declared.circuit.Op.TheVariants.{Free}
 use Rattle.dft_logic.specs.declared.circuit.Latch.{Latch}
@@ -97,7 +99,9 @@ ordered_from n ports ops size means (net ∷ nets) before ordered =
 
 pub past_cell : (n : Netlist) (ports : Ports) (i : ℕ) → length n.instances ≤ i → (logic_of n ports).cell i ≡ no_cell i
 past_cell n ports i far =
-    let P : Option Instance → Cell = λ o. cell_or_none i (if is_flip_flop (kind_of n.library o) then modelled_of n ports i (pins_of n i) else None) in
+    let domain : Option ℕ = domain_at n ports (pin_of Clock i (pins_of n i)) in
+    let P : Option Instance → Cell = λ o. cell_or_none i (option_or (if is_flip_flop (kind_of n.library o) then modelled_of n ports i (pins_of n i) else None)
+    (if is_lockup (kind_of n.library o) then locked domain (or_loose i (pin_of Din i (pins_of n i))) else None)) in
     ap P (slice_get_past n.instances i far)
 
 -- ---- a lock-up's domain is a clock
@@ -172,6 +176,7 @@ circuit_of n ports x sound order size each flops latches tables =
           | inl out ↦ (let far : length x.ops.items ≤ k = omega (arith, out.1) in let f = ap meaning (get_or_past x.ops.items k Free far) in let g : meaning Free ≡ meanings.Lockup c e source = sym f ∙ h in absurd cc)
           | inr live ↦ (let found = (each k live.1).latch c e source h in latches.each c found.0 ∙ found.1)
         ];
+        stored = λ k c e source h. cells c ∙ lockup_stored n ports k c e source (sym (means k) ∙ h);
         instances = latches.size ∙ sym flops.size;
         tables = tables;
       };

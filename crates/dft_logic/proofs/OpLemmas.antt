@@ -18,12 +18,12 @@ use Rattle.dft_base.specs.Lexing.{Text}
 use Rattle.dft_netlist.specs.Sound.{IsNetlist, IsCellOf, is_primitive}
 use Rattle.dft_netlist.specs.Netlist.{Netlist}
 use Rattle.dft_netlist.specs.Drivers.{Source, Connection, source_of, is_input, inputs_of, gate_roles, shape_of_cell, shape_of, connections_from, driver_of_kind, driver, kind_of, kind_at, pins_at, pins_of}
-use Rattle.dft_netlist.specs.Logic.{Ports, Cell, Meaning, Gate, Lockup, Free, Input, Clock, Joined, Flop, same_role, pin_of, or_loose, domain_at, forcing, scan_of, modelled, modelled_of, flip_flop, lockup_meaning, flop_meaning, meaning_of}
+use Rattle.dft_netlist.specs.Logic.{Ports, Cell, Meaning, Gate, Lockup, Free, Input, Clock, Joined, Flop, same_role, pin_of, or_loose, domain_at, forcing, scan_of, modelled, modelled_of, flip_flop, locked, lockup_meaning, flop_meaning, meaning_of}
 use Rattle.dft_netlist.proofs.SettledLemmas.{no_flop}
 use Rattle.dft_logic.specs.declared.circuit.Op.{Op}
 use Rattle.dft_logic.specs.declared.circuit.Op.TheVariants as op
 use Rattle.dft_logic.specs.Circuit.{source_at, meaning, Fits}
-use Rattle.dft_logic.specs.Compiling.{Wired, wired_by, inputs_in, found_in, modelled_in, latch_in, with_source, meaning_in, latch_kept, kept_latch, IsOpOf}
+use Rattle.dft_logic.specs.Compiling.{Wired, wired_by, inputs_in, found_in, modelled_in, lockup_in, latch_in, with_source, meaning_in, latch_kept, kept_latch, IsOpOf}
 
 -- ---- pins as wires
 
@@ -47,6 +47,9 @@ pub modelled_same : (n : Netlist) (ports : Ports) (i : ℕ) (pins : List Connect
 modelled_same n ports i pins = λ t.
     modelled (domain_at n ports (found_same role.Clock i pins t)) (forcing n ports (found_same role.Reset i pins t) (found_same role.Preset i pins t))
     (or_loose i (found_same role.Din i pins t)) (scan_of (found_same role.ScanEnable i pins t) (found_same role.ScanIn i pins t))
+
+pub lockup_in_same : (n : Netlist) (ports : Ports) (i : ℕ) (pins : List Connection) → lockup_in n ports i (map (wired_by i) pins) ≡ locked (domain_at n ports (pin_of role.Clock i pins)) (or_loose i (pin_of role.Din i pins))
+lockup_in_same n ports i pins = λ t. locked (domain_at n ports (found_same role.Clock i pins t)) (or_loose i (found_same role.Din i pins t))
 
 flop_same : (n : Netlist) (ports : Ports) (i : ℕ) (inverted : Bool) (k : Kind) → is_flip_flop k ≡ true → k ≡ kind_at n i →
     flop_meaning i inverted (modelled_in n ports i (map (wired_by i) (pins_of n i))) ≡ flop_meaning i inverted (flip_flop n ports i)

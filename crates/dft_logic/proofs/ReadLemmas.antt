@@ -69,7 +69,7 @@ needed_within : (l : Logic) (rank : ℕ → ℕ) (t s : ℕ → TriSources) (nee
 needed_within l rank t s needs v w ranked closed tv sw ports clocks flops lockups zero d net less need = absurd (omega arith)
 needed_within l rank t s needs v w ranked closed tv sw ports clocks flops lockups (suc fuel) d net less need =
     let e : ℕ = read_in d (l.net net) in
-    let same : Agree (v e) (w e) (reads (l.net net)) = all_agree rank (rank net) (needs e) (v e) (w e) (reads (l.net net)) (ranked net) (closed d net need)
+    let same : Agree (v e) (w e) (reads (l.net net)) = all_agree rank (rank net) (needs e) (v e) (w e) (reads (l.net net)) (ranked.order net) (closed d net need)
     (λ k below has. needed_within l rank t s needs v w ranked closed tv sw ports clocks flops lockups fuel e k (omega arith) has) in
     tv d net need ∙ given_agrees (t d) (s d) v w d net (l.net net) (ports d) (clocks d net need) (flops d net need) (lockups d) same ∙ sym (sw d net need)
 

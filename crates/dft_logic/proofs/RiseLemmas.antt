@@ -33,7 +33,7 @@ above_within l rank p poss view settled ranked over views strobe (suc fuel) d ne
     at_nets _ _ _ _ (views d net) (strobe net)
     (meaning_monotone rank (view_sources l p poss view d) (strobe_from p.ports p.old settled) (view d) settled net
     (λ k. above_self (p.ports k)) (λ e. over_low (p.pulsed e) (e == d)) (λ c. over_old (p.pulsed (l.cell c).domain) ((l.cell c).domain == d) (p.old c) (poss c) (over c))
-    (l.net net) (ranked net) (ih d) (λ c e source below. source_monotone rank (rank net) (view e) settled source below (ih e)))
+    (l.net net) (ranked.order net) (ih d) (λ c e source below. source_monotone rank (rank net) (view e) settled source below (ih e)))
 
 pub view_is_above_strobe : ViewIsAboveStrobe
 view_is_above_strobe l rank p poss view settled ranked over views strobe d net = above_within l rank p poss view settled ranked over views strobe (suc (rank net)) d net (omega arith)

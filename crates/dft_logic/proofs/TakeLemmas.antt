@@ -86,7 +86,7 @@ origin_within : (l : Logic) (rank : ℕ → ℕ) (origin : ℕ → Option ℕ) (
 origin_within l rank origin ports flops settled ranked origins strobe zero net c less is = absurd (omega arith)
 origin_within l rank origin ports flops settled ranked origins strobe (suc fuel) net c less is =
     strobe net
-    ∙ origin_step rank (rank net) origin ports flops settled net c (l.net net) (ranked net)
+    ∙ origin_step rank (rank net) origin ports flops settled net c (l.net net) (ranked.order net)
     (λ k below has. origin_within l rank origin ports flops settled ranked origins strobe fuel k c (omega arith) has) (sym (origins net) ∙ is)
 
 pub origin_is_shown : OriginIsShown

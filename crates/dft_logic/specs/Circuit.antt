@@ -1,4 +1,4 @@
--- A design made ready for settling: what each net takes its value from, and the flip-flop of each instance.
+-- A design made ready for settling: what each net takes its value from, and the flip-flop or lock-up of each instance.
 use Rattle.std.specs.Prelude.{ℕ, Bool, false, ◌≡◌, ◌<◌, List, [], ◌∷◌, map, length, Option, None, Some, slice_index_or, option_map}
 use Rattle.std.specs.List.{AllByRecursion}
 use Rattle.dft_base.specs.declared.tri.Tri.{Tri}
@@ -6,7 +6,7 @@ use Rattle.dft_base.specs.declared.tri.Tri.TheVariants.{Unknown}
 use Rattle.dft_cells.specs.WellFormed.{TakesInputs}
 use Rattle.dft_netlist.specs.Drivers.{Source}
 use Rattle.dft_netlist.specs.Drivers as drivers
-use Rattle.dft_netlist.specs.Logic.{Logic, Meaning, Cell, Scan, Force, reads, no_cell}
+use Rattle.dft_netlist.specs.Logic.{Logic, Meaning, Cell, Scan, Force, reads, lockup_cell, no_cell}
 use Rattle.dft_netlist.specs.Logic as meanings
 use Rattle.dft_netlist.specs.Settled.{TriSources, value_from, value_given}
 use Rattle.dft_netlist.specs.Orders.{Has, numbers_of}
@@ -136,6 +136,8 @@ pub record IsCircuit (x : Circuit) : Type 0 where
   pub count : length x.order.items ≡ length x.ops.items
   -- a lock-up's instance tells its domain and its input
   pub latched : (net c e : ℕ) (source : Source) → meaning (op_at x.ops.items net) ≡ meanings.Lockup c e source → latch_at x.latches.items c ≡ Some (e, source)
+  -- and stores its bit as its cell says
+  pub stored : (net c e : ℕ) (source : Source) → meaning (op_at x.ops.items net) ≡ meanings.Lockup c e source → cell_at (map cell_of x.flops.items) c ≡ lockup_cell e source
   pub instances : length x.latches.items ≡ length x.flops.items
   pub tables : AreTables x
 

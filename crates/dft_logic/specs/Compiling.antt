@@ -1,12 +1,14 @@
 -- What each net and each instance of a design becomes in its circuit.
 use Rattle.std.specs.Prelude.{ℕ, Bool, true, not, ◌≡◌, ◌<◌, List, [], ◌∷◌, Option, None, Some, map, length, slice_index_or, if◌then◌else◌}
+use Rattle.std.specs.Option.{option_or}
+use Rattle.dft_cells.specs.FlipFlops.{is_flip_flop}
 use Rattle.dft_cells.specs.declared.kind.Role.{Role}
 use Rattle.dft_cells.specs.declared.kind.Role.TheVariants as role
 use Rattle.dft_netlist.specs.Netlist.{Netlist}
 use Rattle.dft_netlist.specs.Drivers.{Source, Connection, source_of, is_input, kind_at, pins_of}
 use Rattle.dft_cells.specs.declared.kind.Kind.{Kind}
 use Rattle.dft_cells.specs.declared.kind.Kind.TheVariants as kind
-use Rattle.dft_netlist.specs.Logic.{Ports, Cell, Meaning, Gate, Lockup, Free, logic_of, same_role, or_loose, domain_at, forcing, scan_of, modelled, lockup_meaning, flop_meaning}
+use Rattle.dft_netlist.specs.Logic.{Ports, Cell, Meaning, Gate, Lockup, Free, logic_of, same_role, or_loose, domain_at, forcing, scan_of, modelled, locked, is_lockup, lockup_meaning, flop_meaning}
 use Rattle.dft_logic.specs.declared.circuit.Operand.{Operand}
 use Rattle.dft_logic.specs.declared.circuit.Operand.TheVariants.{Net, Tied, Loose}
 use Rattle.dft_logic.specs.declared.circuit.Op.{Op}
@@ -60,6 +62,14 @@ modelled_in n ports i ws =
     modelled (domain_at n ports (found_in role.Clock ws)) (forcing n ports (found_in role.Reset ws) (found_in role.Preset ws))
     (or_loose i (found_in role.Din ws)) (scan_of (found_in role.ScanEnable ws) (found_in role.ScanIn ws))
 
+-- its lock-up, as what stores a bit
+abbrev pub lockup_in : Netlist → Ports → (instance : ℕ) → List Wired → Option Cell
+lockup_in n ports i ws = locked (domain_at n ports (found_in role.Clock ws)) (or_loose i (found_in role.Din ws))
+
+-- what an instance of this kind stores a bit in
+abbrev pub stored_in : Netlist → Ports → (instance : ℕ) → Kind → List Wired → Option Cell
+stored_in n ports i k ws = option_or (if is_flip_flop k then modelled_in n ports i ws else None) (if is_lockup k then lockup_in n ports i ws else None)
+
 abbrev pub with_source : Source → Option ℕ → Option (ℕ × Source)
 with_source source None = None
 with_source source (Some domain) = Some (domain, source)
@@ -105,7 +115,7 @@ IsFlopOf n ports i flop = cell_of flop ≡ (logic_of n ports).cell i
 abbrev pub IsLatchOf : Netlist → Ports → (instance : ℕ) → Option Latch → Type 0
 IsLatchOf n ports i latch = latch_of latch ≡ kept_latch n ports i
 
--- the flip-flops of the first instances, and their lock-ups
+-- what the first instances store their bits in, and their lock-ups
 pub record AreFlops (n : Netlist) (ports : Ports) (count : ℕ) (flops : List FlipFlop) : Type 0 where
   pub size : length flops ≡ count
   pub each : (i : ℕ) → i < count → IsFlopOf n ports i (flop_in flops i)

@@ -92,7 +92,7 @@ fn net_ops(alloc: Global, design: &Design, flags: &[bool]) -> Result<Vec<Op>, Al
     Ok(ops)
 }
 
-// The flip-flop of an instance.
+// What an instance stores a bit in.
 fn instance_flop(
     alloc: Global,
     design: &Design,
@@ -127,7 +127,7 @@ fn instance_latch(
     }
 }
 
-// The flip-flops of all instances.
+// What all instances store their bits in.
 fn flops(alloc: Global, design: &Design, flags: &[bool]) -> Result<Vec<FlipFlop>, AllocError>
     ensures { IfOk result (λ flops. AreFlops design.now (ports_by flags.now) (length design.now.instances) flops.items) }
 {

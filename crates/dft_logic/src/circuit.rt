@@ -130,7 +130,7 @@ pub struct Acting {
     pub value: bool,
 }
 
-/// A flip-flop: the net of its clock port, and its pins.
+/// What stores a bit, a flip-flop or a lock-up: the net of its clock port, and its pins.
 #[derive(Clone, Copy)]
 pub struct FlipFlop {
     pub domain: NetId,
@@ -146,10 +146,10 @@ pub struct Latch {
     pub input: Operand,
 }
 
-/// What each net takes its value from, by net, in an order in which each comes after what it reads; and the flip-flop
-/// and the lock-up of each instance, by instance. Then what is found by tables: the sources; by net the nets that read it and the
-/// flip-flops that it resets or sets; and by the net of a clock the nets that show it or its domain's flip-flops and
-/// lock-ups, and these flip-flops and lock-ups.
+/// What each net takes its value from, by net, in an order in which each comes after what it reads; and by instance what
+/// it stores a bit in, and the lock-up that it is, if it is one. Then what is found by tables: the sources; by net the
+/// nets that read it and the flip-flops that it resets or sets; and by the net of a clock the nets that show it or its
+/// domain's flip-flops and lock-ups, what stores bits in its domain, and its lock-ups.
 #[derive(Drop)]
 pub struct Circuit {
     pub order: Vec<NetId>,

@@ -4,10 +4,11 @@ ghost use Rattle.std.specs.Prelude.{◌≡◌, ℕ, length, map, option_map, Non
 ghost use Rattle.dft_cells.specs.declared.kind.Role.TheVariants as role;
 ghost use Rattle.dft_cells.specs.FlipFlops.{is_flip_flop as takes_clock};
 ghost use Rattle.dft_netlist.specs.Logic as logics;
+ghost use Rattle.dft_netlist.specs.Logic.{is_lockup};
 ghost use Rattle.dft_netlist.specs.Roots.{shown_root};
 ghost use Rattle.dft_netlist.specs.Traces as traces;
 ghost use Rattle.dft_logic.specs.Circuit.{source_at, cell_of, scan_at, force_at, latch_of as latched, meaning};
-ghost use Rattle.dft_logic.specs.Compiling.{ports_by, wired_at, found_in, IsLiveOperand, AreLiveWires, modelled_in, latch_in, meaning_in};
+ghost use Rattle.dft_logic.specs.Compiling.{ports_by, wired_at, found_in, IsLiveOperand, AreLiveWires, modelled_in, lockup_in, stored_in, latch_in, meaning_in};
 
 use crate::circuit::{Acting, FlipFlop, Latch, Op, Operand, ScanPins};
 use crate::settling::flag_at;
@@ -154,7 +155,75 @@ pub(crate) fn latch_of(
     }
 }
 
-// The flip-flop of an instance; one that no net shows where the instance is no modelled flip-flop.
+// The flip-flop that an instance with these pins is, if it is a modelled one.
+fn flip_flop(
+    design: &Design,
+    flags: &[bool],
+    number: InstanceId,
+    kind: Kind,
+    wires: &[Wire],
+) -> Option<FlipFlop>
+    requires { AreLiveWires (length design.now.nets) wires.now }
+    ensures { option_map cell_of result ≡ (if takes_clock kind then modelled_in design.now (ports_by flags.now) number.0 (map wired_at wires.now) else None) }
+{
+    if is_flip_flop(kind) {
+        modelled(design, flags, number, wires)
+    } else {
+        None
+    }
+}
+
+// The lock-up with these pins as what stores a bit, if its clock traces to a clock port.
+fn locked(design: &Design, flags: &[bool], number: InstanceId, wires: &[Wire]) -> Option<FlipFlop>
+    requires { AreLiveWires (length design.now.nets) wires.now }
+    ensures { option_map cell_of result ≡ lockup_in design.now (ports_by flags.now) number.0 (map wired_at wires.now) }
+{
+    match domain_of(design, flags, wires) {
+        Some(domain) => Some(FlipFlop {
+            domain,
+            input: data_in(number, wires),
+            scan: None,
+            force: None,
+        }),
+        None => None,
+    }
+}
+
+// The lock-up that an instance with these pins is, if it is one on a clock port.
+fn lock_up(
+    design: &Design,
+    flags: &[bool],
+    number: InstanceId,
+    kind: Kind,
+    wires: &[Wire],
+) -> Option<FlipFlop>
+    requires { AreLiveWires (length design.now.nets) wires.now }
+    ensures { option_map cell_of result ≡ (if is_lockup kind then lockup_in design.now (ports_by flags.now) number.0 (map wired_at wires.now) else None) }
+{
+    match kind {
+        Kind::Lockup => locked(design, flags, number, wires),
+        _ => None,
+    }
+}
+
+// What an instance with these pins stores a bit in, if it stores one.
+fn stored(
+    design: &Design,
+    flags: &[bool],
+    number: InstanceId,
+    kind: Kind,
+    wires: &[Wire],
+) -> Option<FlipFlop>
+    requires { AreLiveWires (length design.now.nets) wires.now }
+    ensures { option_map cell_of result ≡ stored_in design.now (ports_by flags.now) number.0 kind (map wired_at wires.now) }
+{
+    match flip_flop(design, flags, number, kind, wires) {
+        Some(flop) => Some(flop),
+        None => lock_up(design, flags, number, kind, wires),
+    }
+}
+
+// What an instance stores a bit in; one that no net shows where it stores none.
 pub(crate) fn flop_at(
     design: &Design,
     flags: &[bool],
@@ -163,14 +232,9 @@ pub(crate) fn flop_at(
     wires: &[Wire],
 ) -> FlipFlop
     requires { AreLiveWires (length design.now.nets) wires.now }
-    ensures { cell_of result ≡ logics.cell_or_none number.0 (if takes_clock kind then modelled_in design.now (ports_by flags.now) number.0 (map wired_at wires.now) else None) }
+    ensures { cell_of result ≡ logics.cell_or_none number.0 (stored_in design.now (ports_by flags.now) number.0 kind (map wired_at wires.now)) }
 {
-    let found = if is_flip_flop(kind) {
-        modelled(design, flags, number, wires)
-    } else {
-        None
-    };
-    match found {
+    match stored(design, flags, number, kind, wires) {
         Some(flop) => flop,
         None => FlipFlop {
             domain: NetId(0),

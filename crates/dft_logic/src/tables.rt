@@ -147,7 +147,7 @@ pub(crate) fn leaves(
     Ok(table)
 }
 
-// The flip-flops of each domain.
+// What stores bits in each domain: its flip-flops and its lock-ups.
 pub(crate) fn cells(
     alloc: Global,
     flops: &[FlipFlop],

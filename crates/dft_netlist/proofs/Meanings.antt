@@ -49,7 +49,7 @@ inputs_above rank r s bits values (Loose i pin ∷ inputs) below ih = (tt, input
 pub meaning_above : (rank : ℕ → ℕ) (s : Sources) (t : TriSources) (bits : ℕ → Bool) (values : ℕ → Tri) (net : ℕ) →
     ((k : ℕ) → Above (t.ports k) (s.ports k)) → ((e : ℕ) → Above (t.clocks e) (s.high e)) → ((c : ℕ) → Above (t.flops c) (s.flops c)) →
     (m : Meaning) → AreBelow rank (rank net) (reads m) → ((k : ℕ) → rank k < rank net → Above (values k) (bits k)) →
-    ((c e : ℕ) (source : Source) → m ≡ Lockup c e source → AreBelow rank (rank net) (nets_of (source ∷ [])) → Above (t.lockups c e source) (if s.high e then s.held net else bit_from s bits source)) →
+    ((c e : ℕ) (source : Source) → m ≡ Lockup c e source → AreBelow rank (rank net) (nets_of (source ∷ [])) → Above (t.lockups c e source) (if s.high e then s.flops c else bit_from s bits source)) →
     Above (value_given t values net m) (bit_given s bits net m)
 meaning_above rank s t bits values net ports clocks flops Input below ih lockup = ports net
 meaning_above rank s t bits values net ports clocks flops Clock below ih lockup = clocks net

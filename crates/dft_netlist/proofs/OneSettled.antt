@@ -24,7 +24,7 @@ given_same rank s v w net Clock below same = refl
 given_same rank s v w net (Gate kind inputs) below same = ap (bit_of kind) (bits_same rank (rank net) s v w inputs below same)
 given_same rank s v w net (Joined source) below same = bit_same rank (rank net) s v w source below same
 given_same rank s v w net (Flop c inverted) below same = refl
-given_same rank s v w net (Lockup c domain source) below same = ap (λ (b : Bool). if s.high domain then s.held net else b) (bit_same rank (rank net) s v w source below same)
+given_same rank s v w net (Lockup c domain source) below same = ap (λ (b : Bool). if s.high domain then s.flops c else b) (bit_same rank (rank net) s v w source below same)
 given_same rank s v w net Free below same = refl
 
 -- the bit of a net from so many levels of drivers
@@ -37,17 +37,17 @@ unfolding bit_by
 stable l rank s ranked zero g net hf hg = absurd (omega arith)
 stable l rank s ranked (suc f) zero net hf hg = absurd (omega arith)
 stable l rank s ranked (suc f) (suc g) net hf hg =
-    given_same rank s (bit_by l s f) (bit_by l s g) net (l.net net) (ranked net) (λ k less. stable l rank s ranked f g k (omega arith) (omega arith))
+    given_same rank s (bit_by l s f) (bit_by l s g) net (l.net net) (ranked.order net) (λ k less. stable l rank s ranked f g k (omega arith) (omega arith))
 
 same_within : (l : Logic) (rank : ℕ → ℕ) (s : Sources) (v w : ℕ → Bool) → IsRanked l rank → IsSettled l s v → IsSettled l s w → (fuel net : ℕ) → rank net < fuel → v net ≡ w net
 same_within l rank s v w ranked sv sw zero net less = absurd (omega arith)
 same_within l rank s v w ranked sv sw (suc fuel) net less =
-    sv net ∙ given_same rank s v w net (l.net net) (ranked net) (λ k below. same_within l rank s v w ranked sv sw fuel k (omega arith)) ∙ sym (sw net)
+    sv net ∙ given_same rank s v w net (l.net net) (ranked.order net) (λ k below. same_within l rank s v w ranked sv sw fuel k (omega arith)) ∙ sym (sw net)
 
 levels_settled : (l : Logic) (rank : ℕ → ℕ) (s : Sources) → IsRanked l rank → IsSettled l s (λ net. bit_by l s (suc (rank net)) net)
 unfolding bit_by
 levels_settled l rank s ranked net =
-    given_same rank s (bit_by l s (rank net)) (λ k. bit_by l s (suc (rank k)) k) net (l.net net) (ranked net)
+    given_same rank s (bit_by l s (rank net)) (λ k. bit_by l s (suc (rank k)) k) net (l.net net) (ranked.order net)
     (λ k less. stable l rank s ranked (rank net) (suc (rank k)) k less (omega arith))
 
 pub settled_one : SettledIsOne

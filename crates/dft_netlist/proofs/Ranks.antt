@@ -9,6 +9,7 @@ use Rattle.dft_netlist.specs.Drivers as drivers
 use Rattle.dft_netlist.specs.Logic.{Ports, Cell, same_role, pin_of, or_loose, domain_at, flip_flop, flop_meaning, lockup_meaning, meaning_of, reads}
 use Rattle.dft_netlist.specs.Logic as meanings
 use Rattle.dft_netlist.specs.Laws.{OrderIsRank}
+use Rattle.dft_netlist.proofs.StoredLemmas.{lockup_stored}
 
 -- the first of several sources stands below where all do
 pub first_below : (rank : ℕ → ℕ) (r : ℕ) (source : Source) (sources : List Source) → AreBelow rank r (nets_of (source ∷ sources)) → AreBelow rank r (nets_of (source ∷ []))
@@ -61,4 +62,7 @@ meaning_below n ports rank net (drivers.Lockup i) below =
 meaning_below n ports rank net drivers.Free below = tt
 
 pub order_is_rank : OrderIsRank
-order_is_rank n ports rank order net = meaning_below n ports rank net (driver n net) (order.after net)
+order_is_rank n ports rank order = record {
+  order = λ net. meaning_below n ports rank net (driver n net) (order.after net);
+  lockups = lockup_stored n ports;
+}

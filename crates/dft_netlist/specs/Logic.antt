@@ -1,6 +1,8 @@
--- What a design does, for given clock ports and reset ports: what each net's bit is, and what each flip-flop takes.
-use Rattle.std.specs.Prelude.{ℕ, Bool, true, false, List, [], ◌∷◌, Option, None, Some, if◌then◌else◌}
+-- What a design does, for given clock ports and reset ports: what each net's bit is, and what each flip-flop and lock-up takes.
+use Rattle.std.specs.Prelude.{ℕ, Bool, true, false, ◌≡◌, List, [], ◌∷◌, Option, None, Some, if◌then◌else◌}
+use Rattle.std.specs.Option.{option_or}
 use Rattle.dft_cells.specs.declared.kind.Kind.{Kind}
+use Rattle.dft_cells.specs.declared.kind.Kind.TheVariants as kind
 use Rattle.dft_cells.specs.declared.kind.Role.{Role}
 use Rattle.dft_cells.specs.declared.kind.Role.TheVariants as role
 use Rattle.dft_cells.specs.FlipFlops.{is_flip_flop}
@@ -39,14 +41,15 @@ pub record Scan : Type 0 where
   pub enable : Source
   pub input : Source
 
--- a modelled flip-flop. Its domain is the net of the clock port that its clock traces to.
+-- what stores a bit: a modelled flip-flop or a lock-up. Its domain is the net of the clock port that its clock traces to.
 pub record Cell : Type 0 where
   pub domain : ℕ
   pub input : Source
   pub scan : Option Scan
   pub force : Option Force
 
--- The meaning of each net, and the flip-flop of each instance. An instance that is no modelled flip-flop has a cell that no net shows.
+-- The meaning of each net, and the cell of each instance. An instance that is neither a modelled flip-flop nor a lock-up on a clock port
+-- has a cell that no net shows.
 pub record Logic : Type 0 where
   pub net : ℕ → Meaning
   pub cell : ℕ → Cell
@@ -118,7 +121,27 @@ modelled_of n ports i pins =
 abbrev pub flip_flop : Netlist → Ports → (instance : ℕ) → Option Cell
 flip_flop n ports i = if is_flip_flop (kind_at n i) then modelled_of n ports i (pins_of n i) else None
 
--- the cell of an instance that is no modelled flip-flop
+-- a lock-up's cell has no scan pins, no reset and no set
+abbrev pub lockup_cell : (domain : ℕ) → Source → Cell
+lockup_cell domain source = record { domain = domain; input = source; scan = None; force = None }
+
+abbrev pub locked : Option ℕ → Source → Option Cell
+locked None source = None
+locked (Some domain) source = Some (lockup_cell domain source)
+
+abbrev pub is_lockup : Kind → Bool
+is_lockup kind.Lockup = true
+is_lockup _ = false
+
+-- the lock-up on a clock port that an instance is, if it is one
+abbrev pub lock_up : Netlist → Ports → (instance : ℕ) → Option Cell
+lock_up n ports i = if is_lockup (kind_at n i) then locked (domain_at n ports (pin_of role.Clock i (pins_of n i))) (or_loose i (pin_of role.Din i (pins_of n i))) else None
+
+-- what an instance stores a bit in
+abbrev pub stored : Netlist → Ports → (instance : ℕ) → Option Cell
+stored n ports i = option_or (flip_flop n ports i) (lock_up n ports i)
+
+-- the cell of an instance that stores none
 abbrev pub no_cell : (instance : ℕ) → Cell
 no_cell i = record { domain = 0; input = Loose i 0; scan = None; force = None }
 
@@ -145,7 +168,7 @@ meaning_of n ports net drivers.Free = Free
 abbrev pub logic_of : Netlist → Ports → Logic
 logic_of n ports = record {
   net = λ net. meaning_of n ports net (driver n net);
-  cell = λ i. cell_or_none i (flip_flop n ports i);
+  cell = λ i. cell_or_none i (stored n ports i);
 }
 
 -- ---- an order of the nets of a logic
@@ -160,6 +183,7 @@ reads (Flop cell inverted) = []
 reads (Lockup cell domain source) = nets_of (source ∷ [])
 reads Free = []
 
--- each net stands after those that it is settled from
-abbrev pub IsRanked : Logic → (rank : ℕ → ℕ) → Type 0
-IsRanked l rank = (net : ℕ) → AreBelow rank (rank net) (reads (l.net net))
+-- each net stands after those that it is settled from, and what a lock-up's net shows is the lock-up's cell
+pub record IsRanked (l : Logic) (rank : ℕ → ℕ) : Type 0 where
+  pub order : (net : ℕ) → AreBelow rank (rank net) (reads (l.net net))
+  pub lockups : (net c e : ℕ) (source : Source) → l.net net ≡ Lockup c e source → l.cell c ≡ lockup_cell e source

@@ -4,7 +4,7 @@ use Rattle.dft_base.specs.declared.tri.Tri.{Tri}
 use Rattle.dft_base.specs.Tri.{completed}
 use Rattle.dft_cells.specs.FlipFlops.{forced, chosen}
 use Rattle.dft_netlist.specs.Drivers.{Source}
-use Rattle.dft_netlist.specs.Logic.{Logic, Meaning, Input, Clock, Gate, Joined, Flop, Lockup, Free, Force, Scan, Cell}
+use Rattle.dft_netlist.specs.Logic.{Logic, Force, Scan, Cell}
 use Rattle.dft_netlist.specs.Settled.{Sources, bit_from, IsSettled}
 
 -- ---- what a design keeps from moment to moment
@@ -12,10 +12,8 @@ use Rattle.dft_netlist.specs.Settled.{Sources, bit_from, IsSettled}
 pub record State : Type 0 where
   -- the bit that each input port was set to, by net; Unknown where nothing has set it yet
   pub ports : ℕ → Tri
-  -- the bits of flip-flops, by instance
+  -- the bits of flip-flops, and those that lock-ups hold, by instance
   pub flops : ℕ → Bool
-  -- the bits that lock-ups hold, by their output net
-  pub held : ℕ → Bool
   -- whether the clock of a domain is high
   pub high : ℕ → Bool
 
@@ -38,7 +36,6 @@ sources_of now = record {
   ports = port_bits now.state now.moment;
   high = now.state.high;
   flops = now.state.flops;
-  held = now.state.held;
   free = now.moment.free;
   loose = now.moment.loose;
 }
@@ -58,7 +55,7 @@ abbrev pub taken_by : Option Scan → (Source → Bool) → (data_in : Bool) →
 taken_by None at data_in = data_in
 taken_by (Some scan) at data_in = chosen (at scan.enable) (at scan.input) data_in
 
--- the bit that a flip-flop takes at the rise of its clock, from the settled bits just before
+-- the bit that a flip-flop or lock-up takes at the rise of its clock, from the settled bits just before
 abbrev pub next_bit : Cell → Now → Bool
 next_bit cell now =
     let at = bit_from (sources_of now) now.moment.seen in
@@ -72,21 +69,10 @@ pub data Event : Type 0 where
   Rise : (domain : ℕ) → Event
   Fall : (domain : ℕ) → Event
 
--- what a lock-up's net holds after the rise of a domain: its input's bit from just before
-abbrev pub held_after : (domain : ℕ) → Now → (old : Bool) → Meaning → Bool
-held_after d now old (Lockup cell domain source) = if domain == d then bit_from (sources_of now) now.moment.seen source else old
-held_after d now old Input = old
-held_after d now old Clock = old
-held_after d now old (Gate kind inputs) = old
-held_after d now old (Joined source) = old
-held_after d now old (Flop cell inverted) = old
-held_after d now old Free = old
-
 abbrev pub rise : Logic → Now → (domain : ℕ) → State
 rise l now d = record {
   ports = now.state.ports;
   flops = λ c. if (l.cell c).domain == d then next_bit (l.cell c) now else now.state.flops c;
-  held = λ net. held_after d now (now.state.held net) (l.net net);
   high = λ e. if e == d then true else now.state.high e;
 }
 
@@ -94,12 +80,11 @@ abbrev pub fall : Now → (domain : ℕ) → State
 fall now d = record {
   ports = now.state.ports;
   flops = now.state.flops;
-  held = now.state.held;
   high = λ e. if e == d then false else now.state.high e;
 }
 
 abbrev pub set_ports : Now → (ℕ → Tri) → State
-set_ports now ports = record { ports = ports; flops = now.state.flops; held = now.state.held; high = now.state.high }
+set_ports now ports = record { ports = ports; flops = now.state.flops; high = now.state.high }
 
 -- the state after an event, before resets and sets act
 abbrev pub after_event : Logic → Now → Event → State
@@ -112,7 +97,6 @@ abbrev pub at_moment : Logic → Moment → State → State
 at_moment l m s = record {
   ports = s.ports;
   flops = λ c. forced_by (l.cell c).force (port_bits s m) (s.flops c);
-  held = s.held;
   high = s.high;
 }
 
@@ -191,7 +175,7 @@ AreTurns l now (x ∷ xs) (t ∷ ts) = IsTurn l x now t × AreTurns l (after_tur
 abbrev pub AreLow : State → Type 0
 AreLow s = (d : ℕ) → s.high d ≡ false
 
--- a run begins with any bits of the flip-flops and all clocks low
+-- a run begins with any bits of the flip-flops and lock-ups and all clocks low
 pub record IsRun (l : Logic) (xs : List Vector) (start : Now) (ts : List Turn) : Type 0 where
   pub low : AreLow start.state
   pub turns : AreTurns l start xs ts

@@ -13,10 +13,8 @@ pub record Sources : Type 0 where
   pub ports : ℕ → Bool
   -- whether the clock of a domain is high, by the net of the clock port
   pub high : ℕ → Bool
-  -- the bits of flip-flops, by instance
+  -- the bits of flip-flops, and those that lock-ups hold, by instance
   pub flops : ℕ → Bool
-  -- the bits that lock-ups hold, by their output net
-  pub held : ℕ → Bool
   -- the free bits of nets
   pub free : ℕ → Bool
   -- the free bits of unconnected pins, by instance and pin
@@ -35,7 +33,7 @@ bit_given s bits net Clock = s.high net
 bit_given s bits net (Gate kind inputs) = bit_of kind (map (bit_from s bits) inputs)
 bit_given s bits net (Joined source) = bit_from s bits source
 bit_given s bits net (Flop cell inverted) = if inverted then not (s.flops cell) else s.flops cell
-bit_given s bits net (Lockup cell domain source) = if s.high domain then s.held net else bit_from s bits source
+bit_given s bits net (Lockup cell domain source) = if s.high domain then s.flops cell else bit_from s bits source
 bit_given s bits net Free = s.free net
 
 -- every net has its driver's bit

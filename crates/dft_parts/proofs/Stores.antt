@@ -21,7 +21,8 @@ use Rattle.dft_netlist.specs.NetDrivers.{IsSingle}
 use Rattle.dft_netlist.specs.Drivers.{Shape, Net, Connection, Input, Flop, Lockup, connections_from, pins_at, kind_of, driver, shape_of, shape_of_cell}
 use Rattle.dft_netlist.specs.Traces.{Port, root_of, root_within, root_of_driver}
 use Rattle.dft_netlist.specs.Logic as logic
-use Rattle.dft_netlist.specs.Logic.{Ports, domain_of, domain_at, modelled, modelled_of, flip_flop, cell_or_none, flop_meaning, lockup_meaning, logic_of, meaning_of, or_loose, pin_of}
+use Rattle.dft_netlist.specs.Logic.{Ports, domain_of, domain_at, modelled, modelled_of, flip_flop, flop_meaning, lockup_meaning, logic_of, meaning_of, or_loose, pin_of}
+use Rattle.dft_netlist.proofs.StoredLemmas.{flop_cell}
 use Rattle.dft_parts.specs.Cells.{is_dff, is_lockup, first_from, numbered_cell, first_cell, pin_between, pins_between}
 use Rattle.dft_parts.specs.Growth.{AreKept, Stands}
 use Rattle.dft_parts.specs.Standing.{IsClockNet, plain_cell, IsFlop, FlopStands, LockupStands}
@@ -194,7 +195,7 @@ flop_as n ports i clock input output more id single shape plain h =
     ∙ ap (cell_as n ports i s) front.are
     ∙ plain front.rest in
     record {
-      cell = ap (cell_or_none i) is;
+      cell = flop_cell n ports i (plain_cell clock.0 input.0) is;
       net = ap (meaning_of n ports output.0) drives ∙ ap (flop_meaning i false) is;
     }
 

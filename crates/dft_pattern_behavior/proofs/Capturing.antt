@@ -26,8 +26,10 @@ use Rattle.dft_netlist.specs.Settled.{IsTriSettled, inverse, value_given}
 use Rattle.dft_netlist.specs.Sound.{bits_of}
 use Rattle.dft_netlist.specs.Traces.{Root, Port, Constant, Other, root_of}
 use Rattle.dft_netlist.proofs.LiveDriven.{AreBefore, before_front, before_back}
-use Rattle.dft_abstract.specs.Cycle.{Round, IsRound, after_round, pulse_of, strobe_sources, tri_forced_by}
+use Rattle.dft_netlist.proofs.StoredLemmas.{stored_force}
+use Rattle.dft_abstract.specs.Cycle.{tri_forced_by, pulse_of, strobe_sources, AreHalves, Round, IsRound, after_round}
 use Rattle.dft_abstract.specs.Laws.{next_from}
+use Rattle.dft_abstract.proofs.Halves.{closed_views, least_closed}
 use Rattle.dft_config.specs.Config.{Config}
 use Rattle.dft_config.specs.Cycles.{longest_segment}
 use Rattle.dft_config.proofs.Linearity.{loads_sum}
@@ -219,7 +221,7 @@ module _ (n : Netlist) (config : Config) (ports : Ports) (p : Pattern) (clear : 
   y = record { ports = λ net. capture.ports (s.moved net); pulsed = cv.pulsed }
 
   resets : (cell : ℕ) (f : Force) → (original.cell cell).force ≡ Some f → (config_ports n config).is_reset f.port ≡ true
-  resets cell f e = flop_reset n (config_ports n config) cell (is_flip_flop (kind_at n cell)) f e
+  resets cell f e = flop_reset n (config_ports n config) cell (is_flip_flop (kind_at n cell)) f (sym (stored_force n (config_ports n config) cell) ∙ e)
 
   force_input : (cell : ℕ) (f : Force) → (original.cell cell).force ≡ Some f → IsData n (config_ports n config) f.port
   force_input cell f e = (named_input n f.port config.resets (resets cell f e), reset_rests n config f.port ready.range (resets cell f e))
@@ -276,14 +278,17 @@ module _ (n : Netlist) (config : Config) (ports : Ports) (p : Pattern) (clear : 
   kept : (cell : ℕ) → (pulse_of original y its).old cell ≡ its cell
   kept cell = not_forced (original.cell cell).force y.ports (its cell) (one cell)
 
+  halves : AreHalves l capture loaded r.halves
+  halves = closed_views l capture loaded r.halves (least_closed l capture loaded r.halves round.least)
+
   captured_by : (cell : InstanceId) (b : Bool) → s.is_flop cell.0 ≡ true → ((original.cell cell.0).domain == is.clock.0) ≡ b →
       AboveTri (if b then next_from original cv is.captured.values cell.0 else its cell.0) (new cell.0)
   captured_by cell true modelled at =
       subst (λ (t : Tri). AboveTri t (new cell.0)) (next_same cell.0)
-      ((captures_follow n config ports ready suits is.clock.0 y capture its loaded r.poss r.view is.captured.values is_capture over settled round.least.closed.views cell.0 modelled).0 (eqb-true (original.cell cell.0).domain is.clock.0 at))
+      ((captures_follow n config ports ready suits is.clock.0 y capture its loaded r.halves is.captured.values is_capture over settled halves cell.0 modelled).0 (eqb-true (original.cell cell.0).domain is.clock.0 at))
   captured_by cell false modelled at =
       subst (λ (t : Tri). AboveTri t (new cell.0)) (kept cell.0)
-      ((captures_follow n config ports ready suits is.clock.0 y capture its loaded r.poss r.view is.captured.values is_capture over settled round.least.closed.views cell.0 modelled).1 at)
+      ((captures_follow n config ports ready suits is.clock.0 y capture its loaded r.halves is.captured.values is_capture over settled halves cell.0 modelled).1 at)
 
   swapped : (a b : ℕ) → (a == b) ≡ (b == a)
   swapped a b = grind arith

@@ -11,6 +11,7 @@ use Rattle.dft_netlist.specs.Logic.{Force}
 use Rattle.dft_netlist.specs.Netlist.{Netlist}
 use Rattle.dft_netlist.specs.Runs.{Vector}
 use Rattle.dft_netlist.specs.Settled.{IsTriSettled}
+use Rattle.dft_netlist.proofs.StoredLemmas.{stored_force}
 use Rattle.dft_abstract.specs.Cycle.{strobe_sources, tri_forced_by}
 use Rattle.dft_abstract.specs.Laws.{next_from}
 use Rattle.dft_config.specs.Config.{Config}
@@ -56,7 +57,7 @@ same_data n config merged net own = data_same (is_input (driver n net)) ((config
 
 force_data : (n : Netlist) (config : Config) (cell : ℕ) (f : Force) → IsInRange config → ((original n config).cell cell).force ≡ Some f → IsData n (config_ports n config) f.port
 force_data n config cell f range e =
-    let reset : (config_ports n config).is_reset f.port ≡ true = flop_reset n (config_ports n config) cell (is_flip_flop (kind_at n cell)) f e in
+    let reset : (config_ports n config).is_reset f.port ≡ true = flop_reset n (config_ports n config) cell (is_flip_flop (kind_at n cell)) f (sym (stored_force n (config_ports n config) cell) ∙ e) in
     (named_input n f.port config.resets reset, reset_rests n config f.port range reset)
 
 data_forced : (n : Netlist) (config : Config) (merged : Merged) (cell : ℕ) (t : Tri) → IsInRange config →

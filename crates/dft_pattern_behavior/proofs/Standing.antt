@@ -23,7 +23,7 @@ use Rattle.dft_netlist.specs.Runs.{Vector}
 use Rattle.dft_netlist.specs.Sound.{IsNetlist, bit_names_of, bits_of}
 use Rattle.dft_netlist.proofs.LiveLemmas.{length-bits}
 use Rattle.dft_netlist.proofs.Ranks.{order_is_rank}
-use Rattle.dft_abstract.specs.Cycle.{after_pulse, pulse_of}
+use Rattle.dft_abstract.specs.Cycle.{after_halves}
 use Rattle.dft_config.specs.Config.{Config}
 use Rattle.dft_rules.specs.Rules.{is_net}
 use Rattle.dft_stitch.specs.Chains.{plan_of}
@@ -143,12 +143,12 @@ stand_over n rank config merged loaded r written p x old can ordered captured co
     let clock : ℕ = vector.clock.0 in (
       λ shows settled number net at. subst (λ (t : Tri). AboveTri t (shows (p.moved net.0))) (sym (value_at (λ (k : NetId). captured.values k.0) r.outputs (output_bits n.ports) number net captured.outputs at))
           (strobe_law (original n config) written rank p y x its old captured.values shows ranked covers over settled_over settled net.0 (subst (λ (k : ℕ). net.0 < k) (sym places.size) (output_live n number net can.netlist at))),
-      λ poss view views number cell at. (
+      λ h halves number cell at. (
           let domain : ℕ = ((original n config).cell cell.0).domain in
           let flop : p.is_flop cell.0 ≡ true = places.flops cell.0 ∙ ap is_some (number_modelled n config number cell.0 can at).flop in
-          let law = capture_law (original n config) written rank p clock y x its old poss view captured.values ranked covers vector.pulses over settled_over views cell.0 flop in
+          let law = capture_law (original n config) written rank p clock y x its old h captured.values ranked covers vector.pulses over settled_over halves cell.0 flop in
           let pulsed : is_net domain (capture_clock n config merged.domain) ≡ (clock == domain) = ap (is_net domain) vector.captures in
-          let after : Tri = after_pulse written (pulse_of written x old) view cell.0 in
+          let after : Tri = after_halves written x old h cell.0 in
           subst (λ (t : Tri). AboveTri t after) (sym (value_at (λ (c : InstanceId). captured_value n config (plan_of n config).chains merged loaded captured.values c.0) r.cells (cells_in n config) number cell captured.cells at))
           (above_if (is_net domain (capture_clock n config merged.domain)) _ (its cell.0) after
           (λ up. subst (λ (t : Tri). AboveTri t after) (data_next n config merged captured.values cell.0 can.range) (law.0 (sym (eqb-true clock domain (sym pulsed ∙ up)))))

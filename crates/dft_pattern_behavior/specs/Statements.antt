@@ -11,7 +11,7 @@ use Rattle.dft_netlist.specs.Drivers.{IsOrdered, driver}
 use Rattle.dft_netlist.specs.Logic.{Logic, flip_flop}
 use Rattle.dft_netlist.specs.Settled.{IsTriSettled}
 use Rattle.dft_netlist.specs.Runs.{Vector}
-use Rattle.dft_abstract.specs.Cycle.{AreViews, after_pulse, pulse_of, strobe_sources}
+use Rattle.dft_abstract.specs.Cycle.{strobe_sources, Halves, AreHalves, after_halves}
 use Rattle.dft_config.specs.Config.{Config}
 use Rattle.dft_stitch.specs.Chains.{plan_of}
 use Rattle.dft_chains.specs.ScanOff.{Places}
@@ -48,11 +48,11 @@ OutputsStand n r written p x old =
     (shows : ℕ → Tri) → IsTriSettled written (strobe_sources written x old shows) shows → (number : ℕ) (net : NetId) → slice_get (output_bits n.ports) number ≡ Some net →
     AboveTri (value_in r.outputs number) (shows (p.moved net.0))
 
--- each cell that it knows has that value after the vector, at any map and its views
+-- each cell that it knows has that value after the vector, for any halves
 abbrev pub CellsStand : Netlist → Config → Response → (written : Logic) → Vector → (old : ℕ → Tri) → Type 0
 CellsStand n config r written x old =
-    (poss : ℕ → Tri) (view : ℕ → ℕ → Tri) → AreViews written (pulse_of written x old) poss view → (number : ℕ) (cell : InstanceId) → slice_get (cells_in n config) number ≡ Some cell →
-    AboveTri (value_in r.cells number) (after_pulse written (pulse_of written x old) view cell.0)
+    (h : Halves) → AreHalves written x old h → (number : ℕ) (cell : InstanceId) → slice_get (cells_in n config) number ≡ Some cell →
+    AboveTri (value_in r.cells number) (after_halves written x old h cell.0)
 
 -- What a pattern captures in a design stands above what each netlist that covers it shows at the strobe of the pattern's vector, and above what its
 -- cells have behind it, whatever its other flip-flops had.

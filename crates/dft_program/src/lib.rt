@@ -2,5 +2,6 @@
 #![tactic(auto)]
 
 mod ending;
+mod telling;
 
-pub use ending::{end, status_of_run};
+pub use ending::{end, status_of_run, told_run};

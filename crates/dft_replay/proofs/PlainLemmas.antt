@@ -78,7 +78,7 @@ strobe_stable l rank x old ranked (suc f) (suc g) net hf hg =
     let a : ℕ → Tri = strobe_values l x old f in
     let b : ℕ → Tri = strobe_values l x old g in
     let same : (k : ℕ) → rank k < rank net → a k ≡ b k = λ k less. strobe_stable l rank x old ranked f g k (omega arith) (omega arith) in
-    given_same rank (strobe_sources l x old a) (strobe_sources l x old b) a b net (l.net net) (λ k. refl) (λ e. refl) (λ c. refl) (ranked net) same
+    given_same rank (strobe_sources l x old a) (strobe_sources l x old b) a b net (l.net net) (λ k. refl) (λ e. refl) (λ c. refl) (ranked.order net) same
     (λ c e source is below. source_same rank (rank net) a b source below same)
 
 view_stable : (l : Logic) (rank : ℕ → ℕ) (p : Pulse) (poss : ℕ → Tri) → IsRanked l rank → (f g net : ℕ) → rank net < f → rank net < g → (d : ℕ) → view_values l p poss f d net ≡ view_values l p poss g d net
@@ -88,7 +88,7 @@ view_stable l rank p poss ranked (suc f) (suc g) net hf hg d =
     let a : ℕ → ℕ → Tri = view_values l p poss f in
     let b : ℕ → ℕ → Tri = view_values l p poss g in
     let same : (k : ℕ) → rank k < rank net → (e : ℕ) → a e k ≡ b e k = λ k less e. view_stable l rank p poss ranked f g k (omega arith) (omega arith) e in
-    given_same rank (view_sources l p poss a d) (view_sources l p poss b d) (a d) (b d) net (l.net net) (λ k. refl) (λ e. refl) (λ c. refl) (ranked net) (λ k less. same k less d)
+    given_same rank (view_sources l p poss a d) (view_sources l p poss b d) (a d) (b d) net (l.net net) (λ k. refl) (λ e. refl) (λ c. refl) (ranked.order net) (λ k less. same k less d)
     (λ c e source is below. source_same rank (rank net) (a e) (b e) source below (λ k less. same k less e))
 
 -- ---- rounds
@@ -314,21 +314,20 @@ plain_round l s x old =
     let p : Pulse = pulse_of l x.vector (value_at old) in
     record {
       strobe = strobe_values l x.vector (value_at old) s.levels;
-      poss = value_at (plain_map l p s);
-      view = view_values l p (value_at (plain_map l p s)) s.levels;
+      halves = record { rise = record { poss = value_at (plain_map l p s); view = view_values l p (value_at (plain_map l p s)) s.levels } };
     }
 
 round_is : (l : Logic) (rank : ℕ → ℕ) (s : Size) (x : Row) (old : List Tri) → Fits l rank s → IsPast s.cells old → IsRound l x.vector (value_at old) (plain_round l s x old)
 round_is l rank s x old fits past = record {
   strobe = strobe_settled l rank s x.vector (value_at old) fits;
-  least = least_from l rank s (pulse_of l x.vector (value_at old)) fits (old_past l rank s x.vector old fits past);
+  least = record { rise = least_from l rank s (pulse_of l x.vector (value_at old)) fits (old_past l rank s x.vector old fits past) };
 }
 
 after_is : (l : Logic) (rank : ℕ → ℕ) (s : Size) (x : Row) (old : List Tri) → Fits l rank s → IsPast s.cells old →
     value_at (table s.cells (after_round l x.vector (value_at old) (plain_round l s x old))) ≡ after_round l x.vector (value_at old) (plain_round l s x old)
 after_is l rank s x old fits past =
     let after : ℕ → Tri = after_round l x.vector (value_at old) (plain_round l s x old) in
-    same_map _ _ (λ c. table_cases (λ t. t ≡ after c) s.cells c after (λ h. refl) (λ h. sym (after_past l rank s x.vector old (plain_round l s x old).view fits past c h)))
+    same_map _ _ (λ c. table_cases (λ t. t ≡ after c) s.cells c after (λ h. refl) (λ h. sym (after_past l rank s x.vector old (plain_round l s x old).halves.rise.view fits past c h)))
 
 stops_from : (d : Option Verdict) (later : Verdict) (Later : Verdict → Type 0) → Later later → Stops d (or_later d later) (Later (or_later d later))
 stops_from None later Later h = h

@@ -55,8 +55,8 @@ looked_round start set after x pulsed shown stands ports ups settled pulse =
     let cells : (c : ℕ) → value_at after.cells c ≡ after_pulse l p pulse.view c = subst B qp (subst A one pulse.cells) in
     let kept : value_at after.inputs ≡ x.ports = ap value_at pulse.inputs ∙ inputs in
     record {
-      round = record { strobe = shown; poss = pulse.poss; view = pulse.view };
-      holds = record { strobe = subst S from (subst T one settled); least = subst L qp (subst M one pulse.least) };
+      round = record { strobe = shown; halves = record { rise = record { poss = pulse.poss; view = pulse.view } } };
+      holds = record { strobe = subst S from (subst T one settled); least = record { rise = subst L qp (subst M one pulse.least) } };
       strobe = refl;
       cells = cells;
       forced = λ c.

@@ -12,6 +12,7 @@ use Rattle.dft_netlist.proofs.Ranks.{order_is_rank}
 use Rattle.dft_netlist.proofs.RankLemmas.{order_ranks}
 use Rattle.dft_abstract.specs.Cycle.{Round, after_round, all_unknown}
 use Rattle.dft_abstract.specs.Laws.{Stands}
+use Rattle.dft_abstract.proofs.Halves.{least_closed}
 use Rattle.dft_abstract.proofs.Turns.{strobe_stands, turn_stands}
 use Rattle.dft_replay.specs.declared.verdict.Verdict.{Verdict}
 use Rattle.dft_replay.specs.declared.verdict.Verdict.TheVariants.{Pass, Mismatch, Undetermined}
@@ -45,7 +46,7 @@ all_show l rank old v count compared (x ∷ xs) now (t ∷ ts) ranked verdict st
     let r : Round = verdict.0 in
     let above = strobe_stands l rank x.vector old r.strobe now t ranked stands run.0 verdict.1.0.strobe in
     let here = vector_shows r.strobe t.strobe.seen v x.compared compared _ above verdict.1.1 in
-    let after = turn_stands l rank x.vector old now t r.poss r.view ranked stands run.0 verdict.1.0.least.closed in
+    let after = turn_stands l rank x.vector old now t r.halves ranked stands run.0 (least_closed l x.vector old r.halves verdict.1.0.least) in
     (here.0, all_show l rank (after_round l x.vector old r) (suc v) (count + length x.compared) compared xs (after_turn l x.vector now t) ts ranked here.1 after run.1)
 
 pub pass_sound : PassIsSound
@@ -83,7 +84,7 @@ first_break l rank old u v i count (x ∷ xs) now [] ranked verdict stands run =
 first_break l rank old u v i count (x ∷ xs) now (t ∷ ts) ranked verdict stands run =
     let r : Round = verdict.0 in
     let above = strobe_stands l rank x.vector old r.strobe now t ranked stands run.0 verdict.1.0.strobe in
-    let after = turn_stands l rank x.vector old now t r.poss r.view ranked stands run.0 verdict.1.0.least.closed in
+    let after = turn_stands l rank x.vector old now t r.halves ranked stands run.0 (least_closed l x.vector old r.halves verdict.1.0.least) in
     elim (vector_breaks r.strobe t.strobe.seen u v i x.compared _ above verdict.1.1) [
       | inl here ↦ inl here
       | inr past ↦ inr (past.0, first_break l rank (after_round l x.vector old r) (suc u) v i (count + length x.compared) xs (after_turn l x.vector now t) ts ranked past.1 after run.1)

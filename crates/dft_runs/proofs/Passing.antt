@@ -3,12 +3,13 @@ use Rattle.std.proofs.Common.{[], ◌∷◌, refl, ap}
 use Rattle.dft_base.specs.Tri.{known}
 use Rattle.dft_netlist.specs.Runs.{after_turn}
 use Rattle.dft_abstract.specs.Cycle.{after_round}
+use Rattle.dft_abstract.proofs.Halves.{closed_views, least_closed}
 use Rattle.dft_abstract.proofs.Lifts.{known_after_turn, known_at_strobe, low_after_turn}
 use Rattle.dft_runs.specs.Passes.{RoundPasses, TurnPasses, RoundsPass, TurnsPass}
 
 pub round_passes : RoundPasses
 round_passes l x old r is = record {
-  after = λ c b law. law r.poss r.view is.least.closed.views;
+  after = λ c b law. law r.halves (closed_views l x old r.halves (least_closed l x old r.halves is.least));
   strobe = λ net b law. law r.strobe is.strobe;
 }
 

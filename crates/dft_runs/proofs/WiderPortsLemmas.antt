@@ -2,13 +2,16 @@
 use Rattle.std.proofs.Common.{ℕ, Bool, true, false, ◌≡◌, ◌⊎◌, inl, inr, Option, None, Some, refl, sym, ap, ◌∙◌}
 use Rattle.std.specs.Prelude.{if◌then◌else◌}
 use Rattle.std.proofs.lemmas.Option.{none-some}
+use Rattle.std.specs.Option.{option_or}
 use Rattle.dft_cells.specs.declared.kind.Role.TheVariants as role
 use Rattle.dft_cells.specs.FlipFlops.{is_flip_flop}
+use Rattle.dft_cells.specs.declared.kind.Kind.{Kind}
+use Rattle.dft_cells.specs.declared.kind.Kind.TheVariants as kind
 use Rattle.dft_netlist.specs.Netlist.{Netlist}
 use Rattle.dft_netlist.specs.Drivers.{Source, Driver, pins_of, kind_at, driver}
 use Rattle.dft_netlist.specs.Drivers as drivers
 use Rattle.dft_netlist.specs.Traces.{Root, Port, Constant, Other, root_of}
-use Rattle.dft_netlist.specs.Logic.{Ports, Cell, Scan, Force, Free, Clock, Input, domain_of, domain_at, force_of, forcing, modelled, modelled_of, flip_flop, flop_meaning, lockup_meaning, meaning_of, pin_of, or_loose, scan_of, no_cell, cell_or_none}
+use Rattle.dft_netlist.specs.Logic.{Ports, Cell, Scan, Force, Free, Clock, Input, domain_of, domain_at, force_of, forcing, modelled, modelled_of, flip_flop, flop_meaning, lockup_meaning, meaning_of, pin_of, or_loose, scan_of, locked, is_lockup, lock_up, stored, no_cell, cell_or_none}
 use Rattle.dft_runs.specs.WiderPorts.{Suits, PortsWiden}
 
 same_domain : (a b : Ports) → Suits a b → (r : Root) → domain_of b r ≡ domain_of a r
@@ -71,8 +74,51 @@ net_kept n a b suits net (drivers.Lockup i) =
     inr (ap (λ d. lockup_meaning i d (or_loose i (pin_of role.Din i (pins_of n i)))) (same_domain_at n a b suits (pin_of role.Clock i (pins_of n i))))
 net_kept n a b suits net drivers.Free = inl refl
 
-cell_kept : (n : Netlist) (a b : Ports) → Suits a b → (i : ℕ) → (cell_or_none i (flip_flop n a i) ≡ no_cell i) ⊎ (cell_or_none i (flip_flop n b i) ≡ cell_or_none i (flip_flop n a i))
-cell_kept n a b suits i = elim (flop_kept n a b suits i) [ inl none ↦ inl (ap (cell_or_none i) none) | inr same ↦ inr (ap (cell_or_none i) same) ]
+lock_up_same : (n : Netlist) (a b : Ports) → Suits a b → (i : ℕ) → lock_up n b i ≡ lock_up n a i
+lock_up_same n a b suits i =
+    ap (λ d. if is_lockup (kind_at n i) then locked d (or_loose i (pin_of role.Din i (pins_of n i))) else None) (same_domain_at n a b suits (pin_of role.Clock i (pins_of n i)))
+
+-- an instance that is a lock-up is no flip-flop
+apart : (k : Kind) → (is_flip_flop k ≡ false) ⊎ (is_lockup k ≡ false)
+apart kind.Lockup = inl refl
+apart kind.Opaque = inr refl
+apart kind.Dff = inr refl
+apart kind.Dffr = inr refl
+apart kind.Dffs = inr refl
+apart kind.Sdff = inr refl
+apart kind.Sdffr = inr refl
+apart kind.Sdffs = inr refl
+apart kind.Buf = inr refl
+apart kind.Inv = inr refl
+apart kind.And = inr refl
+apart kind.Nand = inr refl
+apart kind.Or = inr refl
+apart kind.Nor = inr refl
+apart kind.Xor = inr refl
+apart kind.Xnor = inr refl
+apart kind.Mux2 = inr refl
+apart (kind.Table number) = inr refl
+apart kind.Tie0 = inr refl
+apart kind.Tie1 = inr refl
+
+none_if : (t : Bool) (o : Option Cell) → t ≡ false → (if t then o else None) ≡ None
+none_if t o is = ap (λ (b : Bool). if b then o else None) is
+
+stored_kept : (n : Netlist) (a b : Ports) → Suits a b → (i : ℕ) → (stored n a i ≡ None) ⊎ (stored n b i ≡ stored n a i)
+stored_kept n a b suits i = elim (apart (kind_at n i)) [
+  | inl no_flop ↦
+      (let none : (p : Ports) → flip_flop n p i ≡ None = λ p. none_if (is_flip_flop (kind_at n i)) (modelled_of n p i (pins_of n i)) no_flop in
+      inr (ap (λ o. option_or o (lock_up n b i)) (none b) ∙ lock_up_same n a b suits i ∙ sym (ap (λ o. option_or o (lock_up n a i)) (none a))))
+  | inr no_lock ↦
+      (let none : (p : Ports) → lock_up n p i ≡ None = λ p. none_if (is_lockup (kind_at n i)) (locked (domain_at n p (pin_of role.Clock i (pins_of n i))) (or_loose i (pin_of role.Din i (pins_of n i)))) no_lock in
+      elim (flop_kept n a b suits i) [
+        | inl free ↦ inl ((λ t. option_or (free t) (none a t)))
+        | inr same ↦ inr (λ t. option_or (same t) (lock_up_same n a b suits i t))
+      ])
+]
+
+cell_kept : (n : Netlist) (a b : Ports) → Suits a b → (i : ℕ) → (cell_or_none i (stored n a i) ≡ no_cell i) ⊎ (cell_or_none i (stored n b i) ≡ cell_or_none i (stored n a i))
+cell_kept n a b suits i = elim (stored_kept n a b suits i) [ inl none ↦ inl (ap (cell_or_none i) none) | inr same ↦ inr (ap (cell_or_none i) same) ]
 
 pub ports_widen : PortsWiden
 ports_widen n a b suits = record {

@@ -5,7 +5,7 @@ use Rattle.dft_base.specs.Tri.{known}
 use Rattle.dft_netlist.specs.Logic.{Logic, IsRanked}
 use Rattle.dft_netlist.specs.Settled.{IsTriSettled}
 use Rattle.dft_netlist.specs.Runs.{Now, Vector, Turn, IsTurn, after_turn, AreTurns, AreLow}
-use Rattle.dft_abstract.specs.Cycle.{AreViews, after_pulse, pulse_of, strobe_sources, Round, IsRound, after_round}
+use Rattle.dft_abstract.specs.Cycle.{strobe_sources, Halves, AreHalves, after_halves, Round, IsRound, after_round}
 use Rattle.dft_abstract.specs.Laws.{bits, shown}
 
 -- what stands after a vector: the values of the flip-flops, and the values that its strobe showed
@@ -13,11 +13,11 @@ pub record Pass : Type 0 where
   pub new : ℕ → Tri
   pub seen : ℕ → Tri
 
--- From these values a vector passes on what is known: a flip-flop that has one bit after the pulse at every map and its views has it,
+-- From these values a vector passes on what is known: a flip-flop that has one bit after the vector for any halves has it,
 -- and a net that has one bit in every settled assignment of the strobe shows it.
 pub record Passes (l : Logic) (x : Vector) (old : ℕ → Tri) (p : Pass) : Type 0 where
   pub after : (c : ℕ) (b : Bool) →
-      ((poss : ℕ → Tri) (view : ℕ → ℕ → Tri) → AreViews l (pulse_of l x old) poss view → after_pulse l (pulse_of l x old) view c ≡ known b) → p.new c ≡ known b
+      ((h : Halves) → AreHalves l x old h → after_halves l x old h c ≡ known b) → p.new c ≡ known b
   pub strobe : (net : ℕ) (b : Bool) →
       ((values : ℕ → Tri) → IsTriSettled l (strobe_sources l x old values) values → values net ≡ known b) → p.seen net ≡ known b
 

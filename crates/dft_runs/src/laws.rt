@@ -18,7 +18,7 @@ pub fn ports_widen()
     ensures { PortsWiden }
 {}
 
-/// What the abstract cycle knows of a vector at every map, from the values before it, is there after each round and
+/// What the abstract cycle knows of a vector for all its halves, from the values before it, is there after each round and
 /// after each turn, and is shown at its strobe; so it is vector by vector.
 pub fn known_passes()
     ensures round { RoundPasses }

@@ -1,9 +1,10 @@
 -- One capture vector of a scanned netlist of style Edt.
-use Rattle.std.proofs.Common.{ℕ, ◌≡◌, true, Option, None, Some, is_some, slice_get, refl, sym, ap, ◌∙◌}
-use Rattle.dft_netlist.specs.Logic.{Logic, Ports, Cell, IsRanked, cell_or_none, flip_flop, logic_of}
+use Rattle.std.proofs.Common.{ℕ, ◌≡◌, true, Option, None, Some, is_some, slice_get, refl, sym, ◌∙◌}
+use Rattle.dft_netlist.specs.Logic.{Logic, Ports, Cell, IsRanked, flip_flop, logic_of}
 use Rattle.dft_netlist.specs.Netlist.{Netlist}
 use Rattle.dft_netlist.proofs.RankLemmas.{order_ranks}
 use Rattle.dft_netlist.proofs.Ranks.{order_is_rank}
+use Rattle.dft_netlist.proofs.StoredLemmas.{flop_cell}
 use Rattle.dft_config.specs.Config.{Config}
 use Rattle.dft_runs.specs.WiderPorts.{Widens}
 use Rattle.dft_runs.proofs.WiderPortsLemmas.{ports_widen}
@@ -47,7 +48,7 @@ module _ (n : Netlist) (config : Config) (ports : Ports) (ready : IsReady n conf
   same cell is =
       let here = flop_past n config cell (slice_get n.instances cell) refl ready is in
       let it = modelled_by p (flip_flop n (config_ports n config) cell) (flip_flop (scanned Edt n config) (ports_in Edt n config) cell) is (instance_matched Edt n config ready (spared Edt n config ready) cell here.0 here.1) in
-      ap (cell_or_none cell) (wider.flops cell it.0 it.1) ∙ sym (ap (cell_or_none cell) it.1)
+      flop_cell (scanned Edt n config) ports cell it.0 (wider.flops cell it.0 it.1) ∙ sym (flop_cell (scanned Edt n config) (ports_in Edt n config) cell it.0 it.1)
 
   covers : Covers original l p
   covers = widening_covers original (logic_of (scanned Edt n config) (ports_in Edt n config)) l p (contains Edt n config ready (spared Edt n config ready)) wider.logic same
@@ -61,6 +62,6 @@ strobes_follow n config ports ready suits y x its old values shows over settled 
     strobe_law (design_logic n config) (edt_logic n config ports) r.0 (places_in Edt n config) y x its old values shows r.1 (covers n config ports ready suits) over settled written net less
 
 pub captures_follow : CapturesFollow
-captures_follow n config ports ready suits d y x its old poss view values capture over settled views cell is =
+captures_follow n config ports ready suits d y x its old h values capture over settled halves cell is =
     let r = ranked n config ports ready suits in
-    capture_law (design_logic n config) (edt_logic n config ports) r.0 (places_in Edt n config) d y x its old poss view values r.1 (covers n config ports ready suits) capture over settled views cell is
+    capture_law (design_logic n config) (edt_logic n config ports) r.0 (places_in Edt n config) d y x its old h values r.1 (covers n config ports ready suits) capture over settled halves cell is

@@ -4,6 +4,7 @@ use Rattle.dft_netlist.specs.Netlist.{Netlist}
 use Rattle.dft_netlist.specs.Drivers.{driver, AreBelow}
 use Rattle.dft_netlist.specs.Logic.{Ports, logic_of, IsRanked}
 use Rattle.dft_netlist.specs.Orders.{Has, reads_of, IsOrderable, Follows}
+use Rattle.dft_netlist.proofs.StoredLemmas.{lockup_stored}
 use Rattle.dft_netlist.proofs.Ranks.{meaning_below}
 
 -- ---- heights
@@ -48,4 +49,10 @@ below_height n ok net (Follows h) =
 
 -- where every net can be ordered there is a rank
 pub ranked : (n : Netlist) (ports : Ports) → ((net : ℕ) → IsOrderable n net) → (rank : ℕ → ℕ) × IsRanked (logic_of n ports) rank
-ranked n ports ok = (λ net. height n net (ok net), λ net. meaning_below n ports (λ k. height n k (ok k)) net (driver n net) (below_height n ok net (ok net)))
+ranked n ports ok = (
+  λ net. height n net (ok net),
+  record {
+    order = λ net. meaning_below n ports (λ k. height n k (ok k)) net (driver n net) (below_height n ok net (ok net));
+    lockups = lockup_stored n ports;
+  },
+)

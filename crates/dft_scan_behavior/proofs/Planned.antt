@@ -14,7 +14,8 @@ use Rattle.dft_netlist.specs.declared.instance.Signal.TheVariants as signal
 use Rattle.dft_netlist.specs.declared.instance.Instance.{Instance}
 use Rattle.dft_netlist.specs.Netlist.{Netlist}
 use Rattle.dft_netlist.specs.Drivers.{Source, Net, Shape, Flop, connections_from, inputs_of, driven_by, driver, kind_of, kind_at, pins_at, pins_of, shape_of}
-use Rattle.dft_netlist.specs.Logic.{Ports, Force, Scan, Cell, pin_of, or_loose, forcing, scan_of, modelled, modelled_of, flip_flop, cell_or_none, logic_of}
+use Rattle.dft_netlist.specs.Logic.{Ports, Force, Scan, Cell, pin_of, or_loose, forcing, scan_of, modelled, modelled_of, flip_flop, logic_of}
+use Rattle.dft_netlist.proofs.StoredLemmas.{flop_cell}
 use Rattle.dft_config.specs.Config.{Config}
 use Rattle.dft_rules.specs.declared.judged.Judged.TheVariants.{Scanned}
 use Rattle.dft_scan_frame.specs.ConfigPorts.{config_ports}
@@ -209,7 +210,7 @@ enable_source style n config i s =
 -- ---- the scan cell
 
 pub flop_is : (style : Style) (n : Netlist) (config : Config) (i : ℕ) (s : IsPlanned style n config i) → (logic_of (scanned style n config) (ports_in style n config)).cell i ≡ s.flop
-flop_is style n config i s = ap (cell_or_none i) s.is
+flop_is style n config i s = flop_cell (scanned style n config) (ports_in style n config) i s.flop s.is
 
 pub clock_in : (style : Style) (n : Netlist) (config : Config) (i domain : ℕ) → IsReady n config → (c : IsClocked n config i domain) → (ports_in style n config).is_clock c.net ≡ true
 clock_in style n config i domain ready c = (ports_alike style n config).clocks c.net (root_among n config c.source c.net ready c.root) ∙ clock_is n config i domain c

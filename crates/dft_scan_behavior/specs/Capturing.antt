@@ -7,7 +7,7 @@ use Rattle.dft_netlist.specs.Logic.{Logic, Ports, logic_of}
 use Rattle.dft_netlist.specs.Netlist.{Netlist}
 use Rattle.dft_netlist.specs.Runs.{Vector}
 use Rattle.dft_netlist.specs.Settled.{IsTriSettled}
-use Rattle.dft_abstract.specs.Cycle.{AreViews, after_pulse, pulse_of, strobe_sources}
+use Rattle.dft_abstract.specs.Cycle.{pulse_of, strobe_sources, Halves, AreHalves, after_halves}
 use Rattle.dft_abstract.specs.Laws.{next_from}
 use Rattle.dft_config.specs.Config.{Config}
 use Rattle.dft_edt.specs.Captures.{StandsOver, IsCapture}
@@ -30,16 +30,16 @@ StrobesStand n config ports =
     IsTriSettled (edt_logic n config ports) (strobe_sources (edt_logic n config ports) x old shows) shows →
     (net : ℕ) → net < (places_in Edt n config).size → AboveTri (values net) (shows ((places_in Edt n config).moved net))
 
--- What a capture vector leaves, in which one domain pulses while scan_enable is 0, at any map and its views. A flip-flop of that domain
+-- What a capture vector leaves, in which one domain pulses while scan_enable is 0, for any halves. A flip-flop of that domain
 -- takes no more than its next value in the design alone, from the values of the strobe; each other keeps what it had.
 abbrev pub CapturesStand : Netlist → Config → Ports → Type 0
 CapturesStand n config ports =
-    (d : ℕ) (y x : Vector) (its old poss : ℕ → Tri) (view : ℕ → ℕ → Tri) (values : ℕ → Tri) →
+    (d : ℕ) (y x : Vector) (its old : ℕ → Tri) (h : Halves) (values : ℕ → Tri) →
     let l = edt_logic n config ports in
     IsCapture (places_in Edt n config) d x → StandsOver (places_in Edt n config) y x its old → IsTriSettled (design_logic n config) (strobe_sources (design_logic n config) y its values) values →
-    AreViews l (pulse_of l x old) poss view → (cell : ℕ) → (places_in Edt n config).is_flop cell ≡ true →
-    (((design_logic n config).cell cell).domain ≡ d → AboveTri (next_from (design_logic n config) y values cell) (after_pulse l (pulse_of l x old) view cell))
-    × ((((design_logic n config).cell cell).domain == d) ≡ false → AboveTri ((pulse_of (design_logic n config) y its).old cell) (after_pulse l (pulse_of l x old) view cell))
+    AreHalves l x old h → (cell : ℕ) → (places_in Edt n config).is_flop cell ≡ true →
+    (((design_logic n config).cell cell).domain ≡ d → AboveTri (next_from (design_logic n config) y values cell) (after_halves l x old h cell))
+    × ((((design_logic n config).cell cell).domain == d) ≡ false → AboveTri ((pulse_of (design_logic n config) y its).old cell) (after_halves l x old h cell))
 
 -- ---- for every ready design, under all ports that suit
 

@@ -8,7 +8,7 @@ use Rattle.dft_netlist.specs.Logic.{Logic, Ports, logic_of}
 use Rattle.dft_netlist.specs.Netlist.{Netlist}
 use Rattle.dft_netlist.specs.Settled.{IsTriSettled}
 use Rattle.dft_netlist.specs.Runs.{Now, Vector, Turn, IsTurn, after_turn, AreLow}
-use Rattle.dft_abstract.specs.Cycle.{AreViews, after_pulse, pulse_of, strobe_sources}
+use Rattle.dft_abstract.specs.Cycle.{pulse_of, strobe_sources, Halves, AreHalves, after_halves}
 use Rattle.dft_abstract.specs.Laws.{shown}
 use Rattle.dft_config.specs.Config.{Config}
 use Rattle.dft_config.specs.Ring.{step, phase_sum, sum_of}
@@ -108,20 +108,20 @@ pub record ActsInRuns (n : Netlist) (config : Config) (ports : Ports) : Type 0 w
 abbrev pub VectorsActInRuns : Type 0
 VectorsActInRuns = (n : Netlist) (config : Config) (ports : Ports) → IsReady n config → SuitsEdt n config ports → ActsInRuns n config ports
 
--- ---- on the abstract cycle, at any map and its views
+-- ---- on the abstract cycle, for any halves
 
 pub record Acts (n : Netlist) (config : Config) (ports : Ports) : Type 0 where
-  pub shift : (x : Vector) (old poss : ℕ → Tri) (view : ℕ → ℕ → Tri) → IsShift n config x → AreViews (edt_logic n config ports) (pulse_of (edt_logic n config ports) x old) poss view →
-      Shifts config (plan_of n config).chains (edt_hardware n config) (λ j. x.ports ((edt_hardware n config).channel j)) old (after_pulse (edt_logic n config ports) (pulse_of (edt_logic n config ports) x old) view)
-  pub clear : (x : Vector) (old poss : ℕ → Tri) (view : ℕ → ℕ → Tri) → IsClearing (edt_hardware n config) x → AreViews (edt_logic n config ports) (pulse_of (edt_logic n config ports) x old) poss view →
-      Clears config (edt_hardware n config) (after_pulse (edt_logic n config ports) (pulse_of (edt_logic n config ports) x old) view)
-  pub masks : (x : Vector) (old poss : ℕ → Tri) (view : ℕ → ℕ → Tri) → x.pulsed (edt_hardware n config).clock ≡ true → AreViews (edt_logic n config ports) (pulse_of (edt_logic n config ports) x old) poss view →
-      MasksMove config (edt_hardware n config) (λ m. x.ports ((edt_hardware n config).mask_port m)) old (after_pulse (edt_logic n config ports) (pulse_of (edt_logic n config ports) x old) view)
-  pub stay : (x : Vector) (old poss : ℕ → Tri) (view : ℕ → ℕ → Tri) → x.pulsed (edt_hardware n config).clock ≡ true → x.ports (edt_hardware n config).update ≡ Zero →
-      AreViews (edt_logic n config ports) (pulse_of (edt_logic n config ports) x old) poss view → HoldsStay config (edt_hardware n config) old (after_pulse (edt_logic n config ports) (pulse_of (edt_logic n config ports) x old) view)
-  pub take : (x : Vector) (old poss : ℕ → Tri) (view : ℕ → ℕ → Tri) → x.pulsed (edt_hardware n config).clock ≡ true → x.ports (edt_hardware n config).update ≡ One →
-      AreViews (edt_logic n config ports) (pulse_of (edt_logic n config ports) x old) poss view → HoldsTake config (edt_hardware n config) old (after_pulse (edt_logic n config ports) (pulse_of (edt_logic n config ports) x old) view)
-  pub rest : (x : Vector) (old : ℕ → Tri) (view : ℕ → ℕ → Tri) → x.pulsed (edt_hardware n config).clock ≡ false → AreAsBefore n config old (after_pulse (edt_logic n config ports) (pulse_of (edt_logic n config ports) x old) view)
+  pub shift : (x : Vector) (old : ℕ → Tri) (h : Halves) → IsShift n config x → AreHalves (edt_logic n config ports) x old h →
+      Shifts config (plan_of n config).chains (edt_hardware n config) (λ j. x.ports ((edt_hardware n config).channel j)) old (after_halves (edt_logic n config ports) x old h)
+  pub clear : (x : Vector) (old : ℕ → Tri) (h : Halves) → IsClearing (edt_hardware n config) x → AreHalves (edt_logic n config ports) x old h →
+      Clears config (edt_hardware n config) (after_halves (edt_logic n config ports) x old h)
+  pub masks : (x : Vector) (old : ℕ → Tri) (h : Halves) → x.pulsed (edt_hardware n config).clock ≡ true → AreHalves (edt_logic n config ports) x old h →
+      MasksMove config (edt_hardware n config) (λ m. x.ports ((edt_hardware n config).mask_port m)) old (after_halves (edt_logic n config ports) x old h)
+  pub stay : (x : Vector) (old : ℕ → Tri) (h : Halves) → x.pulsed (edt_hardware n config).clock ≡ true → x.ports (edt_hardware n config).update ≡ Zero →
+      AreHalves (edt_logic n config ports) x old h → HoldsStay config (edt_hardware n config) old (after_halves (edt_logic n config ports) x old h)
+  pub take : (x : Vector) (old : ℕ → Tri) (h : Halves) → x.pulsed (edt_hardware n config).clock ≡ true → x.ports (edt_hardware n config).update ≡ One →
+      AreHalves (edt_logic n config ports) x old h → HoldsTake config (edt_hardware n config) old (after_halves (edt_logic n config ports) x old h)
+  pub rest : (x : Vector) (old : ℕ → Tri) (h : Halves) → x.pulsed (edt_hardware n config).clock ≡ false → AreAsBefore n config old (after_halves (edt_logic n config ports) x old h)
   -- a reset or set acts on the last cells at once
   pub strobe : (x : Vector) (old values : ℕ → Tri) → IsTriSettled (edt_logic n config ports) (strobe_sources (edt_logic n config ports) x old values) values → (j : ℕ) → j < length config.compactor.groups →
       values ((edt_hardware n config).output j)

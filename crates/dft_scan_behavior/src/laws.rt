@@ -24,7 +24,7 @@ pub fn plain_shifts()
     ensures shows { ScannedShows }
 {}
 
-/// In style Edt, what one vector does to the hardware: in every run, and on the abstract cycle at any map and its views.
+/// In style Edt, what one vector does to the hardware: in every run, and on the abstract cycle for any halves.
 pub fn edt_acts()
     ensures runs { VectorsActInRuns }
     ensures cycle { VectorsAct }

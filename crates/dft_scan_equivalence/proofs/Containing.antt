@@ -1,15 +1,16 @@
 -- A scanned netlist of either style contains its design, where the parts that are made leave the design's nets alone.
-use Rattle.std.proofs.Common.{ℕ, suc, ◌+◌, ◌≡◌, ◌==◌, ◌<◌, true, false, List, ◌∷◌, ◌++◌, drop, length, map, slice_get, refl, ap, arith, ◌∙◌, append_assoc}
+use Rattle.std.proofs.Common.{ℕ, suc, ◌+◌, ◌≡◌, ◌==◌, ◌<◌, true, false, List, ◌∷◌, ◌++◌, drop, length, map, slice_get, refl, ap, arith, ◌∙◌, append_assoc, subst, sym, Option}
 use Rattle.std.specs.Prelude.{if◌then◌else◌}
 use Rattle.std.proofs.lemmas.Bool.{eq-eqb, or_from}
 use Rattle.dft_netlist.specs.Netlist.{Netlist}
 use Rattle.dft_netlist.specs.Sound.{bits_of}
 use Rattle.dft_netlist.specs.Drivers.{Driver, Driven, driven_by_instances, driven_by_ports, driven_by_joins, driver, driver_in}
 use Rattle.dft_netlist.specs.Drivers as drivers
-use Rattle.dft_netlist.specs.Logic.{flip_flop, meaning_of, logic_of}
+use Rattle.dft_netlist.specs.Logic.{flip_flop, meaning_of, logic_of, Cell, cell_or_none}
 use Rattle.dft_netlist.specs.Logic as logic
 use Rattle.dft_netlist.proofs.RankLemmas.{order_ranks}
 use Rattle.dft_netlist.proofs.Ranks.{order_is_rank}
+use Rattle.dft_netlist.proofs.StoredLemmas.{kept_cell}
 use Rattle.dft_config.specs.Config.{Config}
 use Rattle.dft_chains.specs.ScanOff.{moved_meaning, Contains, KeepsFlop}
 use Rattle.dft_chains.proofs.ScanOffLemmas.{scan_off}
@@ -17,7 +18,7 @@ use Rattle.dft_scan_frame.specs.AddedPorts.{ports_from}
 use Rattle.dft_scan_frame.specs.Moves.{moved, moved_join, map_from}
 use Rattle.dft_scan_frame.specs.ConfigPorts.{config_ports}
 use Rattle.dft_scan_frame.specs.Statements.{IsReady}
-use Rattle.dft_scan_frame.proofs.Containing.{flop_matched, clock_choice, flop_past, kept_by, reads_by, shows_by, lockup_by, no_clock}
+use Rattle.dft_scan_frame.proofs.Containing.{flop_matched, clock_choice, flop_past, kept_by, reads_by, shows_by, lockup_by, no_clock, both_kept}
 use Rattle.dft_scan_frame.proofs.Fine.{FineBy, driver_fine}
 use Rattle.dft_scan_frame.proofs.Kept.{reads_inside}
 use Rattle.dft_scan_frame.proofs.Mergings.{moved_driver}
@@ -88,7 +89,12 @@ flop_kept : (style : Style) (n : Netlist) (config : Config) (i : ℕ) → IsRead
     KeepsFlop (places_in style n config) ((logic_of n (config_ports n config)).cell i) ((logic_of (scanned style n config) (ports_in style n config)).cell i)
 flop_kept style n config i ready spared is =
     let here = flop_past n config i (slice_get n.instances i) refl ready is in
-    kept_by (places_in style n config) i (flip_flop n (config_ports n config) i) (flip_flop (scanned style n config) (ports_in style n config) i) is (instance_matched style n config ready spared i here.0 here.1)
+    let matched = instance_matched style n config ready spared i here.0 here.1 in
+    let old : Option Cell = flip_flop n (config_ports n config) i in
+    let new : Option Cell = flip_flop (scanned style n config) (ports_in style n config) i in
+    subst (λ (c : Cell). KeepsFlop (places_in style n config) c ((logic_of (scanned style n config) (ports_in style n config)).cell i)) (sym (kept_cell n (config_ports n config) i is))
+    (subst (KeepsFlop (places_in style n config) (cell_or_none i old)) (sym (kept_cell (scanned style n config) (ports_in style n config) i (both_kept (places_in style n config) old new is matched)))
+    (kept_by (places_in style n config) i old new is matched))
 
 -- ---- the whole
 

@@ -132,6 +132,11 @@ pub flop_past : (n : Netlist) (config : Config) (i : ℕ) (o : Option Instance) 
 flop_past n config i None at ready is = absurd cc
 flop_past n config i (Some x) at ready is = (x, at)
 
+pub both_kept : (p : Places) (old new : Option Cell) → is_some old ≡ true → AreMatched p old new → is_some new ≡ true
+both_kept p None new is h = absurd cc
+both_kept p (Some a) None is h = absurd h
+both_kept p (Some a) (Some b) is h = refl
+
 pub kept_by : (p : Places) (i : ℕ) (old new : Option Cell) → is_some old ≡ true → AreMatched p old new → KeepsFlop p (cell_or_none i old) (cell_or_none i new)
 kept_by p i None new is h = absurd cc
 kept_by p i (Some a) None is h = absurd h

@@ -22,5 +22,6 @@ pub mod SomePatterns
 pub mod Completed
 pub mod Failing
 pub mod JobEnds
+pub mod JobFits
 pub mod Suited
 pub mod RunEnds

@@ -145,7 +145,7 @@ library_gives_one (Some name) held r s x y = file_one MAX_LIBRARY_BYTES (codes "
 
 -- ---- the configuration
 
-config_one : (text : List ℕ) (a b : Config) → IsConfig text a → IsConfig text b → a ≡ b
+pub config_one : (text : List ℕ) (a b : Config) → IsConfig text a → IsConfig text b → a ≡ b
 config_one text a b x y = let e : Ok a ≡ Ok b = sym x.2 ∙ ap reading (table_one text x.0 y.0 x.1 y.1) ∙ y.2 in cc
 
 -- a refusal is that of no table, or tells the first fault
@@ -174,10 +174,14 @@ config_or_refused : (text : List ℕ) (c : Config) (error : ConfigError) → IsC
 config_or_refused text c error x (inl none) = none.1 x.0 x.1
 config_or_refused text c error x (inr fails) = let e : Ok c ≡ Err fails.1 = sym x.2 ∙ ap reading (table_one text x.0 fails.0 x.1 fails.2) ∙ fails.3 in cc
 
+-- a text that stands for a configuration is not refused
+pub config_refused : (text : List ℕ) (c : Config) (refusal : Refusal) → IsConfig text c → ConfigText text (Err refusal) → ⊥
+config_refused text c refusal is x = config_or_refused text c x.0 is (tells text x.0 refusal x.1.0 x.1.1)
+
 pub config_text_one : (text : List ℕ) (r s : Result Config Refusal) → ConfigText text r → ConfigText text s → r ≡ s
 config_text_one text (Ok a) (Ok b) x y = ap Ok (config_one text a b x.stands y.stands)
-config_text_one text (Ok c) (Err refusal) x y = absurd (config_or_refused text c y.0 x.stands (tells text y.0 refusal y.1.0 y.1.1))
-config_text_one text (Err refusal) (Ok c) x y = absurd (config_or_refused text c x.0 y.stands (tells text x.0 refusal x.1.0 x.1.1))
+config_text_one text (Ok c) (Err refusal) x y = absurd (config_refused text c refusal x.stands y)
+config_text_one text (Err refusal) (Ok c) x y = absurd (config_refused text c refusal y.stands x)
 config_text_one text (Err a) (Err b) x y = ap Err (told_one _ _ a b (ap config_refusal (tells_one text x.0 y.0 (tells text x.0 a x.1.0 x.1.1) (tells text y.0 b y.1.0 y.1.1))) x.1.1 y.1.1)
 
 -- ---- the netlist
@@ -239,10 +243,14 @@ stands_or_refused cells text n error x (inr y) =
     let same : v.grown ≡ x.grown = grown_one v.draft x.draft v.grown x.grown (draft_one cells text v.draft x.draft v.said x.said) v.parts x.parts in
     finished_or_refused x.grown n y.0 y.1.1.0 x.finished (subst (λ (m : Netlist). CannotFinish m y.0) same v.refused)
 
+-- a text that stands for a netlist is not refused
+pub netlist_refused : (cells : List Cell) (text : List ℕ) (n : Netlist) (refusal : Refusal) → StandsFor cells text n → NetlistText cells text (Err refusal) → ⊥
+netlist_refused cells text n refusal stands x = stands_or_refused cells text n x.0 stands (reason cells text x.0 refusal x.1.0 x.1.1)
+
 pub netlist_text_one : (cells : List Cell) (text : List ℕ) (r s : Result Netlist Refusal) → NetlistText cells text r → NetlistText cells text s → r ≡ s
 netlist_text_one cells text (Ok a) (Ok b) x y = ap Ok (stands_one cells text a b x.stands y.stands)
-netlist_text_one cells text (Ok n) (Err refusal) x y = absurd (stands_or_refused cells text n y.0 x.stands (reason cells text y.0 refusal y.1.0 y.1.1))
-netlist_text_one cells text (Err refusal) (Ok n) x y = absurd (stands_or_refused cells text n x.0 y.stands (reason cells text x.0 refusal x.1.0 x.1.1))
+netlist_text_one cells text (Ok n) (Err refusal) x y = absurd (netlist_refused cells text n refusal x.stands y)
+netlist_text_one cells text (Err refusal) (Ok n) x y = absurd (netlist_refused cells text n refusal y.stands x)
 netlist_text_one cells text (Err a) (Err b) x y = ap Err (told_one _ _ a b (ap verilog_refusal (reason_alone cells text x.0 y.0 (reason cells text x.0 a x.1.0 x.1.1) (reason cells text y.0 b y.1.0 y.1.1))) x.1.1 y.1.1)
 
 -- ---- the patterns
@@ -308,10 +316,14 @@ cube_told told (cube.Memory error) refusal refused is = absurd cc
 cubes_or_refused : (told : Result (List Cube) CubeError) (given : List Cube) (error : CubeError) → told ≡ Ok given → told ≡ Err error → ⊥
 cubes_or_refused told given error x y = let e : Ok given ≡ Err error = sym x ∙ y in cc
 
+-- a text that is read as cubes is not refused
+pub cubes_refused : (n : Netlist) (c : Config) (text : List ℕ) (given : List Cube) (refusal : Refusal) → cubes.cubes_of n c text ≡ Ok given → CubeText n c text (Err refusal) → ⊥
+cubes_refused n c text given refusal read x = cubes_or_refused (cubes.cubes_of n c text) given x.0 read (cube_told (cubes.cubes_of n c text) x.0 refusal x.1.0 x.1.1)
+
 pub cube_text_one : (n : Netlist) (c : Config) (text : List ℕ) (r s : Result (List Cube) Refusal) → CubeText n c text r → CubeText n c text s → r ≡ s
 cube_text_one n c text (Ok a) (Ok b) x y = ap Ok (ok_same (cubes.cubes_of n c text) a b x y)
-cube_text_one n c text (Ok given) (Err refusal) x y = absurd (cubes_or_refused (cubes.cubes_of n c text) given y.0 x (cube_told (cubes.cubes_of n c text) y.0 refusal y.1.0 y.1.1))
-cube_text_one n c text (Err refusal) (Ok given) x y = absurd (cubes_or_refused (cubes.cubes_of n c text) given x.0 y (cube_told (cubes.cubes_of n c text) x.0 refusal x.1.0 x.1.1))
+cube_text_one n c text (Ok given) (Err refusal) x y = absurd (cubes_refused n c text given refusal x y)
+cube_text_one n c text (Err refusal) (Ok given) x y = absurd (cubes_refused n c text given refusal y x)
 cube_text_one n c text (Err a) (Err b) x y =
     ap Err (told_one _ _ a b (ap cube_refusal (err_same (cubes.cubes_of n c text) x.0 y.0 (cube_told (cubes.cubes_of n c text) x.0 a x.1.0 x.1.1) (cube_told (cubes.cubes_of n c text) y.0 b y.1.0 y.1.1))) x.1.1 y.1.1)
 

@@ -1,5 +1,5 @@
 -- What a run promises.
-use Rattle.std.specs.Prelude.{ℕ, ◌≡◌, ◌⊎◌, List, Option, None, Some}
+use Rattle.std.specs.Prelude.{ℕ, ◌≡◌, ◌<◌, ◌⊎◌, List, Option, None, Some}
 use Rattle.dft_files.specs.Outside.{Held, Told, ToldChange, Rose}
 use Rattle.dft_files.specs.Put.{Adds, AddsPrefix}
 use Rattle.dft_answers.specs.declared.answer.Status.{Status}
@@ -165,12 +165,17 @@ CompilesTold words held held' answer = (files : CompileFiles) → IsCompile word
 abbrev pub CertifiesTold : List (List ℕ) → Option Held → Answer → Type 0
 CertifiesTold words held answer = (files : CertifyFiles) → IsCertify words files → answer.status ≡ Done → Told (Certifies files) held
 
--- where the words are a generated job, its run is done, or refused with the refusal of the job; or its lines could not be put, or memory ran out
+-- a job of more than 16,240 cells may be refused: its patterns may have more vectors than are read, or its report more bytes than it may have
+abbrev pub MayBeRefused : JobNumbers → Type 0
+MayBeRefused numbers = 16240 < numbers.size
+
+-- where the words are a generated job, its run is done; or it may be refused, and is, with the refusal of the job; or its lines could not be put, or
+-- memory ran out
 abbrev pub GeneratesJob : List (List ℕ) → (put_faults put_faults' : ℕ) → Answer → Type 0
 GeneratesJob words put_faults put_faults' answer =
     (numbers : JobNumbers) → IsGenerate words numbers →
     (answer.status ≡ Done)
-    ⊎ ((refusal : Refusal) × (IsOutcomeOfJob numbers (outcome.Refused refusal) × (answer ≡ answer_of (outcome.Refused refusal))))
+    ⊎ (MayBeRefused numbers × ((refusal : Refusal) × (IsOutcomeOfJob numbers (outcome.Refused refusal) × (answer ≡ answer_of (outcome.Refused refusal)))))
     ⊎ ((answer.status ≡ WriteFault) × Rose put_faults put_faults')
     ⊎ (answer.status ≡ OutOfMemory)
 

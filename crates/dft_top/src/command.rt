@@ -47,8 +47,8 @@ use std::alloc::Global;
 /// load a cube that the report calls unsolvable, in any run of the scanned netlist.
 ///
 /// Where files are told that pass all checks of a command, and no call of the outside fails, the command answers Done, and a
-/// replay Done exactly where the verdict is Pass. A generated job, which needs no files, is Done or refused where its lines can
-/// be put. Want of memory is the one exception.
+/// replay Done exactly where the verdict is Pass. A generated job, which needs no files, is Done where its lines can be put; one
+/// of more than 16,240 cells may be refused. Want of memory is the one exception.
 pub fn run<F: Files, O: Sink>(alloc: Global, words: &[String], files: &mut F, out: &mut O) -> Answer
     ensures ends { Ends (map string_bytes words.entry.now)
         (seen (F.held files.old) (F.failed files.old) (F.read_faults files.old) (F.write_faults files.old) (O.told out.old) (O.faults out.old))

@@ -1,9 +1,4 @@
-pub mod OneOperandLemmas
-pub mod LoneNameLemmas
-pub mod ConnectionLemmas
 pub mod FaultLemmas
-pub mod GateLemmas
-pub mod KeptLemmas
 pub mod ReaderLemmas
 pub mod NumberingLemmas
 pub mod GrowLemmas

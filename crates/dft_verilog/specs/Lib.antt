@@ -1,9 +1,4 @@
 pub mod Built
-pub mod Declarations
-pub mod PortDeclarations
-pub mod JoinedPins
-pub mod LoneNames
-pub mod ConcatenationsShown
 pub mod Refusals
 pub mod FinalNets
 pub mod Buildable

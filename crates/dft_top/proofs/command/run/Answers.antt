@@ -1,6 +1,7 @@
 use Rattle.dft_top.proofs.Completed.{completes_for}
 use Rattle.dft_top.proofs.Failing.{fails_for}
 use Rattle.dft_top.proofs.JobEnds.{generates_for}
+use Rattle.dft_top.proofs.JobFits.{jobs_fit}
 use Rattle.dft_top.proofs.JobReplays.{jobs_pass}
 use Rattle.dft_top.proofs.Kept.{kept_for}
 use Rattle.dft_top.proofs.Promised.{certifies_for, compiles_for, passes_for, scans_for}
@@ -13,7 +14,7 @@ pub returns-in-Ok-clause-fails : goal.returns-in-Ok-clause-fails
 returns-in-Ok-clause-fails g c = fails_for _ _ _ _ _ c.in-Ok.ensures c.run_command.ensures
 
 pub returns-in-Ok-clause-generates : goal.returns-in-Ok-clause-generates
-returns-in-Ok-clause-generates g c = generates_for (jobs_pass c.compilations_hold.ensures) _ _ _ _ _ c.in-Ok.ensures c.run_command.ensures
+returns-in-Ok-clause-generates g c = generates_for (jobs_pass c.compilations_hold.ensures) (jobs_fit c.compilations_hold.ensures) _ _ _ _ _ c.in-Ok.ensures c.run_command.ensures
 
 pub returns-in-Ok-clause-scans : goal.returns-in-Ok-clause-scans
 returns-in-Ok-clause-scans g c = scans_for _ _ _ _ _ c.in-Ok.ensures c.run_command.ensures

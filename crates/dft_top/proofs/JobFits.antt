@@ -1,0 +1,246 @@
+-- No check refuses a generated job of up to 16,240 cells.
+use Rattle.std.proofs.Common.{ℕ, ◌≡◌, ◌≤◌, ◌∙◌, inl, inr, nat_lt, false, List, [], ◌∷◌, codes, length, refl, sym, ap, subst, arith, Option, None, Some, option_map, Result, Ok, Err}
+use Rattle.std.proofs.lemmas.Bool.Decides.{nat_tests}
+use Rattle.dft_files.specs.Outside.{Held}
+use Rattle.dft_cells.specs.declared.cell.Cell.{Cell}
+use Rattle.dft_cells.specs.Standard.{standard_cells}
+use Rattle.dft_config.specs.Config.{Config}
+use Rattle.dft_config.specs.Range.{IsInRange}
+use Rattle.dft_config.specs.Refusals.{IsConfig}
+use Rattle.dft_netlist.specs.Netlist.{Netlist}
+use Rattle.dft_netlist.specs.Orders.{IsOrder}
+use Rattle.dft_netlist.specs.Sound.{IsNetlist}
+use Rattle.dft_netlist.proofs.RankLemmas.{order_ranks}
+use Rattle.dft_netlist_text.specs.NetlistText.{StandsFor}
+use Rattle.dft_patterns.specs.Patterns.{Patterns}
+use Rattle.dft_stil_text.specs.declared.limits.TheConstants.{MAX_VECTORS}
+use Rattle.dft_stitch.specs.declared.error.StitchError.{StitchError}
+use Rattle.dft_stitch.specs.Chains.{plan_of}
+use Rattle.dft_rules.specs.declared.error.RuleError.{RuleError}
+use Rattle.dft_scan_frame.specs.declared.error.InsertError.{InsertError}
+use Rattle.dft_scan_frame.specs.Statements.{IsReady}
+use Rattle.dft_scan_hardware.specs.declared.style.Style.TheVariants.{Edt}
+use Rattle.dft_scan_hardware.specs.Statements.{scanned}
+use Rattle.dft_stil_tokens.specs.declared.blanks.TheConstants.{MAX_TEXT}
+use Rattle.dft_stil_text.specs.declared.error.StilError.{StilError}
+use Rattle.dft_report.specs.declared.error.ReportError.{ReportError}
+use Rattle.dft_report.specs.declared.limits.TheConstants.{MAX_BYTES}
+use Rattle.dft_cubes.specs.declared.cube.Cube.{Cube}
+use Rattle.dft_cubes.specs.Cubes.{cubes_of}
+use Rattle.dft_cubes.specs.Laws.{AreCubes}
+use Rattle.dft_vectors.specs.PatternData.{PatternData}
+use Rattle.dft_encode.specs.Compiled.{ArePatterns, Placing}
+use Rattle.dft_encode.specs.Laws.{vectors_in}
+use Rattle.dft_compile.specs.declared.error.CompileError.TheVariants.{Insert, Patterns as TooManyPatterns, Report as TooLongReport, Rules, Stitch}
+use Rattle.dft_compile.specs.declared.prepared.Prepared.{Prepared}
+use Rattle.dft_compile.specs.declared.texts.Counts.{Counts}
+use Rattle.dft_compile.specs.Refusals.{first_failing, first_refusal, of_length, too_many}
+use Rattle.dft_compile.specs.Texts as compiled
+use Rattle.dft_compile.proofs.BytesLemmas.{bytes_told, list_count, vector_count}
+use Rattle.dft_compile_laws.specs.Holding.{CompilationsHold, HoldsOf, without_notes}
+use Rattle.dft_compile_laws.specs.Passing.{set_of}
+use Rattle.dft_compile_laws.specs.Written.{all_compared}
+use Rattle.dft_generate.specs.Configurations.{configuration}
+use Rattle.dft_generate.specs.Configurations.{configuration_text as job_configuration}
+use Rattle.dft_generate.specs.Cubes.{cubes_text as job_cubes}
+use Rattle.dft_generate.specs.Jobs.{IsSize}
+use Rattle.dft_generate.specs.Netlists.{netlist_text as job_netlist}
+use Rattle.dft_generate.specs.Words.{words_of}
+use Rattle.dft_generate.proofs.ReadConfiguration.{configuration_read}
+use Rattle.dft_generate_laws.specs.CubeLists.{cubes_in}
+use Rattle.dft_generate_laws.specs.Designs.{design}
+use Rattle.dft_generate_laws.proofs.Bytes.{pattern_texts_fit}
+use Rattle.dft_generate_laws.proofs.CubeTexts.{cubes_are_read}
+use Rattle.dft_generate_laws.proofs.Framed.{designs_are_accepted}
+use Rattle.dft_generate_laws.proofs.Lengths.{texts_are_short}
+use Rattle.dft_generate_laws.proofs.NetlistLaws.{netlists_are_read}
+use Rattle.dft_generate_laws.proofs.Reported.{reports_fit}
+use Rattle.dft_generate_laws.proofs.ScannedTexts.{scanned_are_short}
+use Rattle.dft_generate_laws.proofs.Seeds.{seeds_give_words}
+use Rattle.dft_generate_laws.proofs.Vectors.{patterns_fit}
+use Rattle.dft_command_line.specs.Words.{JobNumbers}
+use Rattle.dft_answers.specs.declared.answer.Refusal.{Refusal}
+use Rattle.dft_answers.specs.declared.outcome.Outcome.{Outcome}
+use Rattle.dft_answers.specs.declared.outcome.Outcome.TheVariants.{Finished}
+use Rattle.dft_answers.specs.declared.outcome.Work.TheVariants.{Compiled}
+use Rattle.dft_io.specs.Texts.{FileGives}
+use Rattle.dft_top.specs.declared.limits.TheConstants.{MAX_CONFIG_BYTES, MAX_CUBE_BYTES, MAX_NETLIST_BYTES}
+use Rattle.dft_top.specs.Checks.{ConfigGives, ConfigText, CubeText, CubesGive, DesignGives, IsReadied, LibraryGives, NetlistGives, NetlistText, PatternsGive}
+use Rattle.dft_top.specs.Courses.{Reaches, Then}
+use Rattle.dft_top.specs.Outcomes.{IsCompiled, IsOutcomeOfCubes, IsOutcomeOfJob, IsOutcomeOfPlacing, IsOutcomeOn, IsReplayedOf, course_of_compile, generated, job_files, made_files, made_held, refusal_of, texts_held}
+use Rattle.dft_top.proofs.Lengths.{late_short}
+use Rattle.dft_top.proofs.PassingFiles.{replay_due}
+use Rattle.dft_top.proofs.Promised.{are_cubes}
+use Rattle.dft_top.proofs.Readings.{accepted_or_refused, config_one, config_refused, cubes_refused, netlist_refused, ok_same, stands_one}
+use Rattle.dft_top.proofs.Replays.{IsAccepted, on_passes}
+use Rattle.dft_top.proofs.Steps.{CompileOf, CompileOn, CompileOver, CompileWith}
+
+-- ---- steps that give one value and are not refused
+
+abbrev GivesOnly : {A : Type 0} → (Result A Refusal → Type 0) → A → Type 0
+GivesOnly {A} gives value = ((other : A) → gives (Ok other) → other ≡ value) × ((refusal : Refusal) → gives (Err refusal) → ⊥)
+
+only_next : {A : Type 0} (gives : Result A Refusal → Type 0) (next : A → Outcome → Type 0) (o : Outcome) (value : A) → GivesOnly gives value → Then gives next o → gives (Ok value) × next value o
+only_next gives next o value only (inl x) = subst (λ other. gives (Ok other) × next other o) (only.0 x.0 x.1.0) x.1
+only_next gives next o value only (inr x) = absurd (only.1 x.0 x.1.0)
+
+file_refused : {A : Type 0} (limit : ℕ) (option : List ℕ) (text_gives : List ℕ → Result A Refusal → Type 0) (text : List ℕ) (refusal : Refusal) → length text ≤ limit → (text_gives text (Err refusal) → ⊥) →
+    FileGives limit option text_gives (Some text) (Err refusal) → ⊥
+file_refused limit option text_gives text refusal short never (inl x) = let long = x.0 in omega (arith, short, long)
+file_refused limit option text_gives text refusal short never (inr x) = never x.1
+
+file_only : {A : Type 0} (limit : ℕ) (option : List ℕ) (text_gives : List ℕ → Result A Refusal → Type 0) (text : List ℕ) (value : A) → length text ≤ limit → GivesOnly (text_gives text) value → GivesOnly (FileGives limit option text_gives (Some text)) value
+file_only limit option text_gives text value short only = (λ other x. only.0 other x.1, λ refusal x. file_refused limit option text_gives text refusal short (only.1 refusal) x)
+
+config_only : (text : List ℕ) (c : Config) → IsConfig text c → GivesOnly (ConfigText text) c
+config_only text c is = (λ other x. config_one text other c x.stands is, λ refusal x. config_refused text c refusal is x)
+
+netlist_only : (cells : List Cell) (text : List ℕ) (n : Netlist) → StandsFor cells text n → GivesOnly (NetlistText cells text) n
+netlist_only cells text n stands = (λ other x. stands_one cells text other n x.stands stands, λ refusal x. netlist_refused cells text n refusal stands x)
+
+cubes_only : (n : Netlist) (c : Config) (text : List ℕ) (given : List Cube) → cubes_of n c text ≡ Ok given → GivesOnly (CubeText n c text) given
+cubes_only n c text given read = (λ other x. ok_same (cubes_of n c text) other given x read, λ refusal x. cubes_refused n c text given refusal read x)
+
+-- ---- the compilation
+
+-- what is known where the cubes of a job are compiled
+record IsReached (n : Netlist) (c : Config) (given : List Cube) (o : Outcome) : Type 0 where
+  range : IsInRange c
+  ready : IsReady n c
+  sound : IsNetlist (scanned Edt n c)
+  order : List ℕ
+  ordered : IsOrder (scanned Edt n c) order
+  cubes : AreCubes n c given
+  outcome : IsOutcomeOfCubes n c given o
+
+-- the texts of a job that are short and are read, and whose design no check refuses
+record IsRead (netlist config cubes : List ℕ) (n : Netlist) (c : Config) (given : List Cube) : Type 0 where
+  netlist_short : length netlist ≤ MAX_NETLIST_BYTES
+  config_short : length config ≤ MAX_CONFIG_BYTES
+  cubes_short : length cubes ≤ MAX_CUBE_BYTES
+  stands : StandsFor standard_cells netlist n
+  settings : IsConfig config c
+  accepted : first_refusal n c ≡ None
+  read : cubes_of n c cubes ≡ Ok given
+
+design_given : (n : Netlist) (c : Config) (next : Prepared → Outcome → Type 0) (o : Outcome) → first_refusal n c ≡ None → Then (DesignGives n c) next o → (prepared : Prepared) × (IsReadied n c prepared × next prepared o)
+design_given n c next o none (inl x) = x
+design_given n c next o none (inr x) = absurd (accepted_or_refused (first_refusal n c) x.1.0.0 none x.1.0.1.0)
+
+reached : (netlist config cubes : List ℕ) (n : Netlist) (c : Config) (given : List Cube) (o : Outcome) → IsRead netlist config cubes n c given → Reaches (course_of_compile job_files) (texts_held netlist config cubes) o → IsReached n c given o
+reached netlist config cubes n c given o r x =
+    let held : Held = texts_held netlist config cubes in
+    let over = only_next (LibraryGives None held) (CompileOver job_files held) o standard_cells (λ other is. is, λ refusal never. never) x in
+    let on = only_next (ConfigGives (codes "config") held) (CompileOn job_files standard_cells held) o c (file_only MAX_CONFIG_BYTES (codes "config") ConfigText config c r.config_short (config_only config c r.settings)) over.1 in
+    let of = only_next (NetlistGives standard_cells (codes "netlist") held) (CompileOf job_files c held) o n
+    (file_only MAX_NETLIST_BYTES (codes "netlist") (NetlistText standard_cells) netlist n r.netlist_short (netlist_only standard_cells netlist n r.stands)) on.1 in
+    let with = design_given n c (CompileWith n c (codes "cubes") held) o r.accepted of.1 in
+    let end = only_next (CubesGive n c (codes "cubes") held) (λ given. IsOutcomeOfCubes n c given) o given (file_only MAX_CUBE_BYTES (codes "cubes") (CubeText n c) cubes given r.cubes_short (cubes_only n c cubes given r.read)) with.1.1 in
+    let readied = with.1.0 in
+    record {
+      range = on.0.1.range;
+      ready = readied.ready;
+      sound = readied.sound;
+      order = readied.order;
+      ordered = readied.ordered;
+      cubes = are_cubes n c (codes "cubes") held given end.0;
+      outcome = end.1;
+    }
+
+-- ---- the replay
+
+-- what keeps its limits, however the cubes are placed
+record IsWithin (n : Netlist) (c : Config) (given : List Cube) : Type 0 where
+  library : n.library ≡ standard_cells
+  netlist_short : length (compiled.netlist_text n c) ≤ MAX_NETLIST_BYTES
+  late : (placing : Placing c (plan_of n c) given) (list : List PatternData) → IsInRange c → ArePatterns n c (plan_of n c) placing.rows placing.merged list → refusal_of n c given placing list ≡ None
+  few : (placing : Placing c (plan_of n c) given) (list : List PatternData) → ArePatterns n c (plan_of n c) placing.rows placing.merged list → length (set_of n c list).vectors ≤ MAX_VECTORS
+
+accepted : CompilationsHold → (n : Netlist) (c : Config) (given : List Cube) (compilation o : Outcome) → IsWithin n c given → IsReached n c given compilation → IsReplayedOf compilation o → IsAccepted o
+accepted hold n c given compilation o within r x =
+    let u = r.outcome in
+    let placing = u.placing in
+    let list = u.list in
+    let none = within.late placing list r.range u.are in
+    let is : IsCompiled n c given placing list compilation = subst (λ refused. IsOutcomeOfPlacing n c given placing list refused compilation) none u.outcome in
+    let holds : HoldsOf n c given placing list = hold n c r.order given placing list r.ready r.sound r.ordered r.cubes u.are in
+    let w : Netlist = scanned Edt n c in
+    let p : Patterns = without_notes (set_of n c list) in
+    let netlist : List ℕ = compiled.netlist_text n c in
+    let patterns : List ℕ = compiled.pattern_text n c list in
+    let counts : Counts = compiled.counts_of n c placing.placed list in
+    let report : List ℕ = compiled.report_text n c placing.rows given placing.placed in
+    let few = within.few placing list u.are in
+    let well = (holds.formed is.few).well in
+    let replayed : IsReplayedOf (Finished (Compiled counts netlist patterns report)) o = subst (λ end. IsReplayedOf end o) is.is x in
+    let held : Held = made_held netlist patterns in
+    let stands : StandsFor standard_cells netlist w = subst (λ (cells : List Cell). StandsFor cells netlist w) within.library is.reads in
+    let design : NetlistGives standard_cells (codes "netlist") held (Ok w) = (within.netlist_short, record { stands = stands; sound = r.sound; order = r.order; ordered = r.ordered }) in
+    let vectors : PatternsGive (codes "patterns") held (Ok p) =
+    ((late_short n c given placing list none).0, record { stands = holds.reads is.few; few = few; well_formed = record { distinct = well.distinct; few = well.few; fits = well.fits; steady = well.steady } }) in
+    let on : IsOutcomeOn w p None replayed.0 = subst (λ (misfit : Option (List ℕ)). IsOutcomeOn w p misfit replayed.0) holds.passes.fits (replay_due made_files held standard_cells w p replayed.0 refl design vectors replayed.1.0) in
+    let ranked = order_ranks w r.order r.sound r.ordered in
+    let passed = on_passes w w p p ranked.0 (all_compared c (plan_of n c) list) replayed.0 ranked.1 refl refl holds.passes.verdict on in
+    λ refusal same. (let end = sym same ∙ replayed.1.1 ∙ ap (generated counts) passed in cc)
+
+-- ---- a generated job
+
+first_none : (a : Option RuleError) (b : Option StitchError) (c : Option InsertError) → a ≡ None → b ≡ None → c ≡ None → first_failing (option_map Rules a ∷ option_map Stitch b ∷ option_map Insert c ∷ []) ≡ None
+first_none a b c p q r = rw (p, q, r) refl
+
+late_none : (a : Option StilError) (b : Option ReportError) → a ≡ None → b ≡ None → first_failing (option_map TooManyPatterns a ∷ option_map TooLongReport b ∷ []) ≡ None
+late_none a b p q = rw (p, q) refl
+
+not_many : (bytes : ℕ) → bytes ≤ MAX_TEXT → too_many bytes ≡ None
+not_many bytes le = let below : nat_lt MAX_TEXT bytes ≡ false = grind (arith, nat_tests) in rw below refl
+
+not_long : (bytes : ℕ) → bytes ≤ MAX_BYTES → of_length bytes ≡ None
+not_long bytes le = let below : nat_lt MAX_BYTES bytes ≡ false = grind (arith, nat_tests) in rw below refl
+
+job_read : (seed size : ℕ) → IsSize size → IsRead (job_netlist size (words_of seed size)) job_configuration (job_cubes size (words_of seed size)) (design size (words_of seed size)) configuration (cubes_in size (words_of seed size))
+job_read seed size is =
+    let words : List ℕ = words_of seed size in
+    let short = texts_are_short seed size is in
+    let high = is.high in
+    let netlist = short.netlist in
+    let config = short.configuration in
+    let cubes = short.cubes in
+    let passes = designs_are_accepted size words is in
+    record {
+      netlist_short = omega (arith, netlist, high);
+      config_short = omega (arith, config);
+      cubes_short = omega (arith, cubes, high);
+      stands = netlists_are_read size words is;
+      settings = configuration_read;
+      accepted = first_none _ _ _ passes.rules passes.plan passes.insertion;
+      read = cubes_are_read size words is (seeds_give_words seed size);
+    }
+
+job_within : (size : ℕ) (words : List ℕ) → IsSize size → size ≤ 16240 → IsWithin (design size words) configuration (cubes_in size words)
+job_within size words is most =
+    let n : Netlist = design size words in
+    let cycles : ℕ = (plan_of n configuration).cycles in
+    record {
+      library = refl;
+      netlist_short = (let short = scanned_are_short size words is in omega (arith, short, most));
+      late = λ placing list range are.
+          let bytes = bytes_told n configuration placing.rows placing.merged list range are in
+          let fits : length (compiled.pattern_text n configuration list) ≤ MAX_TEXT = subst (λ (k : ℕ). k ≤ MAX_TEXT) (sym bytes) (pattern_texts_fit size words is placing) in
+          let text : List ℕ = compiled.pattern_text n configuration list in
+          let report : List ℕ = compiled.report_text n configuration placing.rows (cubes_in size words) placing.placed in
+          late_none (too_many (length text)) (of_length (length report)) (not_many (length text) fits) (not_long (length report) (reports_fit size words is most placing));
+      few = λ placing list are.
+          let count = vector_count n configuration placing.rows placing.merged list are ∙ ap (vectors_in cycles) (list_count n configuration placing.rows placing.merged list are) in
+          subst (λ (k : ℕ). k ≤ MAX_VECTORS) (sym count) (patterns_fit size words is most placing);
+    }
+
+-- a job of up to 16,240 cells is not refused
+abbrev pub JobsFit : Type 0
+JobsFit = (numbers : JobNumbers) (o : Outcome) → IsSize numbers.size → numbers.size ≤ 16240 → IsOutcomeOfJob numbers o → IsAccepted o
+
+pub jobs_fit : CompilationsHold → JobsFit
+jobs_fit hold numbers o is most x =
+    let words : List ℕ = words_of numbers.seed numbers.size in
+    let texts = job_read numbers.seed numbers.size is in
+    accepted hold (design numbers.size words) configuration (cubes_in numbers.size words) x.0 o (job_within numbers.size words is most)
+    (reached (job_netlist numbers.size words) job_configuration (job_cubes numbers.size words) (design numbers.size words) configuration (cubes_in numbers.size words) x.0 texts x.1.0) x.1.1

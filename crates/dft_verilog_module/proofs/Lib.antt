@@ -1,0 +1,5 @@
+pub mod OneOperandLemmas
+pub mod LoneNameLemmas
+pub mod ConnectionLemmas
+pub mod GateLemmas
+pub mod KeptLemmas

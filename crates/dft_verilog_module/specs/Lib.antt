@@ -1,0 +1,5 @@
+pub mod Declarations
+pub mod PortDeclarations
+pub mod JoinedPins
+pub mod LoneNames
+pub mod ConcatenationsShown

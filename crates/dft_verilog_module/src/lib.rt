@@ -1,0 +1,17 @@
+//! Reads what the module of a netlist text says (IEEE 1364).
+#![tactic(auto)]
+
+mod assignments;
+mod concatenations;
+mod connections;
+mod declarations;
+mod gates;
+mod header;
+mod instances;
+mod joined_pins;
+mod module;
+mod module_items;
+mod operands;
+mod single_bits;
+
+pub use module::module_of;
