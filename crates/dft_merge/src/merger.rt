@@ -169,8 +169,11 @@ impl<'a> Merger<'a> {
         if first <= pattern {
             self.slots[pattern - first].system.solve(self.alloc, fill)
         } else {
-            let cells = self.patterns[pattern].cells.as_slice();
-            let system = system_of(self.alloc, self.loads, cells)?;
+            let system = system_of(
+                self.alloc,
+                self.loads,
+                self.patterns[pattern].cells.as_slice(),
+            )?;
             system.solve(self.alloc, fill)
         }
     }

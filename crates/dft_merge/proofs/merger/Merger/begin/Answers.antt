@@ -35,6 +35,16 @@ invariant_of-self-in_err-open c =
       loadable = now.loadable;
     }
 
+-- the equations of the cube alone
+pub open-requires-clause-system : goal.open-requires-clause-system
+open-requires-clause-system c =
+    let n = columns_by c.self.inside.loads.now in
+    let row = rows_by c.self.inside.loads.now in
+    let run : IsRun n c.back_to.new.self.kept (equations_of row c.args.cube.now.cells) c.add_cells.new.system.kept [] =
+    subst (λ (cells : List (InstanceId × Bool)). IsRun n c.back_to.new.self.kept (equations_of row cells) c.add_cells.new.system.kept []) c.as_slice.ensures c.if-not-add_cells.ensures.added in
+    run_system n [] (equations_of row c.args.cube.now.cells) c.back_to.new.self c.add_cells.new.system
+    (empty_again n c.self.inside.alone c.back_to.new.self c.self.inside.start c.self.invariant.alone c.self.invariant.start c.back_to.ensures) c.if-not-add_cells.ensures.columns run
+
 -- the system of the cube alone
 alone : (c : goal.In_ok-open) → IsSolvable (columns_by c.self.inside.loads.now) (equations_of (rows_by c.self.inside.loads.now) c.args.cube.now.cells)
 alone c =
