@@ -2,6 +2,7 @@
 use Rattle.std.proofs.Common.{ℕ, Bool, ◌+◌, ◌/◌, drop, replicate, refl, ap, ◌∙◌}
 use Rattle.std.proofs.lemmas.List.{drop_all}
 use Rattle.dft_base.specs.Solutions.{xor}
+use Rattle.dft_equations.specs.LoadRows.{LoadRows}
 use Rattle.dft_merge.specs.LoadPlan.{columns_by, rows_by}
 use Rattle.dft_certify.specs.Certifying.{has_column, odd_in}
 use Rattle.dft_certify.proofs.ParityLemmas.{even_uncertified, odd_certified, zeros_at, zeros_packed}
@@ -10,7 +11,7 @@ use Rattle.dft_certify.proofs.parity.is_certificate.Goals.{then-odd, else-odd}
 
 pub loop-line-init : goal.loop-line-init
 loop-line-init c =
-    let is = c.in_ok-parity.ensures ∙ ap (λ (k : ℕ). replicate ((k + 63) / 64) 0) c.columns.ensures in
+    let is = c.in_ok-parity.ensures ∙ ap (λ (k : ℕ). replicate ((k + 63) / 64) 0) (c.columns.ensures ∙ ap (λ (r : LoadRows). r.columns) c.equations.ensures) in
     record {
       packed = zeros_packed (columns_by c.args.loads.now) c.in_ok-parity.parity.items is;
       odd = refl;
