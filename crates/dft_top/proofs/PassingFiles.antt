@@ -20,7 +20,7 @@ use Rattle.dft_certify.specs.Certifying.{certify_refusal}
 use Rattle.dft_cubes.specs.declared.cube.Cube.{Cube}
 use Rattle.dft_vectors.specs.PatternData.{PatternData}
 use Rattle.dft_encode.specs.Compiled.{ArePatterns, Placing}
-use Rattle.dft_compile.specs.declared.prepared.Prepared.{Prepared}
+use Rattle.dft_stitch.specs.Planning.{Planned}
 use Rattle.dft_compile.specs.Refusals.{first_refusal}
 use Rattle.dft_command_line.specs.Words.{Command, Replay, Scan, Compile, Certify, ReplayFiles, ScanFiles, CompileFiles, CertifyFiles}
 use Rattle.dft_command_line.proofs.Understood.{for_once}
@@ -54,7 +54,7 @@ scan_due files held cells c n o library config netlist none is =
     (subst (λ (refused : Option ScanError). IsOutcomeOfScanOf n c refused o) none scan).is
 
 -- where no check of the design fails, what comes behind gives the outcome
-design_next : (n : Netlist) (c : Config) (next : Prepared → Outcome → Type 0) (o : Outcome) → first_refusal n c ≡ None → Then (DesignGives n c) next o → (prepared : Prepared) × next prepared o
+design_next : (n : Netlist) (c : Config) (next : Planned → Outcome → Type 0) (o : Outcome) → first_refusal n c ≡ None → Then (DesignGives n c) next o → (prepared : Planned) × next prepared o
 design_next n c next o none (inl x) = (x.0, x.1.1)
 design_next n c next o none (inr x) = absurd (accepted_or_refused (first_refusal n c) x.1.0.0 none x.1.0.1.0)
 
