@@ -38,12 +38,17 @@ use Rattle.dft_top.proofs.CertifyLemmas.{report_over}
 use Rattle.dft_top.proofs.Readings.{config_text_one, cube_text_one, file_one, given_next, library_gives_one, netlist_text_one, pattern_text_one, report_text_one, accepted_or_refused}
 use Rattle.dft_top.proofs.Steps.{CertifyFor, CertifyOf, CertifyOn, CertifyOver, CertifyWith, CompileOf, CompileOn, CompileOver, CompileWith, ReplayOn, ReplayOver, ScanOn, ScanOver}
 
-pub replay_due : (files : ReplayFiles) (held : Held) (cells : List Cell) (n : Netlist) (p : Patterns) (o : Outcome) → LibraryGives files.library held (Ok cells) → NetlistGives cells files.netlist held (Ok n) →
+-- where a design is given, the patterns are next
+pub replay_read : (files : ReplayFiles) (held : Held) (cells : List Cell) (n : Netlist) (o : Outcome) → LibraryGives files.library held (Ok cells) → NetlistGives cells files.netlist held (Ok n) →
+    Reaches (course_of_replay files) held o → Then (PatternsGive files.patterns held) (λ p. IsOutcomeOn n p (first_misfit n p.signals)) o
+replay_read files held cells n o library netlist is =
+    let over = given_next (LibraryGives files.library held) (ReplayOver files held) o cells (library_gives_one files.library held) library is in
+    given_next (NetlistGives cells files.netlist held) (ReplayOn files held) o n (file_one MAX_NETLIST_BYTES (codes "netlist") (NetlistText cells) (netlist_text_one cells) (file_at files.netlist held)) netlist over
+
+replay_due : (files : ReplayFiles) (held : Held) (cells : List Cell) (n : Netlist) (p : Patterns) (o : Outcome) → LibraryGives files.library held (Ok cells) → NetlistGives cells files.netlist held (Ok n) →
     PatternsGive files.patterns held (Ok p) → Reaches (course_of_replay files) held o → IsOutcomeOn n p (first_misfit n p.signals) o
 replay_due files held cells n p o library netlist patterns is =
-    let over = given_next (LibraryGives files.library held) (ReplayOver files held) o cells (library_gives_one files.library held) library is in
-    let on = given_next (NetlistGives cells files.netlist held) (ReplayOn files held) o n (file_one MAX_NETLIST_BYTES (codes "netlist") (NetlistText cells) (netlist_text_one cells) (file_at files.netlist held)) netlist over in
-    given_next (PatternsGive files.patterns held) (λ p. IsOutcomeOn n p (first_misfit n p.signals)) o p (file_one MAX_PATTERN_BYTES (codes "patterns") PatternText pattern_text_one (file_at files.patterns held)) patterns on
+    given_next (PatternsGive files.patterns held) (λ p. IsOutcomeOn n p (first_misfit n p.signals)) o p (file_one MAX_PATTERN_BYTES (codes "patterns") PatternText pattern_text_one (file_at files.patterns held)) patterns (replay_read files held cells n o library netlist is)
 
 scan_due : (files : ScanFiles) (held : Held) (cells : List Cell) (c : Config) (n : Netlist) (o : Outcome) → LibraryGives files.library held (Ok cells) → ConfigGives files.config held (Ok c) →
     NetlistGives cells files.netlist held (Ok n) → refusal n c ≡ None → Reaches (course_of_scan files) held o → o ≡ Finished (Scanned (counts_of n c) (netlist_text n c) (report_text n c))

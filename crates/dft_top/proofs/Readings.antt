@@ -57,7 +57,7 @@ use Rattle.dft_top.specs.Checks.{ArePatternsOf, ConfigText, CubeText, DesignGive
 use Rattle.dft_top.specs.Courses.{Then}
 use Rattle.dft_top.proofs.NetlistRefusals.{IsReason, reason_one, finished_or_refused}
 
-err_same : {A E : Type 0} (r : Result A E) (a b : E) → r ≡ Err a → r ≡ Err b → a ≡ b
+pub err_same : {A E : Type 0} (r : Result A E) (a b : E) → r ≡ Err a → r ≡ Err b → a ≡ b
 err_same r a b p q = let e = sym p ∙ q in cc
 
 -- what one error is told as
@@ -264,7 +264,7 @@ patterns_or_refused text p error x y = let e : Ok p ≡ Err y.refusal = sym (kep
 stil_one : (text : List ℕ) (a b : StilError) → IsFirstRefusal text a → IsFirstRefusal text b → a ≡ b
 stil_one text a b x y = x.told ∙ ap (StilRefusals.told_of text) (err_same (patterns_in MAX_VECTORS text) x.refusal y.refusal x.first y.first) ∙ sym y.told
 
-first_refusal : (text : List ℕ) (error : StilError) (refusal : Refusal) → StilRefusals.IsRefused text error → stil_refusal error ≡ Some refusal → IsFirstRefusal text error
+pub first_refusal : (text : List ℕ) (error : StilError) (refusal : Refusal) → StilRefusals.IsRefused text error → stil_refusal error ≡ Some refusal → IsFirstRefusal text error
 first_refusal text (stil.P1 place) refusal refused is = refused
 first_refusal text (stil.P2 place name) refusal refused is = refused
 first_refusal text (stil.P3 place name) refusal refused is = refused
