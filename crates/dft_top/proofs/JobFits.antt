@@ -316,8 +316,8 @@ large : (size : ℕ) (words : List ℕ) → IsSize size → (placing : Placing c
     Why (length (set_of (design size words) configuration list).vectors) (length (compiled.report_text (design size words) configuration placing.rows (cubes_in size words) placing.placed)) refusal → (16240 < size) ⊎ (size ≤ 16240) → (16240 < size) × IsForSize refusal
 large size words is placing list are refusal (inl x) (inl more) = (more, inl x.1)
 large size words is placing list are refusal (inr x) (inl more) = (more, inr x.1)
-large size words is placing list are refusal (inl x) (inr most) = let told = vectors_told size words placing list are; fit = patterns_fit size words is most placing; many = x.0 in absurd (omega (arith, told, fit, many))
-large size words is placing list are refusal (inr x) (inr most) = let fit = reports_fit size words is most placing; long = x.0 in absurd (omega (arith, fit, long))
+large size words is placing list are refusal (inl x) (inr most) = let told = vectors_told size words placing list are in let fit = patterns_fit size words is most placing in let many = x.0 in absurd (omega (arith, told, fit, many))
+large size words is placing list are refusal (inr x) (inr most) = let fit = reports_fit size words is most placing in let long = x.0 in absurd (omega (arith, fit, long))
 
 -- a job is refused for its size alone, and only if it has more than 16,240 cells
 abbrev pub JobsFit : Type 0
