@@ -38,7 +38,7 @@ use Rattle.dft_vectors.specs.PatternData.{PatternData}
 use Rattle.dft_encode.specs.Compiled.{ArePatterns, Placing}
 use Rattle.dft_encode.specs.Laws.{vectors_in}
 use Rattle.dft_compile.specs.declared.error.CompileError.TheVariants.{Insert, Patterns as TooManyPatterns, Report as TooLongReport, Rules, Stitch}
-use Rattle.dft_compile.specs.declared.prepared.Prepared.{Prepared}
+use Rattle.dft_stitch.specs.Planning.{Planned}
 use Rattle.dft_compile.specs.declared.texts.Counts.{Counts}
 use Rattle.dft_compile.specs.Refusals.{first_failing, first_refusal, of_length, too_long, too_many}
 use Rattle.dft_compile.specs.Texts as compiled
@@ -133,7 +133,7 @@ record IsRead (netlist config cubes : List ℕ) (n : Netlist) (c : Config) (give
   accepted : first_refusal n c ≡ None
   read : cubes_of n c cubes ≡ Ok given
 
-design_given : (n : Netlist) (c : Config) (next : Prepared → Outcome → Type 0) (o : Outcome) → first_refusal n c ≡ None → Then (DesignGives n c) next o → (prepared : Prepared) × (IsReadied n c prepared × next prepared o)
+design_given : (n : Netlist) (c : Config) (next : Planned → Outcome → Type 0) (o : Outcome) → first_refusal n c ≡ None → Then (DesignGives n c) next o → (prepared : Planned) × (IsReadied n c prepared × next prepared o)
 design_given n c next o none (inl x) = x
 design_given n c next o none (inr x) = absurd (accepted_or_refused (first_refusal n c) x.1.0.0 none x.1.0.1.0)
 
