@@ -260,12 +260,12 @@ why hold n c given compilation o within r x bytes told (inl long) refusal is =
     let refused : refusal_of n c given u.placing u.list ≡ Some (TooLongReport error) = late_some _ _ error (within.not_many u.placing u.list r.range u.are) last in
     let end : compilation ≡ Refused (measured K6 (pos bytes)) = subst (λ refused. IsOutcomeOfPlacing n c given u.placing u.list refused compilation) refused u.outcome in
     let same : o ≡ Refused (measured K6 (pos bytes)) = subst (λ end. IsReplayedOf end o) end x in inr (long, code_of (measured K6 (pos bytes)) refusal (sym same ∙ is))
-why hold n c given compilation o within r x bytes told (inr short) =
+why hold n c given compilation o within r x bytes told (inr short) refusal is =
     let u = r.outcome in
     let holds : HoldsOf n c given u.placing u.list = hold n c r.order given u.placing u.list r.ready r.sound r.ordered r.cubes u.are in
     let last : too_long (compiled.report_text n c u.placing.rows given u.placing.placed) ≡ None = ap of_length told ∙ not_long bytes short in
     let none : refusal_of n c given u.placing u.list ≡ None = late_none _ _ (within.not_many u.placing u.list r.range u.are) last in
-    let p = played n c given compilation o within r holds none x in counted n c _ _ p.0 p.1.0 o p.1.1 bytes (cases_lt MAX_VECTORS (length (set_of n c u.list).vectors))
+    let p = played n c given compilation o within r holds none x in counted n c _ _ p.0 p.1.0 o p.1.1 bytes (cases_lt MAX_VECTORS (length (set_of n c u.list).vectors)) refusal is
 
 -- ---- a generated job
 
