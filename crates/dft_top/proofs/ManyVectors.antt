@@ -1,5 +1,5 @@
 -- A replay of a text that stands for more vectors than are read is refused for their number.
-use Rattle.std.proofs.Common.{ℕ, ◌≡◌, ◌<◌, ◌≤◌, ◌∙◌, inl, inr, List, codes, length, sym, ap, subst, arith, Some, Result, Ok, Err}
+use Rattle.std.proofs.Common.{ℕ, ◌≡◌, ◌<◌, ◌≤◌, ◌∙◌, inl, inr, List, codes, length, sym, ap, subst, arith, Some, Err}
 use Rattle.std.proofs.lemmas.Option.{same_Some}
 use Rattle.dft_base.specs.Lexing.{place_of}
 use Rattle.dft_patterns.specs.Patterns.{Patterns}
