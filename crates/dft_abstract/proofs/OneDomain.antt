@@ -1,4 +1,4 @@
--- Without lock-ups and with rising flip-flops alone, where one domain pulses at most, its view is the strobe.
+-- Without lock-ups, where one domain pulses at most, its view in the rises is the strobe.
 use Rattle.std.proofs.Common.{ℕ, Bool, true, false, not, ◌≡◌, ◌==◌, refl, sym, ap, ◌∙◌, Option, None, Some}
 use Rattle.std.specs.Prelude.{if◌then◌else◌}
 use Rattle.std.proofs.lemmas.Bool.{eq-eqb}
@@ -9,13 +9,12 @@ use Rattle.dft_cells.proofs.Completions.{above_self, join_least, join_over_left,
 use Rattle.dft_netlist.specs.Drivers.{Source, Net, Tied, Loose}
 use Rattle.dft_netlist.specs.Logic.{Logic, Scan, IsRanked}
 use Rattle.dft_netlist.specs.Settled.{value_from, IsTriSettled}
-use Rattle.dft_netlist.specs.Runs.{Vector}
-use Rattle.dft_abstract.specs.Cycle.{Pulse, tri_forced_by, tri_taken_by, changes, view_sources, AreViews, next_value, rise_of, fall_of, strobe_sources, Round}
+use Rattle.dft_netlist.specs.Runs.{Vector, takes}
+use Rattle.dft_abstract.specs.Cycle.{Pulse, tri_forced_by, tri_taken_by, changes, view_sources, AreViews, next_value, IsLeast, rise_of, fall_of, strobe_sources, Round}
 use Rattle.dft_abstract.specs.Laws.{HasNoLockup, next_from, OneDomain}
 use Rattle.dft_abstract.proofs.Phases.{of_both}
 use Rattle.dft_abstract.proofs.Views.{views_exist, settled_same}
-use Rattle.dft_abstract.proofs.Least.{none_changes}
-use Rattle.dft_abstract.proofs.Halves.{rises_change, falls_rest}
+use Rattle.dft_abstract.proofs.Halves.{rises_change, rising_after}
 
 source_equal : (v w : ℕ → Tri) (source : Source) → ((net : ℕ) → v net ≡ w net) → value_from v source ≡ value_from w source
 source_equal v w (Net net) same = same net
@@ -49,7 +48,7 @@ next_is l x old values view c same =
     let at : (source : Source) → value_from (view (l.cell c).domain) source ≡ value_from values source = λ source. source_equal (view (l.cell c).domain) values source same in
     ap (tri_forced_by (l.cell c).force x.ports) (taken_equal (l.cell c).scan (value_from (view (l.cell c).domain)) (value_from values) _ _ at (at (l.cell c).input))
 
--- the least map: the old value, joined with the next one where the domain pulses
+-- the least map: the old value, joined with the next one where the cell takes one
 abbrev pub raised : (pulsed : Bool) (old next : Tri) → Tri
 raised pulsed old next = if pulsed then join old next else old
 
@@ -72,38 +71,62 @@ chosen_equal : (b : Bool) (x y z : Tri) → (b ≡ true → x ≡ z) → (if b t
 chosen_equal true x y z h = h refl
 chosen_equal false x y z h = refl
 
+-- ---- the least map of a phase of one domain
+
+-- where one domain pulses at most, its view is the same at any map
+alone_view : (l : Logic) (rank : ℕ → ℕ) (p : Pulse) (d : ℕ) (poss other : ℕ → Tri) (view its : ℕ → ℕ → Tri) → IsRanked l rank → HasNoLockup l → ((e : ℕ) → p.pulsed e ≡ true → (e == d) ≡ true) →
+    AreViews l p poss view → AreViews l p other its → (net : ℕ) → its d net ≡ view d net
+alone_view l rank p d poss other view its ranked none one views at net =
+    let own : (map : ℕ → Tri) (c : ℕ) → (if changes l p c then (if (l.cell c).domain == d then p.old c else map c) else p.old c) ≡ p.old c =
+    λ map c. flop_old (changes l p c) ((l.cell c).domain == d) (p.old c) (map c) (λ ch. one (l.cell c).domain (of_both (p.pulsed (l.cell c).domain) (takes p.rising (l.cell c).falling) ch).0) in
+    settled_same l rank (view_sources l p other its d) (view_sources l p poss view d) (its d) (view d) ranked (at d) (views d)
+    (λ k. refl) (λ e. refl) (λ c. own other c ∙ sym (own poss c))
+    (λ k c e high source is ih below. absurd (none k c e high source is)) net
+
+next_same : (l : Logic) (p : Pulse) (view its : ℕ → ℕ → Tri) (c : ℕ) → ((net : ℕ) → its (l.cell c).domain net ≡ view (l.cell c).domain net) → next_value l p its c ≡ next_value l p view c
+next_same l p view its c same =
+    let at : (source : Source) → value_from (its (l.cell c).domain) source ≡ value_from (view (l.cell c).domain) source = λ source. source_equal (its (l.cell c).domain) (view (l.cell c).domain) source same in
+    ap (tri_forced_by (l.cell c).force p.ports) (taken_equal (l.cell c).scan (value_from (its (l.cell c).domain)) (value_from (view (l.cell c).domain)) _ _ at (at (l.cell c).input))
+
+alone_least : (l : Logic) (rank : ℕ → ℕ) (p : Pulse) (d : ℕ) → IsRanked l rank → HasNoLockup l → ((e : ℕ) → p.pulsed e ≡ true → e ≡ d) → (poss : ℕ → Tri) × (view : ℕ → ℕ → Tri) × IsLeast l p poss view
+alone_least l rank p d ranked none one =
+    let first : ℕ → ℕ → Tri = (views_exist l rank p p.old ranked).0 in
+    let firsts : AreViews l p p.old first = (views_exist l rank p p.old ranked).1 in
+    let poss : ℕ → Tri = λ c. raised (changes l p c) (p.old c) (next_value l p first c) in
+    let view : ℕ → ℕ → Tri = (views_exist l rank p poss ranked).0 in
+    let views : AreViews l p poss view = (views_exist l rank p poss ranked).1 in
+    let next_at : (other : ℕ → Tri) (its : ℕ → ℕ → Tri) → AreViews l p other its → (c : ℕ) → changes l p c ≡ true → next_value l p its c ≡ next_value l p first c =
+    λ other its at c ch. (let own = one (l.cell c).domain (of_both (p.pulsed (l.cell c).domain) (takes p.rising (l.cell c).falling) ch).0 in
+    next_same l p first its c
+    (λ net. ap (λ (e : ℕ). its e net) own ∙ alone_view l rank p d p.old other first its ranked none (λ e up. eq-eqb e d (one e up)) firsts at net ∙ sym (ap (λ (e : ℕ). first e net) own))) in (
+      poss,
+      view,
+      record {
+        closed = record {
+          views = views;
+          old = λ c. raised_old (changes l p c) (p.old c) (next_value l p first c);
+          next = λ c ch. above_equal _ _ _ (sym (next_at poss view views c ch)) (raised_next (changes l p c) (p.old c) (next_value l p first c) ch);
+        };
+        least = λ other its closed c. raised_least (changes l p c) (other c) (p.old c) (next_value l p first c) (closed.old c)
+            (λ ch. above_equal _ _ _ (next_at other its closed.views c ch) (closed.next c ch));
+      },
+    )
+
 pub one_domain : OneDomain
-one_domain l rank x d old values ranked rising none one settled =
+one_domain l rank x d old values ranked none one settled =
     let p : Pulse = rise_of l x old in
-    let pulses : (e : ℕ) → x.pulsed e ≡ true → (e == d) ≡ true = λ e h. eq-eqb e d (one e h) in
-    let next : ℕ → Tri = next_from l x values in
-    let poss : ℕ → Tri = λ c. raised (x.pulsed (l.cell c).domain) (p.old c) (next c) in
-    let found = views_exist l rank p poss ranked in
-    let view : ℕ → ℕ → Tri = found.0 in
-    let next_at : (other : ℕ → Tri) (its : ℕ → ℕ → Tri) → AreViews l p other its → (c : ℕ) → x.pulsed (l.cell c).domain ≡ true → next_value l p its c ≡ next c =
-    λ other its views c pulsed. next_is l x old values its c (λ net. ap (λ (e : ℕ). its e net) (one (l.cell c).domain pulsed) ∙ view_is_strobe l rank x d old values other its ranked none pulses settled views net) in
-    let ups : (c : ℕ) → changes l p c ≡ x.pulsed (l.cell c).domain = λ c. rises_change l p c (rising c) refl in
-    let q : Pulse = fall_of l x old view in
-    let falls = none_changes l rank q ranked (λ c. falls_rest l q c (rising c) refl) in
-    let r : Round = record { strobe = values; halves = record { rise = record { poss = poss; view = view }; fall = record { poss = q.old; view = falls.0 } } } in (
+    let up = alone_least l rank p d ranked none one in
+    let view : ℕ → ℕ → Tri = up.1 in
+    let down = alone_least l rank (fall_of l x old view) d ranked none one in
+    let r : Round = record { strobe = values; halves = record { rise = record { poss = up.0; view = view }; fall = record { poss = down.0; view = down.1 } } } in
+    let next_at : (c : ℕ) → x.pulsed (l.cell c).domain ≡ true → next_value l p view c ≡ next_from l x values c =
+    λ c pulsed. next_is l x old values view c
+    (λ net. ap (λ (e : ℕ). view e net) (one (l.cell c).domain pulsed) ∙ view_is_strobe l rank x d old values up.0 view ranked none (λ e h. eq-eqb e d (one e h)) settled up.2.closed.views net) in (
       r,
       (
         refl,
-        record {
-          strobe = settled;
-          least = record {
-            rise = record {
-              closed = record {
-                views = found.1;
-                old = λ c. raised_old (x.pulsed (l.cell c).domain) (p.old c) (next c);
-                next = λ c ch. (let pulsed = sym (ups c) ∙ ch in above_equal _ _ _ (sym (next_at poss view found.1 c pulsed)) (raised_next (x.pulsed (l.cell c).domain) (p.old c) (next c) pulsed));
-              };
-              least = λ other its closed c. raised_least (x.pulsed (l.cell c).domain) (other c) (p.old c) (next c) (closed.old c)
-                  (λ pulsed. above_equal _ _ _ (next_at other its closed.views c pulsed) (closed.next c (ups c ∙ pulsed)));
-            };
-            fall = falls.1.0;
-          };
-        },
-        λ c. falls.1.1 c ∙ ap (λ (b : Bool). if b then next_value l p view c else p.old c) (ups c) ∙ chosen_equal (x.pulsed (l.cell c).domain) _ _ _ (next_at poss view found.1 c),
+        record { strobe = settled; least = record { rise = up.2; fall = down.2 } },
+        λ c rises. rising_after l x old r.halves c rises ∙ ap (λ (b : Bool). if b then next_value l p view c else p.old c) (rises_change l p c rises refl)
+            ∙ chosen_equal (x.pulsed (l.cell c).domain) _ _ _ (next_at c),
       ),
     )

@@ -4,7 +4,7 @@ use Rattle.dft_base.specs.declared.tri.Tri.{Tri}
 use Rattle.dft_base.specs.declared.tri.Tri.TheVariants.{Unknown}
 use Rattle.dft_base.specs.Tri.{known, Above, AboveTri, join}
 use Rattle.dft_netlist.specs.Drivers.{Source}
-use Rattle.dft_netlist.specs.Logic.{Logic, Lockup, IsRanked, IsRising}
+use Rattle.dft_netlist.specs.Logic.{Logic, Lockup, IsRanked}
 use Rattle.dft_netlist.specs.Settled.{IsTriSettled, value_from}
 use Rattle.dft_netlist.specs.Runs.{State, Now, IsNow, after, AreSteps, Edge, edge_step, IsOrder, Vector, Turn, IsTurn, after_turn, AreLow}
 use Rattle.dft_abstract.specs.Cycle.{Pulse, changes, level_before, level_after, AreViews, next_value, IsClosed, IsLeast, after_pulse, rise_of, strobe_sources, Halves, AreHalves, AreClosed, after_halves, Round, IsRound, after_round, tri_forced_by, tri_taken_by}
@@ -80,13 +80,13 @@ HasNoLockup l = (net c e : ℕ) (high : Bool) (source : Source) → l.net net �
 abbrev pub next_from : Logic → Vector → (values : ℕ → Tri) → (cell : ℕ) → Tri
 next_from l x values c = tri_forced_by (l.cell c).force x.ports (tri_taken_by (l.cell c).scan (value_from values) (value_from values (l.cell c).input))
 
--- Without lock-ups and with rising flip-flops alone, where one domain pulses at most, a vector's round has these strobe values, and its flip-flops
--- take their next values from them.
+-- Without lock-ups, where one domain pulses at most, a vector's round has these strobe values, and its rising flip-flops take their next values
+-- from them.
 abbrev pub OneDomain : Type 0
 OneDomain =
-    (l : Logic) (rank : ℕ → ℕ) (x : Vector) (d : ℕ) (old values : ℕ → Tri) → IsRanked l rank → IsRising l → HasNoLockup l → ((e : ℕ) → x.pulsed e ≡ true → e ≡ d) →
+    (l : Logic) (rank : ℕ → ℕ) (x : Vector) (d : ℕ) (old values : ℕ → Tri) → IsRanked l rank → HasNoLockup l → ((e : ℕ) → x.pulsed e ≡ true → e ≡ d) →
     IsTriSettled l (strobe_sources l x old values) values →
-    (r : Round) × ((r.strobe ≡ values) × IsRound l x old r × ((c : ℕ) → after_round l x old r c ≡ (if x.pulsed (l.cell c).domain then next_from l x values c else (rise_of l x old).old c)))
+    (r : Round) × ((r.strobe ≡ values) × IsRound l x old r × ((c : ℕ) → (l.cell c).falling ≡ false → after_round l x old r c ≡ (if x.pulsed (l.cell c).domain then next_from l x values c else (rise_of l x old).old c)))
 
 -- ---- from the abstract cycle to runs: what it knows from a run's own bits, the run has
 

@@ -12,6 +12,7 @@ use Rattle.dft_base.specs.declared.tri.Tri.TheVariants.{Unknown}
 use Rattle.dft_base.proofs.BitLemmas.{and_true}
 use Rattle.dft_lanes.specs.declared.wide.Wide.{Wide}
 use Rattle.dft_netlist.specs.Netlist.{Netlist}
+use Rattle.dft_netlist.specs.ClockRoots.{ClockRoot}
 use Rattle.dft_netlist.specs.Drivers.{Source, Driver, driver}
 use Rattle.dft_netlist.specs.Drivers as drivers
 use Rattle.dft_netlist.specs.Logic.{Logic, Meaning, Cell, Ports, Input, Clock, Gate, Joined, Flop, Lockup, Free, logic_of, meaning_of, flop_meaning, lockup_meaning, flip_flop}
@@ -37,9 +38,9 @@ flop_set : (given values : ℕ → Tri) (net i : ℕ) (inverted : Bool) (cell : 
 flop_set given values net i inverted None = refl
 flop_set given values net i inverted (Some cell) = refl
 
-lockup_set : (given values : ℕ → Tri) (net i : ℕ) (domain : Option ℕ) (source : Source) → value_set given values net (lockup_meaning i domain source) ≡ given net
+lockup_set : (given values : ℕ → Tri) (net i : ℕ) (domain : Option ClockRoot) (source : Source) → value_set given values net (lockup_meaning i domain source) ≡ given net
 lockup_set given values net i None source = refl
-lockup_set given values net i (Some domain) source = refl
+lockup_set given values net i (Some clock) source = refl
 
 driver_set : (n : Netlist) (ports other : Ports) (given values : ℕ → Tri) (net : ℕ) (d : Driver) → value_set given values net (meaning_of n ports net d) ≡ value_set given values net (meaning_of n other net d)
 driver_set n ports other given values net drivers.Input = input_set given values net (ports.is_clock net) ∙ sym (input_set given values net (other.is_clock net))

@@ -19,6 +19,7 @@ use Rattle.dft_netlist.specs.Netlist.{Netlist}
 use Rattle.dft_netlist.specs.Drivers.{Source, Driver, driver_of_kind, inputs_of, kind_at, pins_of}
 use Rattle.dft_netlist.specs.NetDrivers.{driver_at, is_inverted, joined_by, roles_at}
 use Rattle.dft_netlist.specs.Traces.{Root, Port, Constant, Other, root_of}
+use Rattle.dft_netlist.specs.ClockRoots.{ClockRoot}
 use Rattle.dft_netlist.specs.Logic.{Cell, Force, Ports, Scan, Input, Clock, cell_or_none, flip_flop, flop_meaning, force_of, forcing, meaning_of, modelled, modelled_of, pin_of}
 use Rattle.dft_netlist.specs.Settled.{TriSources, inverse}
 use Rattle.dft_netlist.proofs.StoredLemmas.{stored_force}
@@ -65,7 +66,7 @@ pins_force n ports (Some reset) preset = root_forces ports false (root_of n rese
 pins_force n ports None (Some preset) = root_forces ports true (root_of n preset)
 pins_force n ports None None = tt
 
-modelled_forces : (is_reset : ℕ → Bool) (i : ℕ) (domain : Option ℕ) (force : Option (Option Force)) (input : Source) (scan : Option Scan) → MayForce is_reset force → ByReset is_reset (cell_or_none i (modelled domain force input scan)).force
+modelled_forces : (is_reset : ℕ → Bool) (i : ℕ) (domain : Option ClockRoot) (force : Option (Option Force)) (input : Source) (scan : Option Scan) → MayForce is_reset force → ByReset is_reset (cell_or_none i (modelled domain force input scan)).force
 modelled_forces is_reset i None force input scan may = tt
 modelled_forces is_reset i (Some d) None input scan may = tt
 modelled_forces is_reset i (Some d) (Some f) input scan may = may

@@ -22,11 +22,13 @@ use Rattle.dft_netlist.specs.Netlist.{Netlist}
 use Rattle.dft_netlist.specs.Drivers.{Source, connections_from, gate_roles, kind_of, kind_at, pins_at, pins_of, shape_of, shape_of_cell, source_of}
 use Rattle.dft_netlist.specs.Sound.{IsCellOf, is_primitive}
 use Rattle.dft_netlist.specs.Traces.{Root, Port, Constant, Other, root_of}
+use Rattle.dft_netlist.specs.ClockRoots.{port_root}
 use Rattle.dft_netlist.specs.Logic.{Ports, Force, Scan, Cell, same_role, pin_of, or_loose, domain_at, force_of, forcing, scan_of, modelled, modelled_of, flip_flop}
 use Rattle.dft_netlist.specs.Logic as logic
 use Rattle.dft_config.specs.Config.{Config}
 use Rattle.dft_config.specs.Range.{IsInRange}
 use Rattle.dft_netlist.specs.Connections.{input_net}
+use Rattle.dft_netlist.proofs.ClockWalks.{traced_clock}
 use Rattle.dft_rules.specs.Rules.{is_net, place_of_root, place_of_source, domain_of, is_held, are_held, are_held_at, scan_cell_of, is_kept, may_be_scanned, judged_by}
 use Rattle.dft_expect.specs.Captures.{config_ports}
 use Rattle.dft_rules.specs.declared.judged.Judged.TheVariants.{Scanned}
@@ -108,8 +110,10 @@ clocked_pin n config i domain (Some source) pin e = clocked_root n config i doma
 clocked : (n : Netlist) (config : Config) (i domain : ℕ) → domain_of n config i ≡ Some domain → IsClocked n config i
 clocked n config i domain e = clocked_pin n config i domain (pin_of role.Clock i (pins_of n i)) refl e
 
-domain_is : (n : Netlist) (config : Config) (i : ℕ) (c : IsClocked n config i) → domain_at n (config_ports n config) (pin_of role.Clock i (pins_of n i)) ≡ Some c.net
-domain_is n config i c = ap (domain_at n (config_ports n config)) c.pin ∙ ap (logic.domain_of (config_ports n config)) c.root ∙ ap (λ b. if b then Some c.net else None) c.is
+domain_is : (n : Netlist) (config : Config) (i : ℕ) (c : IsClocked n config i) → domain_at n (config_ports n config) (pin_of role.Clock i (pins_of n i)) ≡ Some (port_root c.net)
+domain_is n config i c =
+    ap (domain_at n (config_ports n config)) c.pin ∙ ap (logic.domain_of (config_ports n config)) (traced_clock n c.source c.net c.root)
+    ∙ ap (λ (b : Bool). if b then Some (port_root c.net) else None) c.is
 
 -- ---- its reset or set
 
@@ -220,8 +224,8 @@ cell_modelled n config chain place cell can stands =
       flop =
           ap (λ b. if b then modelled_of n ports i (pins_of n i) else None) (scannable_flop (kind_at n i) it.kind)
           ∙ ap (λ d. modelled d (forcing n ports (pin_of role.Reset i (pins_of n i)) (pin_of role.Preset i (pins_of n i))) input scan) (domain_is n config i clock)
-          ∙ ap (λ f. modelled (Some clock.net) f input scan) force.1
-          ∙ ap (λ o. modelled (Some clock.net) (Some force.0) input (scan_of o (pin_of role.ScanIn i (pins_of n i)))) (pins_none n.library i (slice_get n.instances i) can.library it.kind);
+          ∙ ap (λ f. modelled (Some (port_root clock.net)) f input scan) force.1
+          ∙ ap (λ o. modelled (Some (port_root clock.net)) (Some force.0) input (scan_of o (pin_of role.ScanIn i (pins_of n i)))) (pins_none n.library i (slice_get n.instances i) can.library it.kind);
     }
 
 -- ---- no lock-up

@@ -15,7 +15,7 @@ use Rattle.dft_netlist.specs.declared.ids.NetId.{NetId}
 use Rattle.dft_netlist.specs.declared.instance.Instance.{Instance}
 use Rattle.dft_netlist.specs.Netlist.{Netlist}
 use Rattle.dft_netlist.specs.Sound.{IsNetlist}
-use Rattle.dft_netlist.specs.Traces.{Root, Port, Constant, Other, root_of}
+use Rattle.dft_netlist.specs.ClockRoots.{ClockRoot, clock_root_of}
 use Rattle.dft_netlist.specs.Drivers.{Source, Net, Tied, Loose, Driver, Connection, source_of, kind_of, kind_at, pins_of, driver, nets_of, nets_read, is_lockup_input, lockup_inputs}
 use Rattle.dft_netlist.specs.Drivers as drivers
 use Rattle.dft_netlist.specs.Logic.{Ports, Cell, Meaning, same_role, pin_of, or_loose, domain_of, domain_at, flip_flop, modelled_of, locked, is_lockup, no_cell, cell_or_none, flop_meaning, lockup_meaning, meaning_of, logic_of, reads}
@@ -68,7 +68,7 @@ data_all : (P : ℕ → Type 0) (i : ℕ) (pins : List Connection) → AllByRecu
 data_all P i [] all = tt
 data_all P i (c ∷ pins) all = data_step P i c.role (source_of i c.pin c.to) (lockup_inputs i pins) (pin_of Din i pins) (data_all P i pins) all
 
-lockup_all : (P : ℕ → Type 0) (i : ℕ) (domain : Option ℕ) (source : Source) → AllByRecursion P (nets_of (source ∷ [])) → AllByRecursion P (reads (lockup_meaning i domain source))
+lockup_all : (P : ℕ → Type 0) (i : ℕ) (domain : Option ClockRoot) (source : Source) → AllByRecursion P (nets_of (source ∷ [])) → AllByRecursion P (reads (lockup_meaning i domain source))
 lockup_all P i None source all = tt
 lockup_all P i (Some domain) source all = all
 
@@ -99,7 +99,7 @@ ordered_from n ports ops size means (net ∷ nets) before ordered =
 
 pub past_cell : (n : Netlist) (ports : Ports) (i : ℕ) → length n.instances ≤ i → (logic_of n ports).cell i ≡ no_cell i
 past_cell n ports i far =
-    let domain : Option ℕ = domain_at n ports (pin_of Clock i (pins_of n i)) in
+    let domain : Option ClockRoot = domain_at n ports (pin_of Clock i (pins_of n i)) in
     let P : Option Instance → Cell = λ o. cell_or_none i (option_or (if is_flip_flop (kind_of n.library o) then modelled_of n ports i (pins_of n i) else None)
     (if is_lockup (kind_of n.library o) then locked domain (or_loose i (pin_of Din i (pins_of n i))) else None)) in
     ap P (slice_get_past n.instances i far)
@@ -131,22 +131,21 @@ kept_is kind.Tie1 latch found h = absurd cc
 pair_same : (p q : ℕ × Source) → Some p ≡ Some q → p ≡ q
 pair_same p q h = cc
 
-sourced : (s : Source) (domain : Option ℕ) (e : ℕ) (source : Source) → with_source s domain ≡ Some (e, source) → domain ≡ Some e
-sourced s None e source h = absurd cc
-sourced s (Some d) e source h = ap (λ (p : ℕ × Source). Some p.0) (pair_same (d, s) (e, source) h)
+port_clock : (ports : Ports) (root clock : ClockRoot) (b : Bool) → ports.is_clock root.port ≡ b → (if b then Some root else None) ≡ Some clock → ports.is_clock clock.port ≡ true
+port_clock ports root clock true is h = (let q : root ≡ clock = cc in sym (ap (λ (r : ClockRoot). ports.is_clock r.port) q) ∙ is)
+port_clock ports root clock false is h = absurd cc
 
-port_clock : (ports : Ports) (net e : ℕ) (b : Bool) → ports.is_clock net ≡ b → (if b then Some net else None) ≡ Some e → ports.is_clock e ≡ true
-port_clock ports net e true is h = (let q : net ≡ e = cc in sym (ap ports.is_clock q) ∙ is)
-port_clock ports net e false is h = absurd cc
+root_clock : (ports : Ports) (root : Option ClockRoot) (clock : ClockRoot) → domain_of ports root ≡ Some clock → ports.is_clock clock.port ≡ true
+root_clock ports None clock h = absurd cc
+root_clock ports (Some root) clock h = port_clock ports root clock (ports.is_clock root.port) refl h
 
-root_clock : (ports : Ports) (root : Root) (e : ℕ) → domain_of ports root ≡ Some e → ports.is_clock e ≡ true
-root_clock ports (Port net) e h = port_clock ports net e (ports.is_clock net) refl h
-root_clock ports (Constant bit) e h = absurd cc
-root_clock ports Other e h = absurd cc
+domain_clock : (n : Netlist) (ports : Ports) (source : Option Source) (clock : ClockRoot) → domain_at n ports source ≡ Some clock → ports.is_clock clock.port ≡ true
+domain_clock n ports None clock h = absurd cc
+domain_clock n ports (Some source) clock h = root_clock ports (clock_root_of n source) clock h
 
-domain_clock : (n : Netlist) (ports : Ports) (source : Option Source) (e : ℕ) → domain_at n ports source ≡ Some e → ports.is_clock e ≡ true
-domain_clock n ports None e h = absurd cc
-domain_clock n ports (Some source) e h = root_clock ports (root_of n source) e h
+sourced : (ports : Ports) (s : Source) (domain : Option ClockRoot) (e : ℕ) (source : Source) → ((clock : ClockRoot) → domain ≡ Some clock → ports.is_clock clock.port ≡ true) → with_source s domain ≡ Some (e, source) → ports.is_clock e ≡ true
+sourced ports s None e source clocks h = absurd cc
+sourced ports s (Some clock) e source clocks h = sym (ap (λ (p : ℕ × Source). ports.is_clock p.0) (pair_same (clock.port, s) (e, source) h)) ∙ clocks clock refl
 
 -- ---- the circuit
 
@@ -187,7 +186,7 @@ circuit_of n ports x sound order size each flops latches tables =
           let live : c < length n.instances = omega arith in
           let kept : kept_latch n ports c ≡ Some (e, source) = sym (latches.each c live) ∙ h in
           let is = kept_is (kind_at n c) (latch_in n ports c (map (wired_by c) (pins_of n c))) (e, source) kept in
-          domain_clock n ports (found_in Clock (map (wired_by c) (pins_of n c))) e (sourced _ (domain_at n ports (found_in Clock (map (wired_by c) (pins_of n c)))) e source is));
+          sourced ports _ (domain_at n ports (found_in Clock (map (wired_by c) (pins_of n c)))) e source (domain_clock n ports (found_in Clock (map (wired_by c) (pins_of n c)))) is);
       nets = size;
       instances = flops.size;
     }

@@ -17,6 +17,7 @@ use Rattle.dft_netlist.specs.declared.instance.CellRef.TheVariants as cell_ref
 use Rattle.dft_base.specs.Lexing.{Text}
 use Rattle.dft_netlist.specs.Sound.{IsNetlist, IsCellOf, is_primitive}
 use Rattle.dft_netlist.specs.Netlist.{Netlist}
+use Rattle.dft_netlist.specs.ClockRoots.{ClockRoot}
 use Rattle.dft_netlist.specs.Drivers.{Source, Connection, source_of, is_input, inputs_of, gate_roles, shape_of_cell, shape_of, connections_from, driver_of_kind, driver, kind_of, kind_at, pins_at, pins_of}
 use Rattle.dft_netlist.specs.Logic.{Ports, Cell, Meaning, Gate, Lockup, Free, Input, Clock, Joined, Flop, same_role, pin_of, or_loose, domain_at, forcing, scan_of, modelled, modelled_of, flip_flop, locked, lockup_meaning, flop_meaning, meaning_of}
 use Rattle.dft_netlist.proofs.SettledLemmas.{no_flop}
@@ -90,9 +91,9 @@ meaning_same n ports net i inverted kind.Tie1 e = gate_same kind.Tie1 i (pins_of
 
 -- ---- a lock-up is that of its instance
 
-lockup_is : (i : ℕ) (domain : Option ℕ) (src : Source) (c e : ℕ) (high : Bool) (source : Source) → lockup_meaning i domain src ≡ Lockup c e high source → (i ≡ c) × (with_source src domain ≡ Some (e, source))
+lockup_is : (i : ℕ) (domain : Option ClockRoot) (src : Source) (c e : ℕ) (high : Bool) (source : Source) → lockup_meaning i domain src ≡ Lockup c e high source → (i ≡ c) × (with_source src domain ≡ Some (e, source))
 lockup_is i None src c e high source h = absurd cc
-lockup_is i (Some d) src c e high source h = (let a : i ≡ c = cc in a, let b : d ≡ e = cc in let s : src ≡ source = cc in λ t. Some (b t, s t))
+lockup_is i (Some d) src c e high source h = (let a : i ≡ c = cc in a, let b : d.port ≡ e = cc in let s : src ≡ source = cc in λ t. Some (b t, s t))
 
 no_gate : (k : Kind) (inputs : List Source) (c e : ℕ) (high : Bool) (source : Source) → Gate k inputs ≡ Lockup c e high source → ⊥
 no_gate k inputs c e high source h = cc
@@ -231,7 +232,7 @@ gate_takes takes roles signals i g e =
     ap length (inputs_same i (connections_from 0 (replicate n role.Input ++ role.Output ∷ []) signals)) ∙ count_inputs n 0 i signals w in
     subst R (sym g.2) (subst takes (sym c) g.1)
 
-lockup_fits : (i : ℕ) (domain : Option ℕ) (s : Source) → FitsMeaning (lockup_meaning i domain s)
+lockup_fits : (i : ℕ) (domain : Option ClockRoot) (s : Source) → FitsMeaning (lockup_meaning i domain s)
 lockup_fits i None s = tt
 lockup_fits i (Some d) s = tt
 

@@ -5,6 +5,7 @@ use Rattle.dft_cells.specs.FlipFlops.{is_flip_flop}
 use Rattle.dft_cells.specs.declared.kind.Role.{Role}
 use Rattle.dft_cells.specs.declared.kind.Role.TheVariants as role
 use Rattle.dft_netlist.specs.Netlist.{Netlist}
+use Rattle.dft_netlist.specs.ClockRoots.{ClockRoot}
 use Rattle.dft_netlist.specs.Drivers.{Source, Connection, source_of, is_input, kind_at, pins_of}
 use Rattle.dft_cells.specs.declared.kind.Kind.{Kind}
 use Rattle.dft_cells.specs.declared.kind.Kind.TheVariants as kind
@@ -70,9 +71,9 @@ lockup_in n ports i ws = locked (domain_at n ports (found_in role.Clock ws)) (or
 abbrev pub stored_in : Netlist → Ports → (instance : ℕ) → Kind → List Wired → Option Cell
 stored_in n ports i k ws = option_or (if is_flip_flop k then modelled_in n ports i ws else None) (if is_lockup k then lockup_in n ports i ws else None)
 
-abbrev pub with_source : Source → Option ℕ → Option (ℕ × Source)
+abbrev pub with_source : Source → Option ClockRoot → Option (ℕ × Source)
 with_source source None = None
-with_source source (Some domain) = Some (domain, source)
+with_source source (Some clock) = Some (clock.port, source)
 
 -- the domain and the input of its lock-up
 abbrev pub latch_in : Netlist → Ports → (instance : ℕ) → List Wired → Option (ℕ × Source)

@@ -3,6 +3,8 @@
 ghost use Rattle.std.specs.Prelude.{◌≡◌, ℕ, length, map, option_map, None, IfOk, if◌then◌else◌};
 ghost use Rattle.dft_cells.specs.declared.kind.Role.TheVariants as role;
 ghost use Rattle.dft_cells.specs.FlipFlops.{is_flip_flop as takes_clock};
+ghost use Rattle.dft_netlist.specs.ClockRoots as clocks;
+ghost use Rattle.dft_netlist.specs.ClockSteps.{shown_clock};
 ghost use Rattle.dft_netlist.specs.Logic as logics;
 ghost use Rattle.dft_netlist.specs.Logic.{is_lockup};
 ghost use Rattle.dft_netlist.specs.Roots.{shown_root};
@@ -14,7 +16,7 @@ use crate::circuit::{Acting, FlipFlop, Latch, Op, Operand, ScanPins};
 use crate::settling::flag_at;
 use crate::wires::{Wire, find, gate_inputs};
 use dft_cells::{Kind, Role};
-use dft_netlist::{Design, InstanceId, NetId, Root};
+use dft_netlist::{ClockRoot, Design, InstanceId, NetId, Root};
 use std::alloc::{AllocError, Global};
 
 // Where a walk back from an operand leads.
@@ -29,27 +31,38 @@ fn root_of(design: &Design, source: Operand) -> Root
     }
 }
 
-// The clock port that a root is, where the clocks are flagged.
-fn clock_port(flags: &[bool], root: Root) -> Option<NetId>
-    ensures { option_map (λ net. net.0) result ≡ logics.domain_of (ports_by flags.now) (shown_root root) }
+// The clock that an operand shows.
+fn clock_of(design: &Design, source: Operand) -> Option<ClockRoot>
+    requires { IsLiveOperand (length design.now.nets) source }
+    ensures { shown_clock result ≡ clocks.clock_root_of design.now (source_at source) }
 {
-    match root {
-        Root::Port(net) => if flag_at(flags, net.0) {
-            Some(net)
-        } else {
-            None
-        },
-        Root::Constant(_) | Root::Other => None,
+    match source {
+        Operand::Net(net) => design.clock_root(net),
+        Operand::Tied(_) | Operand::Loose(_, _) => None,
     }
 }
 
-// The domain of an instance with these pins, by the net of its clock port.
-fn domain_of(design: &Design, flags: &[bool], wires: &[Wire]) -> Option<NetId>
+// A clock that is shown, where its port is flagged as a clock.
+fn clock_port(flags: &[bool], root: Option<ClockRoot>) -> Option<ClockRoot>
+    ensures { shown_clock result ≡ logics.domain_of (ports_by flags.now) (shown_clock root) }
+{
+    match root {
+        Some(clock) => if flag_at(flags, clock.port.0) {
+            Some(clock)
+        } else {
+            None
+        },
+        None => None,
+    }
+}
+
+// The clock port that the clock pin of an instance with these pins shows, itself or inverted.
+fn domain_of(design: &Design, flags: &[bool], wires: &[Wire]) -> Option<ClockRoot>
     requires { AreLiveWires (length design.now.nets) wires.now }
-    ensures { option_map (λ net. net.0) result ≡ logics.domain_at design.now (ports_by flags.now) (found_in role.Clock (map wired_at wires.now)) }
+    ensures { shown_clock result ≡ logics.domain_at design.now (ports_by flags.now) (found_in role.Clock (map wired_at wires.now)) }
 {
     match find(wires, Role::Clock) {
-        Some(source) => clock_port(flags, root_of(design, source)),
+        Some(source) => clock_port(flags, clock_of(design, source)),
         None => None,
     }
 }
@@ -123,10 +136,10 @@ fn modelled(design: &Design, flags: &[bool], number: InstanceId, wires: &[Wire])
     ensures { option_map cell_of result ≡ modelled_in design.now (ports_by flags.now) number.0 (map wired_at wires.now) }
 {
     match domain_of(design, flags, wires) {
-        Some(domain) => match forcing(design, flags, wires) {
+        Some(clock) => match forcing(design, flags, wires) {
             Some(force) => Some(FlipFlop {
-                domain,
-                falling: false,
+                domain: clock.port,
+                falling: clock.inverted,
                 input: data_in(number, wires),
                 scan: scan_of(wires),
                 force,
@@ -137,7 +150,7 @@ fn modelled(design: &Design, flags: &[bool], number: InstanceId, wires: &[Wire])
     }
 }
 
-// The lock-up with these pins, if its clock traces to a clock port.
+// The lock-up with these pins, if its clock shows a clock port.
 pub(crate) fn latch_of(
     design: &Design,
     flags: &[bool],
@@ -148,8 +161,8 @@ pub(crate) fn latch_of(
     ensures { latched result ≡ latch_in design.now (ports_by flags.now) number.0 (map wired_at wires.now) }
 {
     match domain_of(design, flags, wires) {
-        Some(domain) => Some(Latch {
-            domain,
+        Some(clock) => Some(Latch {
+            domain: clock.port,
             input: data_in(number, wires),
         }),
         None => None,
@@ -174,15 +187,15 @@ fn flip_flop(
     }
 }
 
-// The lock-up with these pins as what stores a bit, if its clock traces to a clock port.
+// The lock-up with these pins as what stores a bit, if its clock shows a clock port: a high one where it is inverted.
 fn locked(design: &Design, flags: &[bool], number: InstanceId, wires: &[Wire]) -> Option<FlipFlop>
     requires { AreLiveWires (length design.now.nets) wires.now }
     ensures { option_map cell_of result ≡ lockup_in design.now (ports_by flags.now) number.0 (map wired_at wires.now) }
 {
     match domain_of(design, flags, wires) {
-        Some(domain) => Some(FlipFlop {
-            domain,
-            falling: false,
+        Some(clock) => Some(FlipFlop {
+            domain: clock.port,
+            falling: clock.inverted,
             input: data_in(number, wires),
             scan: None,
             force: None,
@@ -263,8 +276,11 @@ pub(crate) fn pin_op(
 {
     match kind {
         Kind::Opaque => Ok(Op::Free),
-        Kind::Lockup => match latch_of(design, flags, number, wires) {
-            Some(latch) => Ok(Op::Lockup(number, latch.domain, false, latch.input)),
+        Kind::Lockup => match domain_of(design, flags, wires) {
+            Some(clock) => {
+                let input = data_in(number, wires);
+                Ok(Op::Lockup(number, clock.port, clock.inverted, input))
+            }
             None => Ok(Op::Free),
         },
         Kind::Dff | Kind::Dffr | Kind::Dffs | Kind::Sdff | Kind::Sdffr | Kind::Sdffs => {

@@ -24,6 +24,7 @@ pub mod Weights
 pub mod DriverLaws
 pub mod TraceLemmas
 pub mod ClockWalks
+pub mod GateDrivers
 pub mod ClockLemmas
 pub mod NumberLemmas
 pub mod BitLemmas

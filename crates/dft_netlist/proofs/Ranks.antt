@@ -6,6 +6,7 @@ use Rattle.dft_cells.specs.declared.kind.Role.TheVariants.{Input, Clock, Din, Re
 use Rattle.dft_netlist.specs.Netlist.{Netlist}
 use Rattle.dft_netlist.specs.Drivers.{Source, Net, Tied, Loose, Driver, Connection, source_of, pins_of, driver, nets_of, nets_read, is_lockup_input, lockup_inputs, AreBelow}
 use Rattle.dft_netlist.specs.Drivers as drivers
+use Rattle.dft_netlist.specs.ClockRoots.{ClockRoot}
 use Rattle.dft_netlist.specs.Logic.{Ports, Cell, same_role, pin_of, or_loose, domain_at, flip_flop, flop_meaning, lockup_meaning, meaning_of, reads}
 use Rattle.dft_netlist.specs.Logic as meanings
 use Rattle.dft_netlist.specs.Laws.{OrderIsRank}
@@ -40,7 +41,7 @@ pub data_below : (rank : ℕ → ℕ) (r i : ℕ) (pins : List Connection) → A
 data_below rank r i [] below = tt
 data_below rank r i (c ∷ pins) below = data_step rank r i c.role (source_of i c.pin c.to) (lockup_inputs i pins) (pin_of Din i pins) (data_below rank r i pins) below
 
-pub lockup_below : (rank : ℕ → ℕ) (r i : ℕ) (domain : Option ℕ) (source : Source) → AreBelow rank r (nets_of (source ∷ [])) → AreBelow rank r (reads (lockup_meaning i domain source))
+pub lockup_below : (rank : ℕ → ℕ) (r i : ℕ) (domain : Option ClockRoot) (source : Source) → AreBelow rank r (nets_of (source ∷ [])) → AreBelow rank r (reads (lockup_meaning i domain source))
 lockup_below rank r i None source below = tt
 lockup_below rank r i (Some domain) source below = below
 

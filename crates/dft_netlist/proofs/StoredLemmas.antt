@@ -20,7 +20,8 @@ use Rattle.dft_netlist.specs.declared.port.Port.{Port}
 use Rattle.dft_netlist.specs.Netlist.{Netlist}
 use Rattle.dft_netlist.specs.Drivers.{Source, Driver, Driven, Connection, driver_of_kind, at_signal, at_role, driven_by_pins, connections_of, inputs_of, shape_of, driven_by, driven_by_instances, driven_by_bits, driven_by_ports, driven_by_joins, all_driven, driver_in, driver, kind_of, kind_at, pins_of}
 use Rattle.dft_netlist.specs.Drivers as drivers
-use Rattle.dft_netlist.specs.Logic.{Ports, Input, Clock, Lockup, Cell, pin_of, or_loose, domain_at, modelled_of, flip_flop, lockup_cell, locked, is_lockup, lock_up, cell_or_none, lockup_meaning, meaning_of, logic_of, Force, Scan, modelled, IsRising}
+use Rattle.dft_netlist.specs.Logic.{Ports, Input, Clock, Lockup, Cell, pin_of, or_loose, domain_at, modelled_of, flip_flop, lockup_cell, locked, is_lockup, lock_up, cell_or_none, lockup_meaning, meaning_of, logic_of}
+use Rattle.dft_netlist.specs.ClockRoots.{ClockRoot}
 use Rattle.dft_netlist.proofs.SettledLemmas.{no_flop}
 
 -- ---- flip-flops
@@ -36,7 +37,7 @@ pub kept_cell : (n : Netlist) (ports : Ports) (i : ℕ) → is_some (flip_flop n
 kept_cell n ports i is = kept_by i (flip_flop n ports i) (lock_up n ports i) is
 
 -- a lock-up has no reset and no set
-force_by : (i : ℕ) (o : Option Cell) (b : Bool) (domain : Option ℕ) (source : Source) → (cell_or_none i (option_or o (if b then locked domain source else None))).force ≡ (cell_or_none i o).force
+force_by : (i : ℕ) (o : Option Cell) (b : Bool) (domain : Option ClockRoot) (source : Source) → (cell_or_none i (option_or o (if b then locked domain source else None))).force ≡ (cell_or_none i o).force
 force_by i (Some cell) b domain source = refl
 force_by i None false domain source = refl
 force_by i None true None source = refl
@@ -151,11 +152,11 @@ no_port : (b : Bool) (c e : ℕ) (high : Bool) (source : Source) → (if b then 
 no_port true c e high source h = cc
 no_port false c e high source h = cc
 
-locked_same : (i : ℕ) (domain : Option ℕ) (from : Source) (c e : ℕ) (high : Bool) (source : Source) → lockup_meaning i domain from ≡ Lockup c e high source → cell_or_none i (locked domain from) ≡ lockup_cell e high source
+locked_same : (i : ℕ) (domain : Option ClockRoot) (from : Source) (c e : ℕ) (high : Bool) (source : Source) → lockup_meaning i domain from ≡ Lockup c e high source → cell_or_none i (locked domain from) ≡ lockup_cell e high source
 locked_same i None from c e high source h = absurd cc
-locked_same i (Some d) from c e high source h = (let p : d ≡ e = cc in let q : false ≡ high = cc in let r : from ≡ source = cc in λ t. lockup_cell (p t) (q t) (r t))
+locked_same i (Some d) from c e high source h = (let p : d.port ≡ e = cc in let q : d.inverted ≡ high = cc in let r : from ≡ source = cc in λ t. lockup_cell (p t) (q t) (r t))
 
-its_instance : (i : ℕ) (domain : Option ℕ) (from : Source) (c e : ℕ) (high : Bool) (source : Source) → lockup_meaning i domain from ≡ Lockup c e high source → i ≡ c
+its_instance : (i : ℕ) (domain : Option ClockRoot) (from : Source) (c e : ℕ) (high : Bool) (source : Source) → lockup_meaning i domain from ≡ Lockup c e high source → i ≡ c
 its_instance i None from c e high source h = absurd cc
 its_instance i (Some d) from c e high source h = cc
 
@@ -166,7 +167,7 @@ stored_by n ports net (drivers.Joined from) c e high source at h = absurd cc
 stored_by n ports net (drivers.Flop i inverted) c e high source at h = absurd (no_flop i inverted (flip_flop n ports i) c e high source h)
 stored_by n ports net (drivers.Lockup i) c e high source at h =
     let pins = pins_of n i in
-    let domain : Option ℕ = domain_at n ports (pin_of role.Clock i pins) in
+    let domain : Option ClockRoot = domain_at n ports (pin_of role.Clock i pins) in
     let from : Source = or_loose i (pin_of role.Din i pins) in
     let cell_by : Kind → Cell = λ k. cell_or_none i (option_or (if is_flip_flop k then modelled_of n ports i pins else None) (if is_lockup k then locked domain from else None)) in
     sym (ap (λ (j : ℕ). (logic_of n ports).cell j) (its_instance i domain from c e high source h)) ∙ ap cell_by (lockup_kind n net i at) ∙ locked_same i domain from c e high source h
@@ -174,24 +175,3 @@ stored_by n ports net drivers.Free c e high source at h = absurd cc
 
 pub lockup_stored : (n : Netlist) (ports : Ports) (net c e : ℕ) (high : Bool) (source : Source) → (logic_of n ports).net net ≡ Lockup c e high source → (logic_of n ports).cell c ≡ lockup_cell e high source
 lockup_stored n ports net c e high source is = stored_by n ports net (driver n net) c e high source refl is
-
--- ---- edges
-
-flop_rises : (n : Netlist) (ports : Ports) (i : ℕ) (domain : Option ℕ) (force : Option (Option Force)) (input : Source) (scan : Option Scan) (lock : Option Cell) → (cell_or_none i lock).falling ≡ false →
-    (cell_or_none i (option_or (modelled domain force input scan) lock)).falling ≡ false
-flop_rises n ports i None force input scan lock is = is
-flop_rises n ports i (Some d) None input scan lock is = is
-flop_rises n ports i (Some d) (Some f) input scan lock is = refl
-
-lock_rises : (i : ℕ) (b : Bool) (domain : Option ℕ) (source : Source) → (cell_or_none i (if b then locked domain source else None)).falling ≡ false
-lock_rises i false domain source = refl
-lock_rises i true None source = refl
-lock_rises i true (Some domain) source = refl
-
-stored_rises : (n : Netlist) (ports : Ports) (i : ℕ) (b : Bool) → (cell_or_none i (option_or (if b then modelled_of n ports i (pins_of n i) else None) (lock_up n ports i))).falling ≡ false
-stored_rises n ports i true = flop_rises n ports i _ _ _ _ (lock_up n ports i) (lock_rises i (is_lockup (kind_at n i)) _ _)
-stored_rises n ports i false = lock_rises i (is_lockup (kind_at n i)) _ _
-
--- in every design of today each cell takes its bit at a rise
-pub logic_rises : (n : Netlist) (ports : Ports) → IsRising (logic_of n ports)
-logic_rises n ports i = stored_rises n ports i (is_flip_flop (kind_at n i))

@@ -11,6 +11,10 @@ pub record ClockRoot : Type 0 where
   pub port : ℕ
   pub inverted : Bool
 
+-- a port's bit itself
+abbrev pub port_root : (port : ℕ) → ClockRoot
+port_root port = record { port = port; inverted = false }
+
 -- whether a gate that passes on a clock turns it: a buffer does not, an inverter does, and no other gate passes one on
 abbrev pub turn_of : Kind → Option Bool
 turn_of Buf = Some false

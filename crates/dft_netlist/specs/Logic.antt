@@ -10,6 +10,7 @@ use Rattle.dft_netlist.specs.Netlist.{Netlist}
 use Rattle.dft_netlist.specs.Drivers.{Source, Loose, Driver, Connection, source_of, pins_of, kind_at, driver, nets_of, AreBelow}
 use Rattle.dft_netlist.specs.Drivers as drivers
 use Rattle.dft_netlist.specs.Traces.{Root, Port, Constant, Other, root_of}
+use Rattle.dft_netlist.specs.ClockRoots.{ClockRoot, clock_root_of}
 
 -- which input ports' bits are clocks, and which are resets or sets, by their nets
 pub record Ports : Type 0 where
@@ -42,7 +43,7 @@ pub record Scan : Type 0 where
   pub enable : Source
   pub input : Source
 
--- what stores a bit: a modelled flip-flop or a lock-up. Its domain is the net of the clock port that its clock traces to.
+-- what stores a bit: a modelled flip-flop or a lock-up. Its domain is the net of the clock port that its clock pin shows, itself or inverted.
 pub record Cell : Type 0 where
   pub domain : ℕ
   -- whether it takes its bit at the fall of its clock, else at the rise
@@ -81,15 +82,15 @@ abbrev pub or_loose : (instance : ℕ) → Option Source → Source
 or_loose i None = Loose i 0
 or_loose i (Some source) = source
 
--- the clock port that a root is
-abbrev pub domain_of : Ports → Root → Option ℕ
-domain_of ports (Port net) = if ports.is_clock net then Some net else None
-domain_of ports (Constant bit) = None
-domain_of ports Other = None
+-- a clock that is shown, where its port is a clock port
+abbrev pub domain_of : Ports → Option ClockRoot → Option ClockRoot
+domain_of ports None = None
+domain_of ports (Some root) = if ports.is_clock root.port then Some root else None
 
-abbrev pub domain_at : Netlist → Ports → Option Source → Option ℕ
+-- the clock port that a clock pin shows, itself or inverted
+abbrev pub domain_at : Netlist → Ports → Option Source → Option ClockRoot
 domain_at n ports None = None
-domain_at n ports (Some source) = domain_of ports (root_of n source)
+domain_at n ports (Some source) = domain_of ports (clock_root_of n source)
 
 -- What a reset or set is, by its root: None where it keeps its flip-flop from being modelled, Some None where it never acts.
 abbrev pub force_of : Ports → (value : Bool) → Root → Option (Option Force)
@@ -109,10 +110,11 @@ scan_of (Some enable) (Some input) = Some (record { enable = enable; input = inp
 scan_of (Some enable) None = None
 scan_of None input = None
 
--- a flip-flop is modelled where its clock traces to a clock port, and its reset or set to a reset port or to constant 1
-abbrev pub modelled : Option ℕ → Option (Option Force) → (input : Source) → Option Scan → Option Cell
-modelled (Some domain) (Some force) input scan = Some (record { domain = domain; falling = false; input = input; scan = scan; force = force })
-modelled (Some domain) None input scan = None
+-- A flip-flop is modelled where its clock shows a clock port, and its reset or set traces to a reset port or to constant 1. It is falling where
+-- its clock is inverted.
+abbrev pub modelled : Option ClockRoot → Option (Option Force) → (input : Source) → Option Scan → Option Cell
+modelled (Some clock) (Some force) input scan = Some (record { domain = clock.port; falling = clock.inverted; input = input; scan = scan; force = force })
+modelled (Some clock) None input scan = None
 modelled None force input scan = None
 
 abbrev pub modelled_of : Netlist → Ports → (instance : ℕ) → List Connection → Option Cell
@@ -128,9 +130,10 @@ flip_flop n ports i = if is_flip_flop (kind_at n i) then modelled_of n ports i (
 abbrev pub lockup_cell : (domain : ℕ) → (high : Bool) → Source → Cell
 lockup_cell domain high source = record { domain = domain; falling = high; input = source; scan = None; force = None }
 
-abbrev pub locked : Option ℕ → Source → Option Cell
+-- a lock-up is high where its clock is inverted
+abbrev pub locked : Option ClockRoot → Source → Option Cell
 locked None source = None
-locked (Some domain) source = Some (lockup_cell domain false source)
+locked (Some clock) source = Some (lockup_cell clock.port clock.inverted source)
 
 abbrev pub is_lockup : Kind → Bool
 is_lockup kind.Lockup = true
@@ -156,9 +159,9 @@ abbrev pub flop_meaning : (instance : ℕ) → (inverted : Bool) → Option Cell
 flop_meaning i inverted None = Free
 flop_meaning i inverted (Some cell) = Flop i inverted
 
-abbrev pub lockup_meaning : (instance : ℕ) → Option ℕ → Source → Meaning
+abbrev pub lockup_meaning : (instance : ℕ) → Option ClockRoot → Source → Meaning
 lockup_meaning i None source = Free
-lockup_meaning i (Some domain) source = Lockup i domain false source
+lockup_meaning i (Some clock) source = Lockup i clock.port clock.inverted source
 
 abbrev pub meaning_of : Netlist → Ports → (net : ℕ) → Driver → Meaning
 meaning_of n ports net drivers.Input = if ports.is_clock net then Clock else Input

@@ -19,7 +19,7 @@ use Rattle.dft_netlist.specs.declared.instance.Instance.{Instance}
 use Rattle.dft_netlist.specs.Netlist.{Netlist}
 use Rattle.dft_netlist.specs.NetDrivers.{IsSingle}
 use Rattle.dft_netlist.specs.Drivers.{Shape, Net, Connection, Input, Flop, Lockup, connections_from, pins_at, kind_of, driver, shape_of, shape_of_cell}
-use Rattle.dft_netlist.specs.Traces.{Port, root_of, root_within, root_of_driver}
+use Rattle.dft_netlist.specs.ClockRoots.{ClockRoot, port_root, clock_root_of, clock_within, clock_of_driver}
 use Rattle.dft_netlist.specs.Logic as logic
 use Rattle.dft_netlist.specs.Logic.{Ports, domain_of, domain_at, modelled, modelled_of, flip_flop, flop_meaning, lockup_meaning, logic_of, meaning_of, or_loose, pin_of}
 use Rattle.dft_netlist.proofs.StoredLemmas.{flop_cell}
@@ -131,15 +131,15 @@ lockup_shape library well =
     let e : map role_of f.cell.pins ≡ AClock ∷ Din ∷ Output ∷ [] = subst (λ (v : Kind). HasRoles v (map role_of f.cell.pins)) k (well.each (first_cell is_lockup library).0 f.cell f.at).roles in
     ap (λ (o : Option Cell). shape_of_cell o) f.at ∙ (λ i. record { kind = k i; roles = e i })
 
-clock_root : (n : Netlist) (clock : ℕ) → driver n clock ≡ Input → root_of n (Net clock) ≡ Port clock
-clock_root n clock at = ap (root_of_driver (root_within n (length n.nets)) clock) at
+clock_root : (n : Netlist) (clock : ℕ) → driver n clock ≡ Input → clock_root_of n (Net clock) ≡ Some (port_root clock)
+clock_root n clock at = ap (clock_of_driver (clock_within n (length n.nets)) clock) at
 
-picked : (b : Bool) (net : ℕ) → b ≡ true → (if b then Some net else None) ≡ Some net
-picked true net h = refl
-picked false net h = absurd cc
+picked : (b : Bool) (root : ClockRoot) → b ≡ true → (if b then Some root else None) ≡ Some root
+picked true root h = refl
+picked false root h = absurd cc
 
-clock_domain : (n : Netlist) (ports : Ports) (clock : ℕ) → IsClockNet n ports clock → domain_of ports (root_of n (Net clock)) ≡ Some clock
-clock_domain n ports clock is = ap (domain_of ports) (clock_root n clock is.input) ∙ picked (ports.is_clock clock) clock is.clock
+clock_domain : (n : Netlist) (ports : Ports) (clock : ℕ) → IsClockNet n ports clock → domain_of ports (clock_root_of n (Net clock)) ≡ Some (port_root clock)
+clock_domain n ports clock is = ap (domain_of ports) (clock_root n clock is.input) ∙ picked (ports.is_clock clock) (port_root clock) is.clock
 
 -- the signals of the three pins that a store has at least
 pub record HasFront (clock input output : NetId) (pins : List Signal) : Type 0 where
@@ -161,7 +161,7 @@ cell_as n ports i s pins = if is_flip_flop s.kind then modelled_of n ports i (co
 abbrev cell_by : Netlist → Ports → (i : ℕ) → Option Instance → Option logic.Cell
 cell_by n ports i o = if is_flip_flop (kind_of n.library o) then modelled_of n ports i (pins_at n.library o) else None
 
-abbrev plain_by : (input : ℕ) → Option ℕ → Option logic.Cell
+abbrev plain_by : (input : ℕ) → Option ClockRoot → Option logic.Cell
 plain_by input domain = modelled domain (Some None) (Net input) None
 
 -- an instance of a shape with these roles more than a clock, an input and an output is a plain flip-flop
@@ -229,4 +229,4 @@ lockup_stands n ports i clock input output single well is h =
     ∙ ap (λ (c : CellRef). lockup_with n ports i (connections_from 0 (shape_of n.library c).roles x.pins)) h.cell_is
     ∙ ap (λ (v : Shape). lockup_with n ports i (connections_from 0 v.roles x.pins)) shape
     ∙ ap (λ (ps : List Signal). lockup_with n ports i (connections_from 0 s.roles ps)) front.are
-    ∙ ap (λ (d : Option ℕ). lockup_meaning i d (Net input.0)) (clock_domain n ports clock.0 is)
+    ∙ ap (λ (d : Option ClockRoot). lockup_meaning i d (Net input.0)) (clock_domain n ports clock.0 is)

@@ -25,6 +25,7 @@ use Rattle.dft_netlist.specs.Runs.{Vector}
 use Rattle.dft_netlist.specs.Settled.{IsTriSettled, inverse, value_given, value_from}
 use Rattle.dft_netlist.specs.Sound.{bits_of}
 use Rattle.dft_netlist.specs.Traces.{Root, Port, Constant, Other, root_of}
+use Rattle.dft_netlist.specs.ClockRoots.{ClockRoot}
 use Rattle.dft_netlist.proofs.LiveDriven.{AreBefore, before_front, before_back}
 use Rattle.dft_netlist.proofs.StoredLemmas.{stored_force}
 use Rattle.dft_abstract.specs.Cycle.{tri_forced_by, rise_of, strobe_sources, AreHalves, Round, IsRound, after_round}
@@ -87,7 +88,7 @@ input_by n ports net (drivers.Flop i inverted) e = absurd (no_flop (flip_flop n 
     no_flop (Some c) h = cc
 input_by n ports net (drivers.Lockup i) e = absurd (no_lockup _ _ e)
   where
-    no_lockup : (o : Option ℕ) (s : drivers.Source) → lockup_meaning i o s ≡ Input → ⊥
+    no_lockup : (o : Option ClockRoot) (s : drivers.Source) → lockup_meaning i o s ≡ Input → ⊥
     no_lockup None s h = cc
     no_lockup (Some d) s h = cc
 input_by n ports net drivers.Free e = absurd cc
@@ -134,7 +135,7 @@ forcing_reset n p (Some reset) preset f e = forced_reset p false (root_of n rese
 forcing_reset n p None (Some preset) f e = forced_reset p true (root_of n preset) f e
 forcing_reset n p None None f e = absurd (none-some f (same_Some None (Some f) e))
 
-pub modelled_force : (domain : Option ℕ) (force : Option (Option Force)) (input : Source) (scan : Option Scan) (i : ℕ) (f : Force) → (cell_or_none i (modelled domain force input scan)).force ≡ Some f → force ≡ Some (Some f)
+pub modelled_force : (domain : Option ClockRoot) (force : Option (Option Force)) (input : Source) (scan : Option Scan) (i : ℕ) (f : Force) → (cell_or_none i (modelled domain force input scan)).force ≡ Some f → force ≡ Some (Some f)
 modelled_force None force input scan i f e = absurd (none-some f e)
 modelled_force (Some d) None input scan i f e = absurd (none-some f e)
 modelled_force (Some d) (Some g) input scan i f e = ap Some e

@@ -17,13 +17,14 @@ use Rattle.dft_netlist.specs.declared.ids.InstanceId.{InstanceId}
 use Rattle.dft_netlist.specs.declared.port.Port.{Port}
 use Rattle.dft_netlist.specs.Connections.{is_input}
 use Rattle.dft_netlist.specs.Drivers.{driver}
+use Rattle.dft_netlist.specs.Logic.{Cell}
 use Rattle.dft_netlist.specs.Netlist.{Netlist}
 use Rattle.dft_netlist.specs.NetNumbers.{nets_from}
 use Rattle.dft_netlist.specs.Runs.{Vector}
 use Rattle.dft_netlist.specs.Sound.{IsNetlist, bit_names_of, bits_of}
 use Rattle.dft_netlist.proofs.LiveLemmas.{length-bits}
 use Rattle.dft_netlist.proofs.Ranks.{order_is_rank}
-use Rattle.dft_netlist.proofs.StoredLemmas.{logic_rises}
+use Rattle.dft_netlist.proofs.StoredLemmas.{flop_cell}
 use Rattle.dft_abstract.specs.Cycle.{after_halves}
 use Rattle.dft_config.specs.Config.{Config}
 use Rattle.dft_rules.specs.Rules.{is_net}
@@ -34,7 +35,7 @@ use Rattle.dft_edt.proofs.Captures.{capture_law, strobe_law}
 use Rattle.dft_cubes.specs.declared.cube.Merged.{Merged}
 use Rattle.dft_expect.specs.Loaded.{bit_of_cell, loaded_values, or_unknown}
 use Rattle.dft_expect.specs.Captures.{bits_out, capture_clock, capture_vector, captured_value, config_ports, original, output_bits}
-use Rattle.dft_expect.specs.Capturing.{cells_in}
+use Rattle.dft_expect.specs.Capturing.{CanCapture, cells_in}
 use Rattle.dft_expect.proofs.GivenLemmas.{number_modelled}
 use Rattle.dft_pattern_behavior.specs.Statements.{AreLoaded, CapturesStandOver, IsCaptureVector, value_in}
 use Rattle.dft_pattern_behavior.proofs.Inputs.{data_above, data_next, data_settled, data_stays, data_vector}
@@ -134,6 +135,10 @@ above_if false next kept after up down = down refl
 swapped : (a b : ℕ) → (a == b) ≡ false → (b == a) ≡ false
 swapped a b e = grind (arith, nat_tests)
 
+-- a scanned cell takes its bit at the rise of its clock
+number_rises : (n : Netlist) (config : Config) (number i : ℕ) → CanCapture n config → slice_get (cells_in n config) number ≡ Some (record { 0 = i }) → ((original n config).cell i).falling ≡ false
+number_rises n config number i can at = let m = number_modelled n config number i can at in ap (λ (c : Cell). c.falling) (flop_cell n (config_ports n config) i _ m.flop)
+
 pub stand_over : CapturesStandOver
 stand_over n rank config merged loaded r written p x old can ordered captured covers places vector are =
     let y : Vector = data_vector n config merged in
@@ -147,7 +152,7 @@ stand_over n rank config merged loaded r written p x old can ordered captured co
       λ h halves number cell at. (
           let domain : ℕ = ((original n config).cell cell.0).domain in
           let flop : p.is_flop cell.0 ≡ true = places.flops cell.0 ∙ ap is_some (number_modelled n config number cell.0 can at).flop in
-          let law = capture_law (original n config) written rank p clock y x its old h captured.values ranked covers vector.pulses over settled_over halves cell.0 flop (logic_rises n (config_ports n config) cell.0) in
+          let law = capture_law (original n config) written rank p clock y x its old h captured.values ranked covers vector.pulses over settled_over halves cell.0 flop (number_rises n config number cell.0 can at) in
           let pulsed : is_net domain (capture_clock n config merged.domain) ≡ (clock == domain) = ap (is_net domain) vector.captures in
           let after : Tri = after_halves written x old h cell.0 in
           subst (λ (t : Tri). AboveTri t after) (sym (value_at (λ (c : InstanceId). captured_value n config (plan_of n config).chains merged loaded captured.values c.0) r.cells (cells_in n config) number cell captured.cells at))

@@ -9,7 +9,7 @@ use Rattle.dft_replay.specs.Examples.{row, row_with_lockup, both_pulse, TwoDomai
 use Rattle.dft_replay.proofs.PlainLemmas.{verdict_plain}
 
 -- each driven net of a list stands after the nets that its driver reads
-abbrev AreOrdered : Netlist → (rank : ℕ → ℕ) → List Driven → Type 0
+abbrev pub AreOrdered : Netlist → (rank : ℕ → ℕ) → List Driven → Type 0
 AreOrdered n rank [] = Unit {0}
 AreOrdered n rank (d ∷ ds) = AreBelow rank (rank d.0) (nets_read n d.1) × AreOrdered n rank ds
 
@@ -17,7 +17,7 @@ one_of : (n : Netlist) (rank : ℕ → ℕ) (r : ℕ) (b : Bool) (this rest : Dr
 one_of n rank r true this rest here there = here refl
 one_of n rank r false this rest here there = there
 
-each_ordered : (n : Netlist) (rank : ℕ → ℕ) (ds : List Driven) → AreOrdered n rank ds → (net : ℕ) → AreBelow rank (rank net) (nets_read n (driver_in ds net))
+pub each_ordered : (n : Netlist) (rank : ℕ → ℕ) (ds : List Driven) → AreOrdered n rank ds → (net : ℕ) → AreBelow rank (rank net) (nets_read n (driver_in ds net))
 each_ordered n rank [] ordered net = tt
 each_ordered n rank (d ∷ ds) ordered net =
     one_of n rank (rank net) (d.0 == net) d.1 (driver_in ds net)

@@ -2,6 +2,7 @@ pub mod Soundness
 pub mod Uniqueness
 pub mod PlainLemmas
 pub mod ExampleLemmas
+pub mod EdgeExampleLemmas
 pub mod FitLemmas
 pub mod LookLemmas
 pub mod PlayedLemmas

@@ -5,5 +5,6 @@ pub mod Laws
 pub mod Looks
 pub mod Plain
 pub mod Examples
+pub mod EdgeExamples
 pub mod Choices
 pub mod Vectors

@@ -1,5 +1,6 @@
-//! Worked examples, as contracts of a function that does nothing.
+//! Worked examples, as contracts of functions that do nothing.
 
+ghost use Rattle.dft_replay.specs.EdgeExamples.{AcrossEdges, FallingReset, HighLockup, QuietFalls, ThreeFalls, TwoFalls};
 ghost use Rattle.dft_replay.specs.Examples.{KeptInput, QuietLockup, ThreeDomains, TwoDomains};
 
 /// The verdicts of small designs, whose domains pulse in one vector or whose inputs keep what they were set to.
@@ -8,4 +9,15 @@ pub fn worked_examples()
     ensures kept_input { KeptInput }
     ensures quiet_lockup { QuietLockup }
     ensures three_domains { ThreeDomains }
+{}
+
+/// The verdicts of small designs with inverted clocks: flip-flops that take their bits at rises and at falls, and lock-ups
+/// that hold while their clock is high, or while it is low.
+pub fn worked_edges()
+    ensures across_edges { AcrossEdges }
+    ensures two_falls { TwoFalls }
+    ensures high_lockup { HighLockup }
+    ensures quiet_falls { QuietFalls }
+    ensures falling_reset { FallingReset }
+    ensures three_falls { ThreeFalls }
 {}

@@ -12,7 +12,7 @@ mod replayer;
 mod verdict;
 
 pub use error::ReplayError;
-pub use examples::worked_examples;
+pub use examples::{worked_edges, worked_examples};
 pub use laws::{
     every_choice_runs, mismatch_is_sound, pass_is_sound, verdict_is_one, verdict_is_plain,
 };

@@ -10,3 +10,4 @@ pub mod MarkLemmas
 pub mod PlaceLemmas
 pub mod WorkedRules
 pub mod Scannable
+pub mod ClocksRise

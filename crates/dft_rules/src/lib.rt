@@ -16,5 +16,5 @@ pub use dft_base::Rule;
 pub use error::RuleError;
 pub use judged::Judged;
 pub use judging::judge;
-pub use laws::flip_flops_are_judged;
+pub use laws::{flip_flops_are_judged, passed_designs_rise};
 pub use verdicts::Verdicts;

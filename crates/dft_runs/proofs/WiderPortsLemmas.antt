@@ -11,17 +11,17 @@ use Rattle.dft_netlist.specs.Netlist.{Netlist}
 use Rattle.dft_netlist.specs.Drivers.{Source, Driver, pins_of, kind_at, driver}
 use Rattle.dft_netlist.specs.Drivers as drivers
 use Rattle.dft_netlist.specs.Traces.{Root, Port, Constant, Other, root_of}
+use Rattle.dft_netlist.specs.ClockRoots.{ClockRoot, clock_root_of}
 use Rattle.dft_netlist.specs.Logic.{Ports, Cell, Scan, Force, Free, Clock, Input, domain_of, domain_at, force_of, forcing, modelled, modelled_of, flip_flop, flop_meaning, lockup_meaning, meaning_of, pin_of, or_loose, scan_of, locked, is_lockup, lock_up, stored, no_cell, cell_or_none}
 use Rattle.dft_runs.specs.WiderPorts.{Suits, PortsWiden}
 
-same_domain : (a b : Ports) → Suits a b → (r : Root) → domain_of b r ≡ domain_of a r
-same_domain a b suits (Port net) = ap (λ c. if c then Some net else None) (suits.clocks net)
-same_domain a b suits (Constant bit) = refl
-same_domain a b suits Other = refl
+same_domain : (a b : Ports) → Suits a b → (r : Option ClockRoot) → domain_of b r ≡ domain_of a r
+same_domain a b suits None = refl
+same_domain a b suits (Some root) = ap (λ c. if c then Some root else None) (suits.clocks root.port)
 
 same_domain_at : (n : Netlist) (a b : Ports) → Suits a b → (o : Option Source) → domain_at n b o ≡ domain_at n a o
 same_domain_at n a b suits None = refl
-same_domain_at n a b suits (Some source) = same_domain a b suits (root_of n source)
+same_domain_at n a b suits (Some source) = same_domain a b suits (clock_root_of n source)
 
 reset_kept : (x y : Bool) (f : Option Force) (o : Option (Option Force)) → (x ≡ true → y ≡ true) → (if x then Some f else None) ≡ o → (o ≡ None) ⊎ ((if y then Some f else None) ≡ o)
 reset_kept false y f o more is = inl (sym is)
@@ -39,7 +39,7 @@ forcing_kept n a b suits (Some reset) preset = force_kept a b suits false (root_
 forcing_kept n a b suits None (Some preset) = force_kept a b suits true (root_of n preset)
 forcing_kept n a b suits None None = inr refl
 
-no_force : (domain : Option ℕ) (f : Option (Option Force)) (input : Source) (scan : Option Scan) → f ≡ None → modelled domain f input scan ≡ None
+no_force : (domain : Option ClockRoot) (f : Option (Option Force)) (input : Source) (scan : Option Scan) → f ≡ None → modelled domain f input scan ≡ None
 no_force None f input scan h = refl
 no_force (Some domain) None input scan h = refl
 no_force (Some domain) (Some force) input scan h = absurd cc

@@ -1,11 +1,12 @@
 -- One capture vector of a scanned netlist of style Edt.
 use Rattle.std.proofs.Common.{ℕ, ◌≡◌, true, Option, None, Some, is_some, slice_get, refl, sym, ◌∙◌}
-use Rattle.dft_netlist.specs.Logic.{Logic, Ports, Cell, IsRanked, flip_flop, logic_of}
+use Rattle.dft_netlist.specs.Logic.{Logic, Ports, Cell, IsRanked, IsRising, flip_flop, logic_of}
 use Rattle.dft_netlist.specs.Netlist.{Netlist}
 use Rattle.dft_netlist.proofs.RankLemmas.{order_ranks}
 use Rattle.dft_netlist.proofs.Ranks.{order_is_rank}
-use Rattle.dft_netlist.proofs.StoredLemmas.{flop_cell, logic_rises}
+use Rattle.dft_netlist.proofs.StoredLemmas.{flop_cell}
 use Rattle.dft_config.specs.Config.{Config}
+use Rattle.dft_rules.proofs.ClocksRise.{passed_rise}
 use Rattle.dft_runs.specs.WiderPorts.{Widens}
 use Rattle.dft_runs.proofs.WiderPortsLemmas.{ports_widen}
 use Rattle.dft_chains.specs.ScanOff.{Places}
@@ -56,6 +57,9 @@ module _ (n : Netlist) (config : Config) (ports : Ports) (ready : IsReady n conf
   ranked : (rank : ℕ → ℕ) × IsRanked original rank
   ranked = let order = order_ranks n ready.order ready.netlist ready.ordered in (order.0, order_is_rank n (config_ports n config) order.0 order.1)
 
+design_rises : (n : Netlist) (config : Config) → IsReady n config → IsRising (design_logic n config)
+design_rises n config ready = let order = order_ranks n ready.order ready.netlist ready.ordered in passed_rise n config order.0 order.1 ready.netlist ready.passed
+
 pub strobes_follow : StrobesFollow
 strobes_follow n config ports ready suits y x its old values shows over settled written net less =
     let r = ranked n config ports ready suits in
@@ -64,4 +68,5 @@ strobes_follow n config ports ready suits y x its old values shows over settled 
 pub captures_follow : CapturesFollow
 captures_follow n config ports ready suits d y x its old h values capture over settled halves cell is =
     let r = ranked n config ports ready suits in
-    capture_law (design_logic n config) (edt_logic n config ports) r.0 (places_in Edt n config) d y x its old h values r.1 (covers n config ports ready suits) capture over settled halves cell is (logic_rises n (config_ports n config) cell)
+    capture_law (design_logic n config) (edt_logic n config ports) r.0 (places_in Edt n config) d y x its old h values r.1 (covers n config ports ready suits) capture over settled halves cell is
+    (design_rises n config ready cell)

@@ -14,6 +14,8 @@ use Rattle.dft_netlist.specs.Netlist.{Netlist}
 use Rattle.dft_netlist.specs.Connections.{input_net}
 use Rattle.dft_netlist.specs.Drivers.{Source, pins_of}
 use Rattle.dft_netlist.specs.Traces.{Root, Port, Constant, Other, root_of}
+use Rattle.dft_netlist.specs.ClockRoots.{port_root}
+use Rattle.dft_netlist.proofs.ClockWalks.{traced_clock}
 use Rattle.dft_netlist.specs.Logic.{Force, pin_of, domain_at, force_of, forcing}
 use Rattle.dft_netlist.specs.Logic as logic
 use Rattle.dft_config.specs.Config.{Config}
@@ -78,9 +80,10 @@ clocked n config i domain e = clocked_pin n config i domain (pin_of role.Clock i
 pub clock_is : (n : Netlist) (config : Config) (i domain : ℕ) (c : IsClocked n config i domain) → (config_ports n config).is_clock c.net ≡ true
 clock_is n config i domain c = any_passes_from_place (λ name. is_net c.net (input_net n name)) config.domains domain c.name c.named c.is
 
-pub domain_is : (n : Netlist) (config : Config) (i domain : ℕ) (c : IsClocked n config i domain) → domain_at n (config_ports n config) (pin_of role.Clock i (pins_of n i)) ≡ Some c.net
+pub domain_is : (n : Netlist) (config : Config) (i domain : ℕ) (c : IsClocked n config i domain) → domain_at n (config_ports n config) (pin_of role.Clock i (pins_of n i)) ≡ Some (port_root c.net)
 domain_is n config i domain c =
-    ap (domain_at n (config_ports n config)) c.pin ∙ ap (logic.domain_of (config_ports n config)) c.root ∙ ap (λ b. if b then Some c.net else None) (clock_is n config i domain c)
+    ap (domain_at n (config_ports n config)) c.pin ∙ ap (logic.domain_of (config_ports n config)) (traced_clock n c.source c.net c.root)
+    ∙ ap (λ (b : Bool). if b then Some (port_root c.net) else None) (clock_is n config i domain c)
 
 pub net_is : (net : ℕ) (o : Option NetId) → is_net net o ≡ true → o ≡ Some (record { 0 = net })
 net_is net None e = absurd cc

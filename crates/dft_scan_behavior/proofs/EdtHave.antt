@@ -6,7 +6,6 @@ use Rattle.dft_netlist.specs.declared.ids.NetId.{NetId}
 use Rattle.dft_netlist.specs.declared.ids.InstanceId.{InstanceId}
 use Rattle.dft_netlist.specs.Netlist.{Netlist}
 use Rattle.dft_netlist.specs.Logic.{Logic, Input, logic_of}
-use Rattle.dft_netlist.proofs.StoredLemmas.{logic_rises}
 use Rattle.dft_config.specs.Config.{Config}
 use Rattle.dft_stitch.specs.Chains.{cells_of, plan_of}
 use Rattle.dft_stitch.specs.Plans.{cell_at}
@@ -29,7 +28,7 @@ use Rattle.dft_scan_behavior.proofs.ChainsHave.{into_is, chains_have}
 use Rattle.dft_scan_behavior.proofs.Outputs.{at_chain, IsShown, shown, means}
 use Rattle.dft_scan_behavior.proofs.PartsThere.{ring_has, compactor_has}
 use Rattle.dft_scan_behavior.proofs.PlainChains.{chain_less, last_place}
-use Rattle.dft_scan_behavior.proofs.Planned.{IsPlanned, planned}
+use Rattle.dft_scan_behavior.proofs.Planned.{IsPlanned, planned, cell_rises}
 use Rattle.dft_scan_behavior.proofs.PortsDriven.{edt_means, edt_clock_is}
 use Rattle.dft_scan_behavior.proofs.ScanInputs.{entry_joined}
 
@@ -131,7 +130,7 @@ edt_has n config ready = record {
     channels = channel n config ready;
     run = (ring n config ready).run;
     stages = (ring n config ready).stages;
-    heads = λ chain cell stands. logic_rises (scanned Edt n config) (ports_in Edt n config) cell.0;
+    heads = λ chain cell stands. cell_rises Edt n config cell.0 (planned Edt n config chain zero cell ready stands);
     phases = phase n config ready;
   };
   compactor = record {

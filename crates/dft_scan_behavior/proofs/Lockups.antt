@@ -18,7 +18,6 @@ use Rattle.dft_netlist.specs.Connections.{input_net}
 use Rattle.dft_netlist.specs.Drivers.{Net, driver}
 use Rattle.dft_netlist.specs.Logic.{Cell, Lockup, logic_of}
 use Rattle.dft_netlist.proofs.Walks.{port_found}
-use Rattle.dft_netlist.proofs.StoredLemmas.{logic_rises}
 use Rattle.dft_config.specs.Config.{Config}
 use Rattle.dft_rules.specs.declared.judged.Judged.{Judged}
 use Rattle.dft_rules.specs.declared.judged.Judged.TheVariants.{Scanned}
@@ -51,7 +50,7 @@ use Rattle.dft_scan_equivalence.proofs.Sparing.{spared}
 use Rattle.dft_scan_behavior.specs.Facts.{rows_in}
 use Rattle.dft_scan_behavior.proofs.Clocks.{IsClocked, net_is, same_clock, root_stays}
 use Rattle.dft_scan_behavior.proofs.Outputs.{IsShown, means}
-use Rattle.dft_scan_behavior.proofs.Planned.{IsPlanned, flop_is, clock_in}
+use Rattle.dft_scan_behavior.proofs.Planned.{IsPlanned, flop_is, cell_rises, clock_in}
 
 -- ---- lists
 
@@ -208,10 +207,10 @@ module _ (style : Style) (n : Netlist) (config : Config) (ready : IsReady n conf
   its_domain = ap (λ (c : Cell). c.domain) (flop_is style n config cell.0 s) ∙ s.on
 
   -- a lock-up behind the cell leads to the next
-  pub by_lockup : (number m : ℕ) (library : List library_cells.Cell) (l : LockupPlace) (net : NetId) → library ≡ (scanned style n config).library → slice_get (plan_of n config).lockups m ≡ Some l → l.chain ≡ chain → l.after ≡ place →
+  pub by_lockup : (t : IsPlanned style n config next) (number m : ℕ) (library : List library_cells.Cell) (l : LockupPlace) (net : NetId) → library ≡ (scanned style n config).library → slice_get (plan_of n config).lockups m ≡ Some l → l.chain ≡ chain → l.after ≡ place →
       LockupStands (scanned style n config) number library (record { 0 = pins.domain_in n (gap_in style n config) config l.domain }) (net_at (row_at (rows_in style n config).value chain) l.after) net →
       Leads (logic_of (scanned style n config) (ports_in style n config)) cell.0 next (Net net.0)
-  by_lockup number m library l net same planned chain_is after_is h =
+  by_lockup t number m library l net same planned chain_is after_is h =
       let own : slice_index_or (plan_of n config).chains chain [] ≡ out.cells = get_or_from_slice_get (plan_of n config).chains chain out.cells [] out.chained in
       let listed : chains.domain_at (judgements n config) out.cells place ≡ Some l.domain =
       sym (ap (λ (z : List InstanceId). chains.domain_at (judgements n config) z place) own)
@@ -226,7 +225,7 @@ module _ (style : Style) (n : Netlist) (config : Config) (ready : IsReady n conf
       (subst (IsClockNet (scanned style n config) (ports_in style n config)) (sym clock) (clock_net style n config cell.0 s.domain ready s.clock)) h
       ∙ ap (λ d. Lockup number d false (Net (net_at (row_at (rows_in style n config).value chain) l.after).0)) (clock ∙ sym its_domain)
       ∙ ap (λ k. Lockup number ((logic_of (scanned style n config) (ports_in style n config)).cell cell.0).domain false (Net k)) input)
-      (means style n config cell s ready out.net out.joined) (logic_rises (scanned style n config) (ports_in style n config) cell.0) (logic_rises (scanned style n config) (ports_in style n config) next)
+      (means style n config cell s ready out.net out.joined) (cell_rises style n config cell.0 s) (cell_rises style n config next t)
 
   -- its output leads to the next of the same domain
   pub directly : (t : IsPlanned style n config next) → s.domain ≡ t.domain → Leads (logic_of (scanned style n config) (ports_in style n config)) cell.0 next (Net (net_at (row_at (rows_in style n config).value chain) place).0)
@@ -234,4 +233,4 @@ module _ (style : Style) (n : Netlist) (config : Config) (ready : IsReady n conf
       let other : ((logic_of (scanned style n config) (ports_in style n config)).cell next).domain ≡ t.clock.net = ap (λ (c : Cell). c.domain) (flop_is style n config next t) ∙ t.on in
       subst (λ (k : NetId). Leads (logic_of (scanned style n config) (ports_in style n config)) cell.0 next (Net k.0)) (sym out_net)
       (Directly {net = out.net.0} (means style n config cell s ready out.net out.joined) (its_domain ∙ same_clock n config cell.0 next s.domain t.domain s.clock t.clock same ∙ sym other)
-      (logic_rises (scanned style n config) (ports_in style n config) cell.0 ∙ sym (logic_rises (scanned style n config) (ports_in style n config) next)))
+      (cell_rises style n config cell.0 s ∙ sym (cell_rises style n config next t)))

@@ -14,6 +14,7 @@ use Rattle.dft_netlist.specs.declared.instance.Signal.TheVariants as signal
 use Rattle.dft_netlist.specs.declared.instance.Instance.{Instance}
 use Rattle.dft_netlist.specs.Netlist.{Netlist}
 use Rattle.dft_netlist.specs.Drivers.{Source, Net, Shape, Flop, connections_from, inputs_of, driven_by, driver, kind_of, kind_at, pins_at, pins_of, shape_of}
+use Rattle.dft_netlist.specs.ClockRoots.{ClockRoot, port_root}
 use Rattle.dft_netlist.specs.Logic.{Ports, Force, Scan, Cell, pin_of, or_loose, forcing, scan_of, modelled, modelled_of, flip_flop, logic_of}
 use Rattle.dft_netlist.proofs.StoredLemmas.{flop_cell}
 use Rattle.dft_config.specs.Config.{Config}
@@ -74,6 +75,7 @@ pub record IsPlanned (style : Style) (n : Netlist) (config : Config) (i : ℕ) :
   pub is : flip_flop (scanned style n config) (ports_in style n config) i ≡ Some flop
   pub scan : flop.scan ≡ scan_of (pin_of ScanEnable i (pins_of (scanned style n config) i)) (pin_of ScanIn i (pins_of (scanned style n config) i))
   pub on : flop.domain ≡ clock.net
+  pub rises : flop.falling ≡ false
   pub acts : ActsByPort (ports_in style n config) flop.force
 
 -- ---- how it comes about
@@ -95,10 +97,10 @@ if_some : (b : Bool) (o : Option Cell) (c : Cell) → (if b then o else None) �
 if_some true o c e = e
 if_some false o c e = absurd (none-some c e)
 
-modelled_scan : (domain : Option ℕ) (force : Option (Option Force)) (input : Source) (scan : Option Scan) (c : Cell) → modelled domain force input scan ≡ Some c → c.scan ≡ scan
+modelled_scan : (domain : Option ClockRoot) (force : Option (Option Force)) (input : Source) (scan : Option Scan) (c : Cell) → modelled domain force input scan ≡ Some c → c.scan ≡ scan
 modelled_scan None force input scan c e = absurd (none-some c e)
 modelled_scan (Some d) None input scan c e = absurd (none-some c e)
-modelled_scan (Some d) (Some f) input scan c e = ap (λ (z : Cell). z.scan) (sym (same_Some (record { domain = d; falling = false; input = input; scan = scan; force = f }) c e))
+modelled_scan (Some d) (Some f) input scan c e = ap (λ (z : Cell). z.scan) (sym (same_Some (record { domain = d.port; falling = d.inverted; input = input; scan = scan; force = f }) c e))
 
 acts_alike : (p q : Ports) (force : Option Force) → q.is_reset ≡ p.is_reset → ActsByPort p force → ActsByPort q force
 acts_alike p q None e h = tt
@@ -129,6 +131,7 @@ record IsModelled (style : Style) (n : Netlist) (config : Config) (i : ℕ) (net
   pub is : flip_flop (scanned style n config) (ports_in style n config) i ≡ Some flop
   pub scan : flop.scan ≡ scan_of (pin_of ScanEnable i (pins_of (scanned style n config) i)) (pin_of ScanIn i (pins_of (scanned style n config) i))
   pub on : flop.domain ≡ net
+  pub rises : flop.falling ≡ false
   pub acts : ActsByPort (ports_in style n config) flop.force
 
 modelled_in : (style : Style) (n : Netlist) (config : Config) (i : ℕ) (x : Instance) (it : IsScannedFlop n config i) (clock : IsClocked n config i it.domain) → IsReady n config → slice_get n.instances i ≡ Some x → IsModelled style n config i clock.net
@@ -142,13 +145,14 @@ modelled_in style n config i x it clock ready at =
     let old : flip_flop n p i ≡ Some (record { domain = clock.net; falling = false; input = input; scan = scan; force = force.force }) =
     ap (λ b. if b then modelled_of n p i (pins_of n i) else None) (scannable_flop (kind_at n i) it.kind)
     ∙ ap (λ d. modelled d (forcing n p (pin_of Reset i (pins_of n i)) (pin_of Preset i (pins_of n i))) input scan) (domain_is n config i it.domain clock)
-    ∙ ap (λ f. modelled (Some clock.net) f input scan) force.is in
+    ∙ ap (λ f. modelled (Some (port_root clock.net)) f input scan) force.is in
     let new = matched_new (places_in style n config) (flip_flop n p i) (flip_flop w q i) (record { domain = clock.net; falling = false; input = input; scan = scan; force = force.force }) old (instance_matched style n config ready (spared style n config ready) i x at) in
     record {
       flop = new.0;
       is = new.1;
       scan = modelled_scan _ _ _ _ new.0 (if_some (is_flip_flop (kind_at w i)) (modelled_of w q i (pins_of w i)) new.0 new.1);
       on = new.2.domain ∙ root_stays style n config clock.source clock.net ready clock.root;
+      rises = new.2.falling;
       acts = acts_alike p q new.0.force (ports_alike style n config).resets (subst (ActsByPort p) (sym new.2.force) force.acts);
     }
 
@@ -187,6 +191,7 @@ planned style n config chain place cell ready stands =
       is = its.is;
       scan = its.scan;
       on = its.on;
+      rises = its.rises;
       acts = its.acts;
     }
 
@@ -211,6 +216,10 @@ enable_source style n config i s =
 
 pub flop_is : (style : Style) (n : Netlist) (config : Config) (i : ℕ) (s : IsPlanned style n config i) → (logic_of (scanned style n config) (ports_in style n config)).cell i ≡ s.flop
 flop_is style n config i s = flop_cell (scanned style n config) (ports_in style n config) i s.flop s.is
+
+-- it takes its bit at the rise of its clock
+pub cell_rises : (style : Style) (n : Netlist) (config : Config) (i : ℕ) (s : IsPlanned style n config i) → ((logic_of (scanned style n config) (ports_in style n config)).cell i).falling ≡ false
+cell_rises style n config i s = ap (λ (c : Cell). c.falling) (flop_is style n config i s) ∙ s.rises
 
 pub clock_in : (style : Style) (n : Netlist) (config : Config) (i domain : ℕ) → IsReady n config → (c : IsClocked n config i domain) → (ports_in style n config).is_clock c.net ≡ true
 clock_in style n config i domain ready c = (ports_alike style n config).clocks c.net (root_among n config c.source c.net ready c.root) ∙ clock_is n config i domain c

@@ -145,7 +145,7 @@ module _ (style : Style) (n : Netlist) (config : Config) (ready : IsReady n conf
 
   cross : AllCross n (scanned style n config) config (gap_in style n config) next.0 t.shape.input Leading (plan_of n config).lockups chain cells row
   cross m lockup there chain_is c is same number library net lib h =
-      by_lockup style n config ready chain place cell next.0 s out number m library lockup net lib there chain_is (let e = behind (lockup.after + 1) c is same in omega (arith, e)) h
+      by_lockup style n config ready chain place cell next.0 s out t number m library lockup net lib there chain_is (let e = behind (lockup.after + 1) c is same in omega (arith, e)) h
 
   step : s.domain ≡ t.domain → AllStep n (scanned style n config) config (gap_in style n config) next.0 t.shape.input Leading (plan_of n config).lockups chain cells row
   step equal k less c is same =

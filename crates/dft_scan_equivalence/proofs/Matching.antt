@@ -16,6 +16,7 @@ use Rattle.dft_netlist.specs.Sound.{bits_of}
 use Rattle.dft_netlist.specs.Drivers.{Source, Shape, Connection, connections_from, connections_of, shape_of, kind_of, pins_at}
 use Rattle.dft_netlist.specs.Logic.{Ports, same_role, pin_of, or_loose, scan_of, domain_of, domain_at, force_of, forcing, modelled, modelled_of, flip_flop}
 use Rattle.dft_netlist.specs.Traces.{Root, Port, Constant, Other, root_of}
+use Rattle.dft_netlist.specs.ClockRoots.{ClockRoot, clock_root_of}
 use Rattle.dft_netlist.proofs.RankLemmas.{order_ranks}
 use Rattle.dft_config.specs.Config.{Config}
 use Rattle.dft_rules.specs.Refusals.{is_scanned}
@@ -32,8 +33,9 @@ use Rattle.dft_scan_frame.specs.Pins.{number_of}
 use Rattle.dft_scan_frame.proofs.Contained.{RootsKept, SamePins, IsPinWithin, AreMatched, modelled_kept, pin_inside, pin_moved}
 use Rattle.dft_scan_frame.proofs.Containing.{no_pin, ref_no_role, flop_in, match_if, scan_kinds}
 use Rattle.dft_scan_frame.proofs.Fine.{instance_plain}
-use Rattle.dft_scan_frame.proofs.Kept.{reads_inside, root_among, design_ports_few}
+use Rattle.dft_scan_frame.proofs.Kept.{reads_inside, root_among, clock_among, design_ports_few}
 use Rattle.dft_scan_frame.proofs.Mergings.{moved_connection, moved_connections}
+use Rattle.dft_scan_frame.proofs.MovedClocks.{moved_clock, clock_moved}
 use Rattle.dft_scan_frame.proofs.MovedRoots.{moved_root, AreDriversKept, root_moved}
 use Rattle.dft_scan_frame.proofs.ScanPairs.{ScanPair}
 use Rattle.dft_scan_frame.proofs.Whole.{moved_front}
@@ -70,11 +72,19 @@ root_kept style n config source ready spared inside =
     let order = order_ranks n ready.order ready.netlist ready.ordered in
     root_moved n (scanned style n config) (moved (gap_in style n config)) (length n.nets) order.0 source (drivers_kept style n config ready spared) order.1 (longer style n config) inside
 
+clock_kept : (style : Style) (n : Netlist) (config : Config) (source : Source) → IsReady n config → AreSpared style n config → IsWithin (length n.nets) source →
+    clock_root_of (scanned style n config) (moved_source (moved (gap_in style n config)) source) ≡ option_map (moved_clock (moved (gap_in style n config))) (clock_root_of n source)
+clock_kept style n config source ready spared inside =
+    let order = order_ranks n ready.order ready.netlist ready.ordered in
+    clock_moved n (scanned style n config) (moved (gap_in style n config)) (length n.nets) order.0 source (drivers_kept style n config ready spared) order.1 (longer style n config) inside
+
 pub roots_kept : (style : Style) (n : Netlist) (config : Config) → IsReady n config → AreSpared style n config → RootsKept n (scanned style n config) (moved (gap_in style n config)) (length n.nets)
 roots_kept style n config ready spared = record {
   roots = λ source inside. root_kept style n config source ready spared inside;
   stays = λ source net is. moved_front (gap_in style n config) net (root_among n config source net ready is);
   inside = λ source net is. design_ports_few n config net ready (root_among n config source net ready is);
+  clocks = λ source inside. clock_kept style n config source ready spared inside;
+  clock_stays = λ source clock is. moved_front (gap_in style n config) clock.port (clock_among n config source clock ready is);
 }
 
 -- ---- clocks and resets
@@ -91,21 +101,20 @@ pub ports_alike : (style : Style) (n : Netlist) (config : Config) → AreAlike (
 ports_alike Plain n config = record { clocks = λ net less. refl; resets = refl }
 ports_alike Edt n config = record { clocks = λ net less. or_not ((config_ports n config).is_clock net) (net == edt_clock_net n config) (not_later (length (bits_of n.ports)) net less); resets = refl }
 
-root_alike : (f : ℕ → ℕ) (p q : Ports) (r : Root) → ((net : ℕ) → r ≡ Port net → q.is_clock (f net) ≡ p.is_clock (f net)) → domain_of q (moved_root f r) ≡ domain_of p (moved_root f r)
-root_alike f p q (Port net) h = ap (λ b. if b then Some (f net) else None) (h net refl)
-root_alike f p q (Constant bit) h = refl
-root_alike f p q Other h = refl
+clock_alike : (f : ℕ → ℕ) (p q : Ports) (o : Option ClockRoot) → ((clock : ClockRoot) → o ≡ Some clock → q.is_clock (f clock.port) ≡ p.is_clock (f clock.port)) → domain_of q (option_map (moved_clock f) o) ≡ domain_of p (option_map (moved_clock f) o)
+clock_alike f p q None h = refl
+clock_alike f p q (Some clock) h = ap (λ (b : Bool). if b then Some (moved_clock f clock) else None) (h clock refl)
 
--- roots of a design are among the first nets
+-- ports whose clocks a design's nets show are among the first nets
 abbrev pub AreFirst : Netlist → ℕ → Type 0
-AreFirst n count = (source : Source) (net : ℕ) → root_of n source ≡ Port net → net < count
+AreFirst n count = (source : Source) (clock : ClockRoot) → clock_root_of n source ≡ Some clock → clock.port < count
 
 domain_alike : (n w : Netlist) (f : ℕ → ℕ) (size : ℕ) (p q : Ports) (count : ℕ) (o : Option Source) → RootsKept n w f size → AreFirst n count → AreAlike p q count → IsPinWithin size o → domain_at w q (option_map (moved_source f) o) ≡ domain_at w p (option_map (moved_source f) o)
 domain_alike n w f size p q count None kept first alike inside = refl
 domain_alike n w f size p q count (Some source) kept first alike inside =
-    ap (domain_of q) (kept.roots source inside)
-    ∙ root_alike f p q (root_of n source) (λ net is. subst (λ k. q.is_clock k ≡ p.is_clock k) (sym (kept.stays source net is)) (alike.clocks net (first source net is)))
-    ∙ sym (ap (domain_of p) (kept.roots source inside))
+    ap (domain_of q) (kept.clocks source inside)
+    ∙ clock_alike f p q (clock_root_of n source) (λ clock is. subst (λ k. q.is_clock k ≡ p.is_clock k) (sym (kept.clock_stays source clock is)) (alike.clocks clock.port (first source clock is)))
+    ∙ sym (ap (domain_of p) (kept.clocks source inside))
 
 force_alike : (p q : Ports) (value : Bool) (r : Root) → q.is_reset ≡ p.is_reset → force_of q value r ≡ force_of p value r
 force_alike p q value (Port net) e = ap (λ (is_reset : ℕ → Bool). if is_reset net then Some (Some (record { port = net; value = value })) else None) e
@@ -156,7 +165,7 @@ module _ (style : Style) (n : Netlist) (config : Config) (ready : IsReady n conf
   kept = roots_kept style n config ready spared
 
   first : AreFirst n (length (bits_of n.ports))
-  first source net is = root_among n config source net ready is
+  first source clock is = clock_among n config source clock ready is
 
   same_library : w.library ≡ n.library
   same_library = (parts_grow (framed style n config) its).library

@@ -10,23 +10,24 @@ use Rattle.dft_netlist.specs.Netlist.{Netlist}
 use Rattle.dft_netlist.specs.Sound.{IsLive, AreLive}
 use Rattle.dft_netlist.specs.Drivers.{Source, Connection, connections_from, source_of}
 use Rattle.dft_netlist.specs.Traces.{Root, Port, Constant, Other, root_of}
+use Rattle.dft_netlist.specs.ClockRoots.{ClockRoot, clock_root_of}
 use Rattle.dft_netlist.specs.Logic.{Ports, Force, Scan, Cell, same_role, pin_of, or_loose, domain_of, domain_at, force_of, forcing, scan_of, modelled, modelled_of}
 use Rattle.dft_scan_frame.specs.Moves.{Gap, moved, moved_signal}
 use Rattle.dft_chains.specs.ScanOff.{moved_source, moved_force, IsWithin, IsForceWithin, IsEnabledBy, Places, KeepsFlop}
 use Rattle.dft_scan_frame.proofs.MovedRoots.{moved_root}
+use Rattle.dft_scan_frame.proofs.MovedClocks.{moved_clock}
 use Rattle.dft_scan_frame.proofs.Mergings as mergings
 
 -- ---- domains, resets and sets
 
-domain_choice : (f : ℕ → ℕ) (net : ℕ) (b : Bool) → (if b then Some (f net) else None) ≡ option_map f (if b then Some net else None)
-domain_choice f net true = refl
-domain_choice f net false = refl
+domain_choice : (f : ℕ → ℕ) (clock : ClockRoot) (b : Bool) → (if b then Some (moved_clock f clock) else None) ≡ option_map (moved_clock f) (if b then Some clock else None)
+domain_choice f clock true = refl
+domain_choice f clock false = refl
 
--- a root that stays has the same domain
-domain_moved : (f : ℕ → ℕ) (ports : Ports) (r : Root) → ((net : ℕ) → r ≡ Port net → f net ≡ net) → domain_of ports (moved_root f r) ≡ option_map f (domain_of ports r)
-domain_moved f ports (Port net) stays = ap (λ k. if ports.is_clock k then Some (f net) else None) (stays net refl) ∙ domain_choice f net (ports.is_clock net)
-domain_moved f ports (Constant bit) stays = refl
-domain_moved f ports Other stays = refl
+-- a clock whose port stays has the same domain
+domain_moved : (f : ℕ → ℕ) (ports : Ports) (o : Option ClockRoot) → ((clock : ClockRoot) → o ≡ Some clock → f clock.port ≡ clock.port) → domain_of ports (option_map (moved_clock f) o) ≡ option_map (moved_clock f) (domain_of ports o)
+domain_moved f ports None stays = refl
+domain_moved f ports (Some clock) stays = ap (λ k. if ports.is_clock k then Some (moved_clock f clock) else None) (stays clock refl) ∙ domain_choice f clock (ports.is_clock clock.port)
 
 force_choice : (f : ℕ → ℕ) (value : Bool) (net : ℕ) (b : Bool) → ◌≡◌ {A = Option (Option Force)} (if b then Some (Some (record { port = f net; value = value })) else None) (option_map (moved_force f) (if b then Some (Some (record { port = net; value = value })) else None))
 force_choice f value net true = refl
@@ -59,20 +60,22 @@ pub record SamePins (f : ℕ → ℕ) (i : ℕ) (old new : List Connection) : Ty
   pub reset : pin_of role.Reset i new ≡ option_map (moved_source f) (pin_of role.Reset i old)
   pub preset : pin_of role.Preset i new ≡ option_map (moved_source f) (pin_of role.Preset i old)
 
--- how sources trace in two netlists
+-- how sources trace in two netlists, and which clocks they show
 pub record RootsKept (n w : Netlist) (f : ℕ → ℕ) (size : ℕ) : Type 0 where
   pub roots : (source : Source) → IsWithin size source → root_of w (moved_source f source) ≡ moved_root f (root_of n source)
   pub stays : (source : Source) (net : ℕ) → root_of n source ≡ Port net → f net ≡ net
   pub inside : (source : Source) (net : ℕ) → root_of n source ≡ Port net → net < size
+  pub clocks : (source : Source) → IsWithin size source → clock_root_of w (moved_source f source) ≡ option_map (moved_clock f) (clock_root_of n source)
+  pub clock_stays : (source : Source) (clock : ClockRoot) → clock_root_of n source ≡ Some clock → f clock.port ≡ clock.port
 
 -- a pin's source, if it has one, is among the first nets
 abbrev pub IsPinWithin : (size : ℕ) → Option Source → Type 0
 IsPinWithin size None = Unit {0}
 IsPinWithin size (Some source) = IsWithin size source
 
-domain_kept : (n w : Netlist) (f : ℕ → ℕ) (size : ℕ) (ports : Ports) (o : Option Source) → RootsKept n w f size → IsPinWithin size o → domain_at w ports (option_map (moved_source f) o) ≡ option_map f (domain_at n ports o)
+domain_kept : (n w : Netlist) (f : ℕ → ℕ) (size : ℕ) (ports : Ports) (o : Option Source) → RootsKept n w f size → IsPinWithin size o → domain_at w ports (option_map (moved_source f) o) ≡ option_map (moved_clock f) (domain_at n ports o)
 domain_kept n w f size ports None kept inside = refl
-domain_kept n w f size ports (Some source) kept inside = ap (domain_of ports) (kept.roots source inside) ∙ domain_moved f ports (root_of n source) (λ net is. kept.stays source net is)
+domain_kept n w f size ports (Some source) kept inside = ap (domain_of ports) (kept.clocks source inside) ∙ domain_moved f ports (clock_root_of n source) (λ clock is. kept.clock_stays source clock is)
 
 force_kept : (n w : Netlist) (f : ℕ → ℕ) (size : ℕ) (ports : Ports) (value : Bool) (source : Source) → RootsKept n w f size → IsWithin size source → force_of ports value (root_of w (moved_source f source)) ≡ option_map (moved_force f) (force_of ports value (root_of n source))
 force_kept n w f size ports value source kept inside = ap (force_of ports value) (kept.roots source inside) ∙ force_moved f ports value (root_of n source) (λ net is. kept.stays source net is)
@@ -103,8 +106,8 @@ AreMatched p (Some old) (Some new) = KeepsFlop p old new
 AreMatched p None (Some new) = ⊥
 AreMatched p (Some old) None = ⊥
 
-match_by : (p : Places) (domain : Option ℕ) (force : Option (Option Force)) (input : Source) (old new : Option Scan) → old ≡ None → IsEnabledBy p.enable new → IsWithin p.size input → ((x : Option Force) → force ≡ Some x → IsForceWithin p.size x) →
-    AreMatched p (modelled domain force input old) (modelled (option_map p.moved domain) (option_map (moved_force p.moved) force) (moved_source p.moved input) new)
+match_by : (p : Places) (domain : Option ClockRoot) (force : Option (Option Force)) (input : Source) (old new : Option Scan) → old ≡ None → IsEnabledBy p.enable new → IsWithin p.size input → ((x : Option Force) → force ≡ Some x → IsForceWithin p.size x) →
+    AreMatched p (modelled domain force input old) (modelled (option_map (moved_clock p.moved) domain) (option_map (moved_force p.moved) force) (moved_source p.moved input) new)
 match_by p None force input old new plain enabled inside within = tt
 match_by p (Some d) None input old new plain enabled inside within = tt
 match_by p (Some d) (Some x) input old new plain enabled inside within = record {
@@ -118,7 +121,7 @@ match_by p (Some d) (Some x) input old new plain enabled inside within = record 
   scan = enabled;
 }
 
-same_modelled : (w : Netlist) (ports : Ports) (i : ℕ) (new : List Connection) (domain : Option ℕ) (force : Option (Option Force)) (input : Source) →
+same_modelled : (w : Netlist) (ports : Ports) (i : ℕ) (new : List Connection) (domain : Option ClockRoot) (force : Option (Option Force)) (input : Source) →
     domain_at w ports (pin_of role.Clock i new) ≡ domain → forcing w ports (pin_of role.Reset i new) (pin_of role.Preset i new) ≡ force → or_loose i (pin_of role.Din i new) ≡ input →
     modelled_of w ports i new ≡ modelled domain force input (scan_of (pin_of role.ScanEnable i new) (pin_of role.ScanIn i new))
 same_modelled w ports i new domain force input a b c = rw (a, b, c) refl
@@ -129,7 +132,7 @@ pub modelled_kept : (n w : Netlist) (ports : Ports) (p : Places) (i : ℕ) (old 
     pin_of role.ScanEnable i old ≡ None → IsEnabledBy p.enable (scan_of (pin_of role.ScanEnable i new) (pin_of role.ScanIn i new)) → AreMatched p (modelled_of n ports i old) (modelled_of w ports i new)
 modelled_kept n w ports p i old new kept same clock data_in reset preset no_scan enabled =
     subst (AreMatched p (modelled_of n ports i old))
-    (sym (same_modelled w ports i new (option_map p.moved (domain_at n ports (pin_of role.Clock i old))) (option_map (moved_force p.moved) (forcing n ports (pin_of role.Reset i old) (pin_of role.Preset i old))) (moved_source p.moved (or_loose i (pin_of role.Din i old)))
+    (sym (same_modelled w ports i new (option_map (moved_clock p.moved) (domain_at n ports (pin_of role.Clock i old))) (option_map (moved_force p.moved) (forcing n ports (pin_of role.Reset i old) (pin_of role.Preset i old))) (moved_source p.moved (or_loose i (pin_of role.Din i old)))
     (ap (domain_at w ports) same.clock ∙ domain_kept n w p.moved p.size ports (pin_of role.Clock i old) kept clock)
     (ap (λ o. forcing w ports o (pin_of role.Preset i new)) same.reset ∙ ap (forcing w ports (option_map (moved_source p.moved) (pin_of role.Reset i old))) same.preset
     ∙ forcing_kept n w p.moved p.size ports (pin_of role.Reset i old) (pin_of role.Preset i old) kept reset preset)

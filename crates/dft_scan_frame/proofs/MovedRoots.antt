@@ -122,7 +122,7 @@ walk_same n rank order (suc a) (suc b) (Net net) above below =
     driver_same n (root_within n b) (root_within n a) rank (rank net) net (driver n net) (order.after net)
     (λ source within. walk_same n rank order a b source (weaker rank (rank net) a source above.0 within) (weaker rank (rank net) b source below.0 within))
 
-stands_in : (n : Netlist) (rank : ℕ → ℕ) (steps : ℕ) (source : Source) → IsOrdered n rank → length n.nets < steps → StandsWithin rank steps source
+pub stands_in : (n : Netlist) (rank : ℕ → ℕ) (steps : ℕ) (source : Source) → IsOrdered n rank → length n.nets < steps → StandsWithin rank steps source
 stands_in n rank steps (Net net) order less = (let h = order.within net in omega arith, tt)
 stands_in n rank steps (Tied bit) order less = tt
 stands_in n rank steps (Loose i pin) order less = tt

@@ -8,6 +8,8 @@ mod cycles;
 #[cfg(test)]
 mod designs;
 #[cfg(test)]
+mod edges;
+#[cfg(test)]
 mod hardware;
 #[cfg(test)]
 mod large;
