@@ -194,20 +194,25 @@ played n c given compilation o within r holds none x =
     let held : Held = made_held netlist patterns in
     let stands : StandsFor standard_cells netlist w = subst (λ (cells : List Cell). StandsFor cells netlist w) within.library is.reads in
     let design : NetlistGives standard_cells (codes "netlist") held (Ok w) = (within.netlist_short, record { stands = stands; sound = r.sound; order = r.order; ordered = r.ordered }) in
-    let well = (holds.formed is.few).well in
-    (counts, (replayed.0, record {
-      order = r.order;
-      sound = r.sound;
-      ordered = r.ordered;
-      short = (late_short n c given u.placing list none).0;
-      stands = holds.reads is.few;
-      formed = record { distinct = well.distinct; few = well.few; fits = well.fits; steady = well.steady };
-      compared = all_compared c (plan_of n c) list;
-      fits = holds.passes.fits;
-      passes = holds.passes.verdict;
-      read = replay_read made_files held standard_cells w replayed.0 refl design replayed.1.0;
-      same = replayed.1.1;
-    }))
+    let well = (holds.formed is.few).well in (
+      counts,
+      (
+        replayed.0,
+        record {
+          order = r.order;
+          sound = r.sound;
+          ordered = r.ordered;
+          short = (late_short n c given u.placing list none).0;
+          stands = holds.reads is.few;
+          formed = record { distinct = well.distinct; few = well.few; fits = well.fits; steady = well.steady };
+          compared = all_compared c (plan_of n c) list;
+          fits = holds.passes.fits;
+          passes = holds.passes.verdict;
+          read = replay_read made_files held standard_cells w replayed.0 refl design replayed.1.0;
+          same = replayed.1.1;
+        },
+      ),
+    )
 
 -- why a job is refused, whose patterns have so many vectors and whose report has so many bytes: they are more than are read, or than it may have
 abbrev Why : (vectors bytes : ℕ) → Refusal → Type 0

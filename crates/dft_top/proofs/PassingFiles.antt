@@ -45,7 +45,7 @@ replay_read files held cells n o library netlist is =
     let over = given_next (LibraryGives files.library held) (ReplayOver files held) o cells (library_gives_one files.library held) library is in
     given_next (NetlistGives cells files.netlist held) (ReplayOn files held) o n (file_one MAX_NETLIST_BYTES (codes "netlist") (NetlistText cells) (netlist_text_one cells) (file_at files.netlist held)) netlist over
 
-replay_due : (files : ReplayFiles) (held : Held) (cells : List Cell) (n : Netlist) (p : Patterns) (o : Outcome) → LibraryGives files.library held (Ok cells) → NetlistGives cells files.netlist held (Ok n) →
+pub replay_due : (files : ReplayFiles) (held : Held) (cells : List Cell) (n : Netlist) (p : Patterns) (o : Outcome) → LibraryGives files.library held (Ok cells) → NetlistGives cells files.netlist held (Ok n) →
     PatternsGive files.patterns held (Ok p) → Reaches (course_of_replay files) held o → IsOutcomeOn n p (first_misfit n p.signals) o
 replay_due files held cells n p o library netlist patterns is =
     given_next (PatternsGive files.patterns held) (λ p. IsOutcomeOn n p (first_misfit n p.signals)) o p (file_one MAX_PATTERN_BYTES (codes "patterns") PatternText pattern_text_one (file_at files.patterns held)) patterns (replay_read files held cells n o library netlist is)
