@@ -1,11 +1,11 @@
 #!/usr/bin/env python3
-"""Makes a compiled job that moves at other edges, to time `dft replay` on: edges.py NETLIST PATTERNS KIND FOLDER
+"""Makes a compiled job that moves at other edges, to time `dft replay` on: turned.py NETLIST PATTERNS KIND FOLDER
 
 KIND says what becomes of the job, which `compile` wrote: `rising`, nothing; `falling`, every second clock pin of each clock
 is behind an inverter; `four`, the pins of the design's clocks are given to four clocks by turns, which pulse as theirs did
 in a load and by turns in captures; `lockups`, the first cell of a chain that reads another scan cell reads it through a
 lock-up, the next one through a lock-up whose clock is inverted. The patterns compare nothing, so that all vectors are
-replayed. The files are FOLDER/edges.v and FOLDER/edges.stil.
+replayed. The files are FOLDER/turned.v and FOLDER/turned.stil.
 """
 import itertools
 import re
@@ -99,9 +99,9 @@ def main():
         netlist, patterns = four(netlist, copies), pulses(patterns, clocks, copies)
     elif kind != "rising":
         sys.exit(__doc__)
-    with open(f"{folder}/edges.v", "w") as out:
+    with open(f"{folder}/turned.v", "w") as out:
         out.write(netlist)
-    with open(f"{folder}/edges.stil", "w") as out:
+    with open(f"{folder}/turned.stil", "w") as out:
         out.write(patterns)
 
 
