@@ -187,19 +187,23 @@ fn flip_flop(
     }
 }
 
-// The lock-up with these pins as what stores a bit, if its clock shows a clock port: a high one where it is inverted.
+// The lock-up with these pins as what stores a bit, if its clock shows a clock port. A high one takes its bit at the
+// fall of that clock.
 fn locked(design: &Design, flags: &[bool], number: InstanceId, wires: &[Wire]) -> Option<FlipFlop>
     requires { AreLiveWires (length design.now.nets) wires.now }
     ensures { option_map cell_of result ≡ lockup_in design.now (ports_by flags.now) number.0 (map wired_at wires.now) }
 {
     match domain_of(design, flags, wires) {
-        Some(clock) => Some(FlipFlop {
-            domain: clock.port,
-            falling: clock.inverted,
-            input: data_in(number, wires),
-            scan: None,
-            force: None,
-        }),
+        Some(clock) => {
+            let high = clock.inverted;
+            Some(FlipFlop {
+                domain: clock.port,
+                falling: high,
+                input: data_in(number, wires),
+                scan: None,
+                force: None,
+            })
+        }
         None => None,
     }
 }
