@@ -186,18 +186,13 @@ fn behind(alloc: Global, inverters: u32) -> Result<String, AllocError> {
         let next = inverter + 1;
         text.push_str(&format!(in alloc; "not (k{next}, k{inverter});\n")?)?;
     }
-    text.push_str(
-        &format!(in alloc; "DFF f (.CK(k{inverters}), .D(d), .Q(q));\nnot (k, c);\nDFF g (.CK(k), .D(q), .Q(p));\nendmodule\n")?,
-    )?;
+    text.push_str(&format!(in alloc;
+        "DFF f (.CK(k{inverters}), .D(d), .Q(q));\nnot (k, c);\nDFF g (.CK(k), .D(q), .Q(p));\nendmodule\n"
+    )?)?;
     Ok(text)
 }
 
-fn chain_is_judged(
-    alloc: Global,
-    inverters: u32,
-    vectors: &str,
-    line: &str,
-) -> Result<(), Unlike> {
+fn chain_is_judged(alloc: Global, inverters: u32, vectors: &str, line: &str) -> Result<(), Unlike> {
     let netlist = behind(alloc, inverters)?;
     is_judged(alloc, netlist.as_str(), ("c d", "q p", vectors), line)
 }
