@@ -1,7 +1,7 @@
 //! The cubes of a report, one by one.
 
 ghost use Rattle.std.specs.Prelude.{◌≡◌, None, IfErr, IfOk, OnOk, option_copied};
-ghost use Rattle.dft_cube_reports.specs.Sums.{columns_in, rows_in, IsSums};
+ghost use Rattle.dft_merge.specs.LoadPlan.{columns_by, rows_by};
 ghost use Rattle.dft_report.specs.declared.report.CubeLine.TheVariants.{Unsolvable};
 ghost use Rattle.dft_certify.specs.Certifying as spec;
 ghost use Rattle.dft_certify.specs.Certifying.{IsFault};
@@ -12,8 +12,8 @@ use crate::error::CertifyError;
 use crate::parity::is_certificate;
 use crate::sums::take_sums;
 use dft_base::Name;
-use dft_cube_reports::CellSums;
 use dft_cubes::Cube;
+use dft_merge::Loads;
 use dft_report::{CubeLine, CubeReport, Report, SumLine};
 use std::alloc::{AllocError, Global};
 
@@ -28,25 +28,24 @@ fn cube_named<'a>(cubes: &'a [Cube], names: &CubeNames, name: &[u8]) -> Option<&
 // Tests the lines of an unsolvable cube, behind the one with this number.
 fn certify_lines(
     alloc: Global,
-    sums: &CellSums<'_>,
+    loads: &Loads<'_>,
     cubes: &[Cube],
     names: &CubeNames,
     number: u64,
     name: &Name,
     lines: &[SumLine],
 ) -> Result<(), CertifyError>
-    requires sums { IsSums sums.now }
     requires names { Finds names.now cubes.now }
-    ensures passed { OnOk result (spec.outcome_refusal sums.now.design.now sums.now.ring.now (rows_in sums.now) (columns_in sums.now) cubes.now number name.now (Unsolvable lines.now) ≡ None) }
-    ensures refused { IfErr result (IsFault (spec.outcome_refusal sums.now.design.now sums.now.ring.now (rows_in sums.now) (columns_in sums.now) cubes.now number name.now (Unsolvable lines.now))) }
+    ensures passed { OnOk result (spec.outcome_refusal loads.now.design loads.now.config.ring (rows_by loads.now) (columns_by loads.now) cubes.now number name.now (Unsolvable lines.now) ≡ None) }
+    ensures refused { IfErr result (IsFault (spec.outcome_refusal loads.now.design loads.now.config.ring (rows_by loads.now) (columns_by loads.now) cubes.now number name.now (Unsolvable lines.now))) }
 {
     let Some(cube) = cube_named(cubes, names, name.as_slice()) else {
         let name = name.copy(alloc)?;
         return Err(CertifyError::K5 { name });
     };
     let first = number.checked_add(1).ok_or(AllocError)?;
-    take_sums(alloc, sums, cube.cells.as_slice(), first, lines)?;
-    if !is_certificate(alloc, sums, lines)? {
+    take_sums(alloc, loads, cube.cells.as_slice(), first, lines)?;
+    if !is_certificate(alloc, loads, lines)? {
         let name = name.copy(alloc)?;
         return Err(CertifyError::K3 { name });
     }
@@ -56,21 +55,20 @@ fn certify_lines(
 // Tests an entry, whose line has this number.
 fn certify_entry(
     alloc: Global,
-    sums: &CellSums<'_>,
+    loads: &Loads<'_>,
     cubes: &[Cube],
     names: &CubeNames,
     number: u64,
     entry: &CubeReport,
 ) -> Result<(), CertifyError>
-    requires sums { IsSums sums.now }
     requires names { Finds names.now cubes.now }
-    ensures passed { OnOk result (spec.outcome_refusal sums.now.design.now sums.now.ring.now (rows_in sums.now) (columns_in sums.now) cubes.now number entry.now.name entry.now.outcome ≡ None) }
-    ensures refused { IfErr result (IsFault (spec.outcome_refusal sums.now.design.now sums.now.ring.now (rows_in sums.now) (columns_in sums.now) cubes.now number entry.now.name entry.now.outcome)) }
+    ensures passed { OnOk result (spec.outcome_refusal loads.now.design loads.now.config.ring (rows_by loads.now) (columns_by loads.now) cubes.now number entry.now.name entry.now.outcome ≡ None) }
+    ensures refused { IfErr result (IsFault (spec.outcome_refusal loads.now.design loads.now.config.ring (rows_by loads.now) (columns_by loads.now) cubes.now number entry.now.name entry.now.outcome)) }
 {
     match &entry.outcome {
         CubeLine::Unsolvable(lines) => certify_lines(
             alloc,
-            sums,
+            loads,
             cubes,
             names,
             number,
@@ -99,20 +97,19 @@ fn lines_of(outcome: &CubeLine) -> Result<u64, AllocError>
 // Tests entries, of which the first has its line at this number.
 fn certify_entries(
     alloc: Global,
-    sums: &CellSums<'_>,
+    loads: &Loads<'_>,
     cubes: &[Cube],
     names: &CubeNames,
     first: u64,
     entries: &[CubeReport],
 ) -> Result<(), CertifyError>
-    requires sums { IsSums sums.now }
     requires names { Finds names.now cubes.now }
-    ensures passed { OnOk result (spec.entries_refusal sums.now.design.now sums.now.ring.now (rows_in sums.now) (columns_in sums.now) cubes.now first entries.now ≡ None) }
-    ensures refused { IfErr result (IsFault (spec.entries_refusal sums.now.design.now sums.now.ring.now (rows_in sums.now) (columns_in sums.now) cubes.now first entries.now)) }
+    ensures passed { OnOk result (spec.entries_refusal loads.now.design loads.now.config.ring (rows_by loads.now) (columns_by loads.now) cubes.now first entries.now ≡ None) }
+    ensures refused { IfErr result (IsFault (spec.entries_refusal loads.now.design loads.now.config.ring (rows_by loads.now) (columns_by loads.now) cubes.now first entries.now)) }
 {
     let mut number = first;
     for entry in entries {
-        certify_entry(alloc, sums, cubes, names, number, entry)?;
+        certify_entry(alloc, loads, cubes, names, number, entry)?;
         let lines = lines_of(&entry.outcome)?;
         number = number.checked_add(lines).ok_or(AllocError)?;
     }
@@ -161,17 +158,16 @@ fn unsolvable_in(entries: &[CubeReport]) -> Result<u32, AllocError>
 /// told, by cube in the report's order; else how many cubes are unsolvable. Past 2^32 lines it is as where memory runs out.
 pub fn certify(
     alloc: Global,
-    sums: &CellSums<'_>,
+    loads: &Loads<'_>,
     cubes: &[Cube],
     report: &Report,
 ) -> Result<u32, CertifyError>
-    requires { IsSums sums.now }
-    ensures certified { OnOk result (spec.certify_refusal sums.now.design.now sums.now.ring.now (rows_in sums.now) (columns_in sums.now) cubes.now report.now ≡ None) }
+    ensures certified { OnOk result (spec.certify_refusal loads.now.design loads.now.config.ring (rows_by loads.now) (columns_by loads.now) cubes.now report.now ≡ None) }
     ensures count { IfOk result (λ count. count ≡ spec.unsolvable_in report.now.cubes) }
-    ensures refused { IfErr result (IsFault (spec.certify_refusal sums.now.design.now sums.now.ring.now (rows_in sums.now) (columns_in sums.now) cubes.now report.now)) }
+    ensures refused { IfErr result (IsFault (spec.certify_refusal loads.now.design loads.now.config.ring (rows_by loads.now) (columns_by loads.now) cubes.now report.now)) }
 {
     let first = first_line(report)?;
     let names = CubeNames::of(alloc, cubes)?;
-    certify_entries(alloc, sums, cubes, &names, first, report.cubes.as_slice())?;
+    certify_entries(alloc, loads, cubes, &names, first, report.cubes.as_slice())?;
     Ok(unsolvable_in(report.cubes.as_slice())?)
 }

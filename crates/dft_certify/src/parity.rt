@@ -4,12 +4,12 @@ ghost use Rattle.std.specs.Prelude.{◌≡◌, ℕ, IfOk, length, replicate};
 ghost use Rattle.dft_base.specs.Packed.{packed_bit};
 ghost use Rattle.dft_base.specs.Solutions.{xor};
 ghost use Rattle.dft_lanes.specs.Rows.{IsPacked};
-ghost use Rattle.dft_cube_reports.specs.Sums.{columns_in, rows_in, IsSums};
+ghost use Rattle.dft_merge.specs.LoadPlan.{columns_by, rows_by};
 ghost use Rattle.dft_certify.specs.Certifying as spec;
 
 use crate::rows::row_named;
-use dft_cube_reports::CellSums;
 use dft_lanes::{highest, xor_into};
+use dft_merge::Loads;
 use dft_report::SumLine;
 use std::alloc::{AllocError, Global};
 
@@ -21,14 +21,13 @@ fn zeros(alloc: Global, count: usize) -> Result<Vec<u64>, AllocError>
 }
 
 // Adds the load equation of the cell that a line names.
-fn add_line(sums: &CellSums<'_>, parity: &mut [u64], line: &SumLine)
-    requires sums { IsSums sums.now }
-    requires packed { IsPacked (columns_in sums.now) parity.old }
-    ensures bits { (column : ℕ) → packed_bit parity.new column ≡ xor (packed_bit parity.old column) (spec.has_column sums.now.design.now (rows_in sums.now) column line.now) }
-    ensures packed { IsPacked (columns_in sums.now) parity.new }
+fn add_line(loads: &Loads<'_>, parity: &mut [u64], line: &SumLine)
+    requires packed { IsPacked (columns_by loads.now) parity.old }
+    ensures bits { (column : ℕ) → packed_bit parity.new column ≡ xor (packed_bit parity.old column) (spec.has_column loads.now.design (rows_by loads.now) column line.now) }
+    ensures packed { IsPacked (columns_by loads.now) parity.new }
     ensures size { length parity.new ≡ length parity.old }
 {
-    if let Some(words) = row_named(sums, line.name.as_slice()) {
+    if let Some(words) = row_named(loads, line.name.as_slice()) {
         xor_into(parity, words);
     }
 }
@@ -36,16 +35,15 @@ fn add_line(sums: &CellSums<'_>, parity: &mut [u64], line: &SumLine)
 // Whether no column is in an odd number of the lines, and their bits sum to 1.
 pub(crate) fn is_certificate(
     alloc: Global,
-    sums: &CellSums<'_>,
+    loads: &Loads<'_>,
     lines: &[SumLine],
 ) -> Result<bool, AllocError>
-    requires { IsSums sums.now }
-    ensures { IfOk result (λ is. is ≡ spec.is_certificate sums.now.design.now (rows_in sums.now) (columns_in sums.now) lines.now) }
+    ensures { IfOk result (λ is. is ≡ spec.is_certificate loads.now.design (rows_by loads.now) (columns_by loads.now) lines.now) }
 {
-    let mut parity = zeros(alloc, (sums.equations.columns() as usize + 63) / 64)?;
+    let mut parity = zeros(alloc, (loads.equations().columns() as usize + 63) / 64)?;
     let mut odd = false;
     for line in lines {
-        add_line(sums, &mut parity, line);
+        add_line(loads, &mut parity, line);
         odd = odd != line.bit;
     }
     Ok(odd && highest(&parity).is_none())

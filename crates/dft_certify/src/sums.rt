@@ -1,7 +1,7 @@
 //! The lines of an unsolvable cube, one by one.
 
 ghost use Rattle.std.specs.Prelude.{◌≡◌, ◌<◌, true, false, [], None, length, drop, is_some, IfErr, IfOk, IfSome, MatchOption, OnOk};
-ghost use Rattle.dft_cube_reports.specs.Sums.{rows_in, IsSums};
+ghost use Rattle.dft_merge.specs.LoadPlan.{rows_by};
 ghost use Rattle.dft_certify.specs.Certifying as spec;
 ghost use Rattle.dft_certify.specs.Certifying.{IsFault};
 
@@ -9,7 +9,8 @@ use crate::cell_set::CellSet;
 use crate::error::CertifyError;
 use crate::rows::{same_variables, scanned_named};
 use dft_base::{Name, Place};
-use dft_cube_reports::CellSums;
+use dft_cube_reports::variables_of;
+use dft_merge::Loads;
 use dft_netlist::InstanceId;
 use dft_report::SumLine;
 use std::alloc::{AllocError, Global};
@@ -52,33 +53,31 @@ fn care_place(
 // Whether a line has the variables that this cell sums.
 fn has_variables(
     alloc: Global,
-    sums: &CellSums<'_>,
+    loads: &Loads<'_>,
     cell: InstanceId,
     line: &SumLine,
 ) -> Result<bool, AllocError>
-    requires { IsSums sums.now }
-    ensures { IfOk result (λ same. same ≡ spec.has_variables sums.now.ring.now (rows_in sums.now) cell line.now) }
+    ensures { IfOk result (λ same. same ≡ spec.has_variables loads.now.config.ring (rows_by loads.now) cell line.now) }
 {
-    let own = sums.variables(alloc, cell)?;
+    let own = variables_of(alloc, loads, cell)?;
     Ok(same_variables(line.variables.as_slice(), &own))
 }
 
 // Where a cube gives a cell the bit of a line, if the line is the sum that the cell takes, and the first of the cell.
 fn sum_place(
     alloc: Global,
-    sums: &CellSums<'_>,
+    loads: &Loads<'_>,
     cells: &[(InstanceId, bool)],
     before: &CellSet,
     next: usize,
     cell: InstanceId,
     line: &SumLine,
 ) -> Result<Option<usize>, AllocError>
-    requires { IsSums sums.now }
-    ensures sum { IfOk result (λ place. is_some place ≡ spec.is_sum sums.now.ring.now (rows_in sums.now) cells.now before.now cell line.now) }
+    ensures sum { IfOk result (λ place. is_some place ≡ spec.is_sum loads.now.config.ring (rows_by loads.now) cells.now before.now cell line.now) }
     ensures first { IfOk result (λ place. IfSome place (λ k. (k < length cells.now) × (spec.has_cell before.now cell ≡ false))) }
 {
     let place = care_place(cells, next, cell, line.bit);
-    if place.is_none() || before.has(cell) || !has_variables(alloc, sums, cell, line)? {
+    if place.is_none() || before.has(cell) || !has_variables(alloc, loads, cell, line)? {
         return Ok(None);
     }
     Ok(place)
@@ -106,23 +105,22 @@ fn told(alloc: Global, number: u64, line: &SumLine) -> Result<(Place, Name), All
 // Tests a line, and notes its cell. The answer is the place in the cube from which the next is looked for.
 fn take_sum(
     alloc: Global,
-    sums: &CellSums<'_>,
+    loads: &Loads<'_>,
     cells: &[(InstanceId, bool)],
     before: &mut CellSet,
     next: usize,
     number: u64,
     line: &SumLine,
 ) -> Result<usize, CertifyError>
-    requires { IsSums sums.now }
-    ensures passed { OnOk result (spec.sum_refusal sums.now.design.now sums.now.ring.now (rows_in sums.now) cells.now before.old number line.now ≡ None) }
-    ensures noted { OnOk result (before.new ≡ spec.and_cell before.old (spec.scanned_named sums.now.design.now (rows_in sums.now) line.now.name)) }
-    ensures refused { IfErr result (IsFault (spec.sum_refusal sums.now.design.now sums.now.ring.now (rows_in sums.now) cells.now before.old number line.now)) }
+    ensures passed { OnOk result (spec.sum_refusal loads.now.design loads.now.config.ring (rows_by loads.now) cells.now before.old number line.now ≡ None) }
+    ensures noted { OnOk result (before.new ≡ spec.and_cell before.old (spec.scanned_named loads.now.design (rows_by loads.now) line.now.name)) }
+    ensures refused { IfErr result (IsFault (spec.sum_refusal loads.now.design loads.now.config.ring (rows_by loads.now) cells.now before.old number line.now)) }
 {
-    let Some(cell) = scanned_named(sums, line.name.as_slice()) else {
+    let Some(cell) = scanned_named(loads, line.name.as_slice()) else {
         let (place, name) = told(alloc, number, line)?;
         return Err(CertifyError::K4 { place, name });
     };
-    let Some(place) = sum_place(alloc, sums, cells, before, next, cell, line)? else {
+    let Some(place) = sum_place(alloc, loads, cells, before, next, cell, line)? else {
         let (place, name) = told(alloc, number, line)?;
         return Err(CertifyError::K2 { place, name });
     };
@@ -133,20 +131,19 @@ fn take_sum(
 // Tests the lines of a cube, of which the first has this number.
 pub(crate) fn take_sums(
     alloc: Global,
-    sums: &CellSums<'_>,
+    loads: &Loads<'_>,
     cells: &[(InstanceId, bool)],
     first: u64,
     lines: &[SumLine],
 ) -> Result<(), CertifyError>
-    requires { IsSums sums.now }
-    ensures passed { OnOk result (spec.sums_refusal sums.now.design.now sums.now.ring.now (rows_in sums.now) cells.now [] first lines.now ≡ None) }
-    ensures refused { IfErr result (IsFault (spec.sums_refusal sums.now.design.now sums.now.ring.now (rows_in sums.now) cells.now [] first lines.now)) }
+    ensures passed { OnOk result (spec.sums_refusal loads.now.design loads.now.config.ring (rows_by loads.now) cells.now [] first lines.now ≡ None) }
+    ensures refused { IfErr result (IsFault (spec.sums_refusal loads.now.design loads.now.config.ring (rows_by loads.now) cells.now [] first lines.now)) }
 {
     let mut before = CellSet::new(alloc);
     let mut next = 0;
     let mut number = first;
     for line in lines {
-        next = take_sum(alloc, sums, cells, &mut before, next, number, line)?;
+        next = take_sum(alloc, loads, cells, &mut before, next, number, line)?;
         number = number.checked_add(1).ok_or(AllocError)?;
     }
     Ok(())

@@ -10,6 +10,7 @@ use Rattle.dft_stitch.specs.Plans.{Plan}
 use Rattle.dft_cubes.specs.declared.cube.Cube.{Cube}
 use Rattle.dft_cubes.specs.declared.cube.Merged.{Merged}
 use Rattle.dft_merge.specs.declared.placed.Placed.{Placed}
+use Rattle.dft_merge.specs.LoadPlan.{LoadPlan}
 use Rattle.dft_merge.specs.Merging.{Merging, columns_in, rows_in}
 use Rattle.dft_merge.specs.Placement.{PlacesAll}
 use Rattle.dft_merge.specs.Rows.{CellRows, cell_row}
@@ -46,11 +47,10 @@ placed_count n row window old new (cube ∷ cubes) [] places = absurd places
 placed_count n row window old new (cube ∷ cubes) (place ∷ placed) places = ap suc (placed_count n row window places.0 new cubes placed places.1.1)
 
 -- what a new merger places is placed over the planned chains
-pub places_of : (n : Netlist) (config : Config) (plan : Plan) (rows : LoadRows) (m : Merging) (cubes : List Cube) (placed : List Placed) (new : List Merged) → plan ≡ plan_of n config →
-    m ≡ record { chains = plan.chains; rows = rows; window = config.window; patterns = [] } → PlacesAll (columns_in m) (rows_in m) m.window m.patterns cubes placed new →
-    PlacesAll rows.columns (cell_row (plan_of n config).chains rows) config.window [] cubes placed new
-places_of n config plan rows m cubes placed new planned is places =
-    subst (λ (p : Plan). PlacesAll rows.columns (cell_row p.chains rows) config.window [] cubes placed new) planned
+pub places_of : (l : LoadPlan) (m : Merging) (cubes : List Cube) (placed : List Placed) (new : List Merged) → l.plan ≡ plan_of l.design l.config → m ≡ record { loads = l; window = l.config.window; patterns = [] } →
+    PlacesAll (columns_in m) (rows_in m) m.window m.patterns cubes placed new → PlacesAll l.rows.columns (cell_row (plan_of l.design l.config).chains l.rows) l.config.window [] cubes placed new
+places_of l m cubes placed new planned is places =
+    subst (λ (p : Plan). PlacesAll l.rows.columns (cell_row p.chains l.rows) l.config.window [] cubes placed new) planned
     (subst (λ (k : Merging). PlacesAll (columns_in k) (rows_in k) k.window k.patterns cubes placed new) is places)
 
 -- ---- texts
@@ -96,16 +96,16 @@ pub record IsPlaced (n : Netlist) (config : Config) (cubes : List Cube) (rows : 
   pub merged_are : placing.merged ≡ merged
 
 -- what a new merger placed is one
-pub placed_by : (n : Netlist) (config : Config) (cubes : List Cube) (plan : Plan) (rows : LoadRows) (m : Merging) (items placed : List Placed) (new : List Merged) → plan ≡ plan_of n config →
-    AreLoadEquations config.ring (map (λ cells. length cells) plan.chains) plan.cycles rows → m ≡ record { chains = plan.chains; rows = rows; window = config.window; patterns = [] } → placed ≡ items →
-    PlacesAll (columns_in m) (rows_in m) m.window m.patterns cubes items new → IsPlaced n config cubes rows placed new
-placed_by n config cubes plan rows m items placed new planned equations is same places = record {
+pub placed_by : (l : LoadPlan) (cubes : List Cube) (m : Merging) (items placed : List Placed) (new : List Merged) → l.plan ≡ plan_of l.design l.config →
+    AreLoadEquations l.config.ring (map (λ cells. length cells) l.plan.chains) l.plan.cycles l.rows → m ≡ record { loads = l; window = l.config.window; patterns = [] } → placed ≡ items →
+    PlacesAll (columns_in m) (rows_in m) m.window m.patterns cubes items new → IsPlaced l.design l.config cubes l.rows placed new
+placed_by l cubes m items placed new planned equations is same places = record {
   placing = record {
-    rows = rows;
-    equations = subst (λ (p : Plan). AreLoadEquations config.ring (map (λ (cells : List InstanceId). length cells) p.chains) p.cycles rows) planned equations;
+    rows = l.rows;
+    equations = subst (λ (p : Plan). AreLoadEquations l.config.ring (map (λ (cells : List InstanceId). length cells) p.chains) p.cycles l.rows) planned equations;
     placed = items;
     merged = new;
-    is = places_of n config plan rows m cubes items new planned is places;
+    is = places_of l m cubes items new planned is places;
   };
   rows_are = refl;
   placed_are = sym same;

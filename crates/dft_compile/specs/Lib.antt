@@ -4,6 +4,7 @@ pub mod Texts
 pub mod Refusals
 pub mod Compilation
 pub mod Prepared
+pub mod PreparedShown
 pub mod Named
 pub mod Working
 pub mod Laws

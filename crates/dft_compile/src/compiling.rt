@@ -7,19 +7,16 @@ ghost use Rattle.dft_scan_hardware.specs.Statements.{scanned};
 ghost use Rattle.dft_scan_hardware.specs.declared.style.Style.TheVariants.{Edt};
 ghost use Rattle.dft_verilog_out.specs.Named.{GatesAreJoined};
 ghost use Rattle.dft_compile.specs.Compilation.{IsCompileOf};
-ghost use Rattle.dft_compile.specs.Prepared.{IsPrepared};
 ghost use Rattle.dft_compile.specs.Refusals.{IsLate};
 
 use crate::error::CompileError;
 use crate::names::cubes_are_named;
 use crate::prepared::Prepared;
 use crate::texts::CompileTexts;
-use crate::work::{Work, load_equations};
-use dft_config::Config;
+use crate::work::Work;
 use dft_cubes::Cube;
 use dft_encode::place_all;
-use dft_merge::{Merger, plans_stand_apart};
-use dft_netlist::Design;
+use dft_merge::Merger;
 use std::alloc::Global;
 
 /// Compiles the cubes of a design that is prepared: they are placed into patterns, and the scanned netlist, the patterns and the
@@ -27,33 +24,26 @@ use std::alloc::Global;
 /// before any pattern is made. Every pin of a gate must be joined, as in a design that was read.
 pub fn compile(
     alloc: Global,
-    design: &Design,
-    config: &Config,
-    prepared: &Prepared,
+    prepared: &Prepared<'_>,
     cubes: &[Cube],
 ) -> Result<CompileTexts, CompileError>
-    requires joined { GatesAreJoined design.now }
-    requires prepared { IsPrepared design.now config.now prepared.now }
+    requires joined { GatesAreJoined prepared.now.design }
     requires cubes { length cubes.now ≤ 65536 }
     requires cells { All (λ cube. length cube.cells < 2 ^ 32) cubes.now }
-    ensures compile { IfOk result (IsCompileOf design.now config.now cubes.now) }
-    ensures reads { IfOk result (λ t. StandsFor design.now.library t.netlist.items (scanned Edt design.now config.now)) }
-    ensures refused { IfErr result (IsLate design.now config.now cubes.now) }
+    ensures compile { IfOk result (IsCompileOf prepared.now.design prepared.now.config cubes.now) }
+    ensures reads { IfOk result (λ t. StandsFor prepared.now.design.library t.netlist.items (scanned Edt prepared.now.design prepared.now.config)) }
+    ensures refused { IfErr result (IsLate prepared.now.design prepared.now.config cubes.now) }
 {
-    design.soundness();
-    config.soundness();
+    let loads = prepared.loads();
+    loads.design().soundness();
+    loads.soundness();
     cubes_are_named(cubes);
-    let chains = &prepared.chains;
-    let equations = load_equations(alloc, design, config, chains)?;
-    plans_stand_apart();
-    let mut merger = Merger::new(alloc, config, chains, &equations)?;
+    let mut merger = Merger::new(alloc, loads)?;
     let placed = place_all(alloc, &mut merger, cubes)?;
     let work = Work {
         alloc,
-        design,
-        config,
-        prepared,
-        equations: &equations,
+        loads,
+        scanned: prepared.scanned(),
         merger: &merger,
         cubes,
         placed: &placed,

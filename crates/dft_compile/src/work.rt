@@ -1,12 +1,9 @@
 //! A compilation whose cubes are placed.
 
-ghost use Rattle.std.specs.Prelude.{◌≡◌, ◌≤◌, length, map, option_map, IfErr, IfOk, OnOk};
-ghost use Rattle.dft_equations.specs.LoadRows.{AreLoadEquations};
+ghost use Rattle.std.specs.Prelude.{◌≡◌, ◌≤◌, length, option_map, IfErr, IfOk, OnOk};
 ghost use Rattle.dft_netlist_text.specs.NetlistText.{StandsFor};
 ghost use Rattle.dft_scan_hardware.specs.Statements.{scanned};
 ghost use Rattle.dft_scan_hardware.specs.declared.style.Style.TheVariants.{Edt};
-ghost use Rattle.dft_stitch.specs.Chains.{plan_of};
-ghost use Rattle.dft_stitch.specs.Limits.{refusal};
 ghost use Rattle.dft_stil_tokens.specs.declared.blanks.TheConstants.{MAX_TEXT};
 ghost use Rattle.dft_report.specs.declared.limits.TheConstants.{MAX_BYTES};
 ghost use Rattle.dft_compile.specs.Compilation.{AreTextsOf};
@@ -18,44 +15,21 @@ ghost use Rattle.dft_compile.specs.Working.{IsWork};
 use crate::counting::{fates_of, vectors_in};
 use crate::error::CompileError;
 use crate::lengths::check_length;
-use crate::prepared::Prepared;
 use crate::reporting::report_text;
 use crate::texts::{CompileTexts, Counts};
 use crate::writing::pattern_text;
-use dft_config::Config;
-use dft_cube_reports::CellSums;
 use dft_cubes::Cube;
-use dft_encode::lengths_of;
-use dft_equations::{Equations, equations};
-use dft_merge::{Merger, Placed};
+use dft_merge::{Loads, Merger, Placed};
 use dft_netlist::Design;
 use dft_scan::counts_of;
-use dft_stitch::Chains;
 use std::alloc::{AllocError, Global};
-
-// The load equations of planned chains.
-pub(crate) fn load_equations(
-    alloc: Global,
-    design: &Design,
-    config: &Config,
-    chains: &Chains,
-) -> Result<Equations, AllocError>
-    requires planned { chains.now ≡ plan_of design.now config.now }
-    requires fits { refusal design.now config.now ≡ None }
-    ensures { IfOk result (AreLoadEquations config.now.ring (map length chains.now.chains) chains.now.cycles) }
-{
-    let lengths = lengths_of(alloc, chains)?;
-    equations(alloc, config, &lengths, chains.cycles())
-}
 
 // The cubes of a prepared design, with what became of them, and the merged cubes.
 #[derive(Clone, Copy)]
 pub(crate) struct Work<'a> {
     pub(crate) alloc: Global,
-    pub(crate) design: &'a Design,
-    pub(crate) config: &'a Config,
-    pub(crate) prepared: &'a Prepared,
-    pub(crate) equations: &'a Equations,
+    pub(crate) loads: &'a Loads<'a>,
+    pub(crate) scanned: &'a Design,
     pub(crate) merger: &'a Merger<'a>,
     pub(crate) cubes: &'a [Cube],
     pub(crate) placed: &'a [Placed],
@@ -65,57 +39,47 @@ impl<'a> Work<'a> {
     // Refuses patterns whose text would be longer than its limit.
     fn check_patterns(&self) -> Result<(), CompileError>
         requires { IsWork self.now }
-        ensures accepted { OnOk result (pattern_bytes self.now.design.now self.now.config.now (length self.now.merger.now.patterns) ≤ MAX_TEXT) }
-        ensures refused { IfErr result (IsRefusal (option_map CompileError.Patterns (too_many (pattern_bytes self.now.design.now self.now.config.now (length self.now.merger.now.patterns))))) }
+        ensures accepted { OnOk result (pattern_bytes self.now.loads.now.design self.now.loads.now.config (length self.now.merger.now.patterns) ≤ MAX_TEXT) }
+        ensures refused { IfErr result (IsRefusal (option_map CompileError.Patterns (too_many (pattern_bytes self.now.loads.now.design self.now.loads.now.config (length self.now.merger.now.patterns))))) }
     {
         let patterns = self.merger.patterns().len() as u32;
-        let cycles = self.prepared.chains.cycles();
-        check_length(self.alloc, &self.prepared.scanned, cycles, patterns)
+        self.loads.soundness();
+        let cycles = self.loads.chains().cycles();
+        check_length(self.alloc, self.scanned, cycles, patterns)
     }
 
     // The text of the report.
     fn report(&self) -> Result<Vec<u8>, CompileError>
         requires { IsWork self.now }
-        ensures text { IfOk result (λ text. text.items ≡ texts.report_text self.now.design.now self.now.config.now self.now.equations.now self.now.cubes.now self.now.placed.now) }
-        ensures accepted { IfOk result (λ text. length (texts.report_text self.now.design.now self.now.config.now self.now.equations.now self.now.cubes.now self.now.placed.now) ≤ MAX_BYTES) }
-        ensures refused { IfErr result (IsRefusal (option_map CompileError.Report (too_long (texts.report_text self.now.design.now self.now.config.now self.now.equations.now self.now.cubes.now self.now.placed.now)))) }
+        ensures text { IfOk result (λ text. text.items ≡ texts.report_text self.now.loads.now.design self.now.loads.now.config self.now.loads.now.rows self.now.cubes.now self.now.placed.now) }
+        ensures accepted { IfOk result (λ text. length (texts.report_text self.now.loads.now.design self.now.loads.now.config self.now.loads.now.rows self.now.cubes.now self.now.placed.now) ≤ MAX_BYTES) }
+        ensures refused { IfErr result (IsRefusal (option_map CompileError.Report (too_long (texts.report_text self.now.loads.now.design self.now.loads.now.config self.now.loads.now.rows self.now.cubes.now self.now.placed.now)))) }
     {
-        let sums = CellSums {
-            design: self.design,
-            ring: self.config.ring(),
-            chains: &self.prepared.chains,
-            equations: self.equations,
-        };
-        report_text(
-            self.alloc,
-            self.prepared,
-            self.config,
-            &sums,
-            self.cubes,
-            self.placed,
-        )
+        report_text(self.alloc, self.loads, self.cubes, self.placed)
     }
 
     // The text of the scanned netlist.
     fn netlist(&self) -> Result<Vec<u8>, AllocError>
         requires { IsWork self.now }
-        ensures text { IfOk result (λ text. text.items ≡ texts.netlist_text self.now.design.now self.now.config.now) }
-        ensures reads { IfOk result (λ text. StandsFor self.now.design.now.library text.items (scanned Edt self.now.design.now self.now.config.now)) }
+        ensures text { IfOk result (λ text. text.items ≡ texts.netlist_text self.now.loads.now.design self.now.loads.now.config) }
+        ensures reads { IfOk result (λ text. StandsFor self.now.loads.now.design.library text.items (scanned Edt self.now.loads.now.design self.now.loads.now.config)) }
     {
-        dft_verilog_out::write(self.alloc, &self.prepared.scanned)
+        self.loads.soundness();
+        dft_verilog_out::write(self.alloc, self.scanned)
     }
 
     // What is counted, where so many chains are masked.
     fn counts(&self, masked: u64) -> Counts
         requires { IsWork self.now }
-        ensures { result ≡ counts_by self.now.design.now self.now.config.now self.now.placed.now (length self.now.merger.now.patterns) masked }
+        ensures { result ≡ counts_by self.now.loads.now.design self.now.loads.now.config self.now.placed.now (length self.now.merger.now.patterns) masked }
     {
-        let chains = &self.prepared.chains;
-        let instances = self.design.instances().len() as u32;
+        self.loads.soundness();
+        let chains = self.loads.chains();
+        let instances = self.loads.design().instances().len() as u32;
         let patterns = self.merger.patterns().len() as u32;
         let fates = fates_of(self.placed);
         Counts {
-            cells: counts_of(instances, &self.prepared.verdicts, chains).cells,
+            cells: counts_of(instances, self.loads.verdicts(), chains).cells,
             chains: u32::from(chains.count()),
             cycles: u32::from(chains.cycles()),
             patterns,
@@ -131,20 +95,15 @@ impl<'a> Work<'a> {
     // limit.
     pub(crate) fn texts(&self) -> Result<CompileTexts, CompileError>
         requires { IsWork self.now }
-        ensures texts { IfOk result (AreTextsOf self.now.design.now self.now.config.now self.now.cubes.now self.now.equations.now self.now.placed.now self.now.merger.now.patterns) }
-        ensures reads { IfOk result (λ t. StandsFor self.now.design.now.library t.netlist.items (scanned Edt self.now.design.now self.now.config.now)) }
-        ensures refused { IfErr result (IsRefusal (late_refusal self.now.design.now self.now.config.now self.now.cubes.now self.now.equations.now self.now.placed.now (length self.now.merger.now.patterns))) }
+        ensures texts { IfOk result (AreTextsOf self.now.loads.now.design self.now.loads.now.config self.now.cubes.now self.now.loads.now.rows self.now.placed.now self.now.merger.now.patterns) }
+        ensures reads { IfOk result (λ t. StandsFor self.now.loads.now.design.library t.netlist.items (scanned Edt self.now.loads.now.design self.now.loads.now.config)) }
+        ensures refused { IfErr result (IsRefusal (late_refusal self.now.loads.now.design self.now.loads.now.config self.now.cubes.now self.now.loads.now.rows self.now.placed.now (length self.now.merger.now.patterns))) }
     {
         self.check_patterns()?;
         let report = self.report()?;
         let netlist = self.netlist()?;
-        let patterns = pattern_text(
-            self.alloc,
-            self.design,
-            self.config,
-            self.prepared,
-            self.merger,
-        )?;
+        self.loads.soundness();
+        let patterns = pattern_text(self.alloc, self.scanned, self.merger)?;
         Ok(CompileTexts {
             netlist,
             patterns: patterns.text,

@@ -1,4 +1,3 @@
 pub mod Outcomes
 pub mod Lengths
-pub mod Sums
 pub mod Laws

@@ -6,6 +6,6 @@ mod laws;
 mod outcomes;
 mod reports;
 
-pub use cell_sums::CellSums;
+pub use cell_sums::variables_of;
 pub use laws::cubes_have_lines;
 pub use reports::{cube_reports, lines_length};

@@ -3,12 +3,12 @@
 ghost use Rattle.std.specs.Prelude.{◌≡◌, IfOk, OnOk, ◌++◌};
 ghost use Rattle.std.specs.Option.{option_to_list};
 ghost use Rattle.dft_cube_reports.specs.Outcomes as spec;
-ghost use Rattle.dft_cube_reports.specs.Sums.{rows_in, IsSums};
+ghost use Rattle.dft_merge.specs.LoadPlan.{rows_by};
 
-use crate::cell_sums::CellSums;
+use crate::cell_sums::{name_of, sum_of};
 use dft_base::Listed;
 use dft_cubes::Cube;
-use dft_merge::Placed;
+use dft_merge::{Loads, Placed};
 use dft_netlist::InstanceId;
 use dft_report::{CubeLine, CubeReport, SumLine};
 use std::alloc::{AllocError, Global};
@@ -16,15 +16,14 @@ use std::alloc::{AllocError, Global};
 // The sum of the cell at a position of a cube.
 fn sum_at(
     alloc: Global,
-    sums: &CellSums<'_>,
+    loads: &Loads<'_>,
     cells: &[(InstanceId, bool)],
     position: u32,
 ) -> Result<Option<SumLine>, AllocError>
-    requires { IsSums sums.now }
-    ensures { IfOk result (λ line. line ≡ spec.sum_at sums.now.design.now sums.now.ring.now (rows_in sums.now) cells.now position) }
+    ensures { IfOk result (λ line. line ≡ spec.sum_at loads.now.design loads.now.config.ring (rows_by loads.now) cells.now position) }
 {
     match cells.get(position as usize) {
-        Some(given) => sums.sum(alloc, given.0, given.1),
+        Some(given) => sum_of(alloc, loads, given.0, given.1),
         None => Ok(None),
     }
 }
@@ -32,16 +31,15 @@ fn sum_at(
 // The sums of the cells at these positions of a cube.
 fn sums_of(
     alloc: Global,
-    sums: &CellSums<'_>,
+    loads: &Loads<'_>,
     cells: &[(InstanceId, bool)],
     positions: &[u32],
 ) -> Result<Vec<SumLine>, AllocError>
-    requires { IsSums sums.now }
-    ensures { IfOk result (λ lines. lines.items ≡ spec.sums_of sums.now.design.now sums.now.ring.now (rows_in sums.now) cells.now positions.now) }
+    ensures { IfOk result (λ lines. lines.items ≡ spec.sums_of loads.now.design loads.now.config.ring (rows_by loads.now) cells.now positions.now) }
 {
     let mut lines = Vec::new(alloc);
     for position in positions {
-        let line = sum_at(alloc, sums, cells, *position)?;
+        let line = sum_at(alloc, loads, cells, *position)?;
         add(&mut lines, line)?;
     }
     Ok(lines)
@@ -59,34 +57,32 @@ pub(crate) fn add<T: Drop>(items: &mut Vec<T>, item: Option<T>) -> Result<(), Al
 
 fn outcome(
     alloc: Global,
-    sums: &CellSums<'_>,
+    loads: &Loads<'_>,
     cube: &Cube,
     placed: &Placed,
 ) -> Result<Option<CubeLine>, AllocError>
-    requires { IsSums sums.now }
-    ensures { IfOk result (λ line. line ≡ spec.outcome_of sums.now.design.now sums.now.ring.now (rows_in sums.now) cube.now placed.now) }
+    ensures { IfOk result (λ line. line ≡ spec.outcome_of loads.now.design loads.now.config.ring (rows_by loads.now) cube.now placed.now) }
 {
     match placed {
         Placed::Into(pattern) => Ok(Some(CubeLine::Encoded(*pattern))),
         Placed::Unsolvable(positions) => {
-            let lines = sums_of(alloc, sums, cube.cells.as_slice(), positions.as_slice())?;
+            let lines = sums_of(alloc, loads, cube.cells.as_slice(), positions.as_slice())?;
             Ok(Some(CubeLine::Unsolvable(Listed::from_vec(lines))))
         }
-        Placed::Skipped(cell) => Ok(sums.name(alloc, *cell)?.map(CubeLine::Skipped)),
+        Placed::Skipped(cell) => Ok(name_of(alloc, loads.design(), *cell)?.map(CubeLine::Skipped)),
     }
 }
 
 // What became of a cube, under its name.
 pub(crate) fn cube_report(
     alloc: Global,
-    sums: &CellSums<'_>,
+    loads: &Loads<'_>,
     cube: &Cube,
     placed: &Placed,
 ) -> Result<Option<CubeReport>, AllocError>
-    requires { IsSums sums.now }
-    ensures { IfOk result (λ report. report ≡ spec.cube_report sums.now.design.now sums.now.ring.now (rows_in sums.now) cube.now placed.now) }
+    ensures { IfOk result (λ report. report ≡ spec.cube_report loads.now.design loads.now.config.ring (rows_by loads.now) cube.now placed.now) }
 {
-    let Some(outcome) = outcome(alloc, sums, cube, placed)? else {
+    let Some(outcome) = outcome(alloc, loads, cube, placed)? else {
         return Ok(None);
     };
     let name = cube.name.copy(alloc)?;

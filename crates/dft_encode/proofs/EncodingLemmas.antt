@@ -23,11 +23,11 @@ use Rattle.dft_encode.specs.Encoding.{IsEncoded}
 use Rattle.dft_encode.specs.Finding.{HasPatterns, IsFinder, last_found}
 use Rattle.dft_stitch.proofs.ChainLimits.{chains_count, chains_short, limits}
 
-pub is_finder : (f : Finder) → IsInRange f.config.now → rules.refusal f.design.now f.config.now ≡ None → stitch.refusal f.design.now f.config.now ≡ None → f.chains.now ≡ plan_of f.design.now f.config.now → f.always.now ≡ always_of f.config.now →
-    f.merger.now.chains ≡ f.chains.now.chains → f.merger.now.rows.columns ≡ columns_of f.config.now f.chains.now → length f.merger.now.patterns ≤ 65536 → IsFinder f
+pub is_finder : (f : Finder) → IsInRange f.loads.now.config → rules.refusal f.loads.now.design f.loads.now.config ≡ None → stitch.refusal f.loads.now.design f.loads.now.config ≡ None → f.loads.now.plan ≡ plan_of f.loads.now.design f.loads.now.config → f.always.now ≡ always_of f.loads.now.config →
+    f.merger.now.loads ≡ f.loads.now → f.merger.now.loads.rows.columns ≡ columns_of f.loads.now.config f.loads.now.plan → length f.merger.now.patterns ≤ 65536 → IsFinder f
 is_finder f range passed fits planned always merger columns few =
-    let n = f.design.now in
-    let config = f.config.now in
+    let n = f.loads.now.design in
+    let config = f.loads.now.config in
     let most = limits n config fits in record {
       range = range;
       passed = passed;
@@ -45,16 +45,16 @@ is_finder f range passed fits planned always merger columns few =
 -- a list that has all patterns gives their set
 pub is_encoded : (f : Finder) (written : Netlist) (g : Filled) (l : Listing) (e : Encoded) → HasPatterns f (length f.merger.now.patterns) g l →
     ((patterns : List PatternData) → Lists l patterns → last_found l.config l.plan g.last ≡ last_of None patterns → e.set ≡ patterns_of written l.design l.config l.plan patterns) → e.masked ≡ g.masked →
-    IsEncoded written f.design.now f.config.now f.chains.now f.merger.now.rows f.merger.now.patterns e
+    IsEncoded written f.loads.now.design f.loads.now.config f.loads.now.plan f.merger.now.loads.rows f.merger.now.patterns e
 is_encoded f written g l e has set masked =
     let merged = f.merger.now.patterns in
     let list = has.patterns in
-    let last : last_found l.config l.plan g.last ≡ last_of None list = ap (λ (c : Config). last_found c l.plan g.last) has.config ∙ ap (λ (p : Plan). last_found f.config.now p g.last) has.plan ∙ has.last in record {
+    let last : last_found l.config l.plan g.last ≡ last_of None list = ap (λ (c : Config). last_found c l.plan g.last) has.config ∙ ap (λ (p : Plan). last_found f.loads.now.config p g.last) has.plan ∙ has.last in record {
       list = list;
-      are = subst (λ (ms : List Merged). ArePatterns f.design.now f.config.now f.chains.now f.merger.now.rows ms list) (take_all (length merged) merged (omega arith)) has.are;
+      are = subst (λ (ms : List Merged). ArePatterns f.loads.now.design f.loads.now.config f.loads.now.plan f.merger.now.loads.rows ms list) (take_all (length merged) merged (omega arith)) has.are;
       set = set list has.lists last
           ∙ ap (λ (n : Netlist). patterns_of written n l.config l.plan list) has.design
-          ∙ ap (λ (c : Config). patterns_of written f.design.now c l.plan list) has.config
-          ∙ ap (λ (p : Plan). patterns_of written f.design.now f.config.now p list) has.plan;
+          ∙ ap (λ (c : Config). patterns_of written f.loads.now.design c l.plan list) has.config
+          ∙ ap (λ (p : Plan). patterns_of written f.loads.now.design f.loads.now.config p list) has.plan;
       masked = masked ∙ has.masked;
     }

@@ -40,7 +40,7 @@ each_case n config plan rows patterns p q number k count each new (inl there) = 
 each_case n config plan rows patterns p q number k count each new (inr last) = subst (IsPattern n config plan rows k) last.1 (subst (λ (j : ℕ). IsPattern n config plan rows j p) (sym (last.0 ∙ count)) new)
 
 -- no pattern yet
-pub none_yet : (f : Finder) (g : Filled) (l : Listing) → l ≡ record { design = f.design.now; config = f.config.now; plan = f.chains.now; vectors = []; count = 0 } → g.last ≡ None → g.masked ≡ 0 → HasPatterns f 0 g l
+pub none_yet : (f : Finder) (g : Filled) (l : Listing) → l ≡ record { design = f.loads.now.design; config = f.loads.now.config; plan = f.loads.now.plan; vectors = []; count = 0 } → g.last ≡ None → g.masked ≡ 0 → HasPatterns f 0 g l
 none_yet f g l is last masked = record {
   design = ap (λ (k : Listing). k.design) is;
   config = ap (λ (k : Listing). k.config) is;
@@ -48,8 +48,8 @@ none_yet f g l is last masked = record {
   patterns = [];
   are = record { merged = refl; each = λ number p at. absurd (let none : ⊥ = cc in none) };
   lists = record { vectors = ap (λ (k : Listing). k.vectors) is; count = ap (λ (k : Listing). k.count) is };
-  last = ap (last_found f.config.now f.chains.now) last;
-  fits = subst (λ (o : Option Found). IfSome o (FitsFound f.config.now f.chains.now)) (sym last) tt;
+  last = ap (last_found f.loads.now.config f.loads.now.plan) last;
+  fits = subst (λ (o : Option Found). IfSome o (FitsFound f.loads.now.config f.loads.now.plan)) (sym last) tt;
   masked = masked;
   few = omega (arith, masked);
 }
@@ -68,13 +68,13 @@ in_list config d plan q last l m found patterns e r h =
 
 -- with one pattern more
 pub one_found : (f : Finder) (number : ℕ) (g h : Filled) (l m : Listing) (found : Found) → (has : HasPatterns f number g l) → (at : slice_get f.merger.now.patterns number ≡ Some found.merged) →
-    (is : IsPattern f.design.now f.config.now f.chains.now f.merger.now.rows number (data_found f.config.now f.chains.now found)) → (fits : FitsFound f.config.now f.chains.now found) → (small : count_by is_set found.masks ≤ 1024) →
+    (is : IsPattern f.loads.now.design f.loads.now.config f.loads.now.plan f.merger.now.loads.rows number (data_found f.loads.now.config f.loads.now.plan found)) → (fits : FitsFound f.loads.now.config f.loads.now.plan found) → (small : count_by is_set found.masks ≤ 1024) →
     (same : m ≡ record l { vectors = m.vectors; count = l.count + 1 }) →
     (added : ((patterns : List PatternData) → Lists l patterns → last_found l.config l.plan g.last ≡ last_of None patterns → Lists m (patterns ++ data_found l.config l.plan found ∷ []))) →
     (last : h.last ≡ Some found) → (masked : h.masked ≡ g.masked + count_by is_set found.masks) → HasPatterns f (number + 1) h m
 one_found f number g h l m found has at is fits small same added last masked =
     let merged = f.merger.now.patterns in
-    let p = data_found f.config.now f.chains.now found in
+    let p = data_found f.loads.now.config f.loads.now.plan found in
     let less = slice_get_within merged number found.merged at in
     let length_is : length has.patterns ≡ number = sym has.lists.count ∙ count_is f number g l has less in
     let more_masked : masked_in (has.patterns ++ p ∷ []) ≡ masked_in has.patterns + count_by is_set found.masks =
@@ -87,11 +87,11 @@ one_found f number g h l m found has at is fits small same added last masked =
       patterns = has.patterns ++ p ∷ [];
       are = record {
         merged = map_push merged_of has.patterns p ∙ ap (λ (ms : List Merged). ms ++ found.merged ∷ []) has.are.merged ∙ sym more;
-        each = λ k q there. each_case f.design.now f.config.now f.chains.now f.merger.now.rows has.patterns p q number k length_is has.are.each is (pushed has.patterns p q k there);
+        each = λ k q there. each_case f.loads.now.design f.loads.now.config f.loads.now.plan f.merger.now.loads.rows has.patterns p q number k length_is has.are.each is (pushed has.patterns p q k there);
       };
-      lists = in_list l.config f.config.now l.plan f.chains.now g.last l m found has.patterns has.config has.plan (added has.patterns) has.lists has.last;
-      last = ap (last_found f.config.now f.chains.now) last ∙ sym (last_push None has.patterns p);
-      fits = subst (λ (o : Option Found). IfSome o (FitsFound f.config.now f.chains.now)) (sym last) fits;
+      lists = in_list l.config f.loads.now.config l.plan f.loads.now.plan g.last l m found has.patterns has.config has.plan (added has.patterns) has.lists has.last;
+      last = ap (last_found f.loads.now.config f.loads.now.plan) last ∙ sym (last_push None has.patterns p);
+      fits = subst (λ (o : Option Found). IfSome o (FitsFound f.loads.now.config f.loads.now.plan)) (sym last) fits;
       masked = masked ∙ ap (λ (m : ℕ). m + count_by is_set found.masks) has.masked ∙ sym more_masked;
       few = omega (arith, masked, has.few, small);
     }

@@ -25,6 +25,7 @@ use Rattle.dft_expect.specs.Capturing.{AreCaptures, Captures}
 use Rattle.dft_expect.specs.Loaded.{all_cells, loaded_of, table_of}
 use Rattle.dft_expect.specs.Masks.{by_chain, is_masked, masks_of}
 use Rattle.dft_merge.specs.Fills.{fill_of}
+use Rattle.dft_merge.specs.LoadPlan.{LoadPlan}
 use Rattle.dft_merge.specs.Placement.{Loads, equations_of}
 use Rattle.dft_merge.specs.Rows.{cell_row}
 use Rattle.dft_vectors.specs.PatternData.{columns_of}
@@ -71,15 +72,15 @@ loaded_more merged first number loads patterns more new count each is pushes k p
 
 -- a capture of the pattern at a place is one of its merged cubes and its load
 capture_of : (f : Finder) (first k : ℕ) (loads : List Load) (p : Pattern) (l : Load) (r : Response) (merged : Merged) → IsFinder f → IsLoaded f.merger.now.patterns first loads k p → slice_get loads k ≡ Some l → slice_get f.merger.now.patterns (first + k) ≡ Some merged →
-    Captures f.design.now f.config.now p r → IsCapture f.design.now f.config.now f.chains.now.chains merged l.cells r
+    Captures f.loads.now.design f.loads.now.config p r → IsCapture f.loads.now.design f.loads.now.config f.loads.now.plan.chains merged l.cells r
 capture_of f first k loads p l r merged finder is at there h =
-    let n = f.design.now in
-    let config = f.config.now in
+    let n = f.loads.now.design in
+    let config = f.loads.now.config in
     let same : p.merged.now ≡ merged = cc (is.merged, there) in
     let load : is.load ≡ l = cc (is.at, at) in
     let bits : p.loaded.now ≡ l.cells = is.loaded ∙ ap (λ (x : Load). x.cells) load in
-    subst (λ (m : Merged). IsCapture n config f.chains.now.chains m l.cells r) same
-    (subst (λ (b : List Bool). IsCapture n config f.chains.now.chains p.merged.now b r) bits
+    subst (λ (m : Merged). IsCapture n config f.loads.now.plan.chains m l.cells r) same
+    (subst (λ (b : List Bool). IsCapture n config f.loads.now.plan.chains p.merged.now b r) bits
     (subst (λ (q : Plan). IsCapture n config q.chains p.merged.now p.loaded.now r) (sym finder.chains) h))
 
 -- the pattern at a place of as many
@@ -88,7 +89,7 @@ pattern_at [] k less = absurd (omega (arith, less))
 pattern_at (p ∷ patterns) zero less = (p, refl)
 pattern_at (p ∷ patterns) (suc k) less = pattern_at patterns k (omega (arith, less))
 
-pub all_captured : (f : Finder) (first : ℕ) (loads : List Load) (patterns : List Pattern) (responses : List Response) → IsFinder f → AreLoaded f.merger.now.patterns first loads patterns → AreCaptures (record { design = f.design.now; config = f.config.now }) patterns responses →
+pub all_captured : (f : Finder) (first : ℕ) (loads : List Load) (patterns : List Pattern) (responses : List Response) → IsFinder f → AreLoaded f.merger.now.patterns first loads patterns → AreCaptures (record { design = f.loads.now.design; config = f.loads.now.config }) patterns responses →
     Captured f first loads responses
 all_captured f first loads patterns responses finder are h = record {
   count = h.count ∙ are.count;
@@ -108,8 +109,8 @@ pub captured_count : (n : Netlist) (config : Config) (chains : List (List Instan
 captured_count n config chains merged loaded r h = ap length h.cells ∙ length-map (all_cells chains) (λ (cell : InstanceId). captured_value n config chains merged loaded h.values cell.0)
 
 -- there is a word for each chain whether it is always masked
-pub always_count : (f : Finder) → IsFinder f → length f.always.now ≡ length f.chains.now.chains
-always_count f h = ap length h.always ∙ length-map-range_with_len (has same_number f.config.now.always_masked) 0 f.config.now.chains ∙ sym h.count
+pub always_count : (f : Finder) → IsFinder f → length f.always.now ≡ length f.loads.now.plan.chains
+always_count f h = ap length h.always ∙ length-map-range_with_len (has same_number f.loads.now.config.always_masked) 0 f.loads.now.config.chains ∙ sym h.count
 
 -- there is a mask bit for each chain
 masks_count : (always : List Bool) (chains : List (List InstanceId)) (values : List Tri) → length (masks_of always (by_chain chains values)) ≡ length chains
@@ -120,48 +121,48 @@ masks_count always chains values =
 
 -- the bits of a load are those of its pattern
 chosen_of : (f : Finder) (number : ℕ) (l : Load) (found : Found) → IsFinder f → IsLoad f number l → slice_get f.merger.now.patterns number ≡ Some found.merged → found.bits ≡ l.bits →
-    IsChosen f.merger.now.rows.columns (equations_of (cell_row f.chains.now.chains f.merger.now.rows) found.merged.cells) (fill_of f.config.now.fill number f.merger.now.rows.columns) (bits_of (columns_of f.config.now f.chains.now) found.bits)
+    IsChosen f.merger.now.loads.rows.columns (equations_of (cell_row f.loads.now.plan.chains f.merger.now.loads.rows) found.merged.cells) (fill_of f.loads.now.config.fill number f.merger.now.loads.rows.columns) (bits_of (columns_of f.loads.now.config f.loads.now.plan) found.bits)
 chosen_of f number l found finder load at bits =
-    let rows = f.merger.now.rows in
-    let like = fill_of f.config.now.fill number rows.columns in
-    let columns = columns_of f.config.now f.chains.now in
-    subst (λ (b : List ℕ). IsChosen rows.columns (equations_of (cell_row f.chains.now.chains rows) found.merged.cells) like (bits_of columns b)) (sym bits)
-    (subst (λ (c : ℕ). IsChosen rows.columns (equations_of (cell_row f.chains.now.chains rows) found.merged.cells) like (bits_of c l.bits)) finder.columns
-    (subst (λ (chains : List (List InstanceId)). IsChosen rows.columns (equations_of (cell_row chains rows) found.merged.cells) like (bits_of rows.columns l.bits)) finder.merger (load.chosen found.merged at)))
+    let rows = f.merger.now.loads.rows in
+    let like = fill_of f.loads.now.config.fill number rows.columns in
+    let columns = columns_of f.loads.now.config f.loads.now.plan in
+    subst (λ (b : List ℕ). IsChosen rows.columns (equations_of (cell_row f.loads.now.plan.chains rows) found.merged.cells) like (bits_of columns b)) (sym bits)
+    (subst (λ (c : ℕ). IsChosen rows.columns (equations_of (cell_row f.loads.now.plan.chains rows) found.merged.cells) like (bits_of c l.bits)) finder.columns
+    (subst (λ (chains : List (List InstanceId)). IsChosen rows.columns (equations_of (cell_row chains rows) found.merged.cells) like (bits_of rows.columns l.bits)) (ap (λ (l : LoadPlan). l.plan.chains) finder.merger) (load.chosen found.merged at)))
 
 loads_of : (f : Finder) (number : ℕ) (l : Load) (found : Found) → IsFinder f → IsLoad f number l → slice_get f.merger.now.patterns number ≡ Some found.merged → found.bits ≡ l.bits →
-    Loads f.merger.now.rows.columns (cell_row f.chains.now.chains f.merger.now.rows) (bit_at (bits_of (columns_of f.config.now f.chains.now) found.bits)) found.merged.cells
+    Loads f.merger.now.loads.rows.columns (cell_row f.loads.now.plan.chains f.merger.now.loads.rows) (bit_at (bits_of (columns_of f.loads.now.config f.loads.now.plan) found.bits)) found.merged.cells
 loads_of f number l found finder load at bits =
-    let rows = f.merger.now.rows in
-    let columns = columns_of f.config.now f.chains.now in
-    subst (λ (b : List ℕ). Loads rows.columns (cell_row f.chains.now.chains rows) (bit_at (bits_of columns b)) found.merged.cells) (sym bits)
-    (subst (λ (c : ℕ). Loads rows.columns (cell_row f.chains.now.chains rows) (bit_at (bits_of c l.bits)) found.merged.cells) finder.columns
-    (subst (λ (chains : List (List InstanceId)). Loads rows.columns (cell_row chains rows) (bit_at (bits_of rows.columns l.bits)) found.merged.cells) finder.merger (load.loads found.merged at)))
+    let rows = f.merger.now.loads.rows in
+    let columns = columns_of f.loads.now.config f.loads.now.plan in
+    subst (λ (b : List ℕ). Loads rows.columns (cell_row f.loads.now.plan.chains rows) (bit_at (bits_of columns b)) found.merged.cells) (sym bits)
+    (subst (λ (c : ℕ). Loads rows.columns (cell_row f.loads.now.plan.chains rows) (bit_at (bits_of c l.bits)) found.merged.cells) finder.columns
+    (subst (λ (chains : List (List InstanceId)). Loads rows.columns (cell_row chains rows) (bit_at (bits_of rows.columns l.bits)) found.merged.cells) (ap (λ (l : LoadPlan). l.plan.chains) finder.merger) (load.loads found.merged at)))
 
-packed_of : (f : Finder) (number : ℕ) (l : Load) → IsFinder f → IsLoad f number l → IsPacked (columns_of f.config.now f.chains.now) l.bits
+packed_of : (f : Finder) (number : ℕ) (l : Load) → IsFinder f → IsLoad f number l → IsPacked (columns_of f.loads.now.config f.loads.now.plan) l.bits
 packed_of f number l finder load = subst (λ (c : ℕ). IsPacked c l.bits) finder.columns load.packed
 
 -- what a pattern is, by its load, its response and its masks
 pub is_pattern : (f : Finder) (number : ℕ) (l : Load) (found : Found) → IsFinder f → IsLoad f number l → slice_get f.merger.now.patterns number ≡ Some found.merged → found.bits ≡ l.bits →
-    found.masks ≡ masks_of f.always.now (by_chain f.chains.now.chains found.response.cells) → IsCapture f.design.now f.config.now f.chains.now.chains found.merged l.cells found.response →
-    IsPattern f.design.now f.config.now f.chains.now f.merger.now.rows number (data_found f.config.now f.chains.now found)
+    found.masks ≡ masks_of f.always.now (by_chain f.loads.now.plan.chains found.response.cells) → IsCapture f.loads.now.design f.loads.now.config f.loads.now.plan.chains found.merged l.cells found.response →
+    IsPattern f.loads.now.design f.loads.now.config f.loads.now.plan f.merger.now.loads.rows number (data_found f.loads.now.config f.loads.now.plan found)
 is_pattern f number l found finder load at bits masks captured =
-    let ring = f.config.now.ring in
-    let plan = f.chains.now in
-    let columns = columns_of f.config.now plan in
+    let ring = f.loads.now.config.ring in
+    let plan = f.loads.now.plan in
+    let columns = columns_of f.loads.now.config plan in
     let brings : List ℕ → List Bool = λ b. loaded_of ring (table_of ring (bit_at (bits_of columns b))) plan.cycles plan.chains in
     let cells : l.cells ≡ brings found.bits =
     load.cells ∙ ap (λ (t : Table). loaded_of ring t plan.cycles plan.chains) (same_table ring columns l.bits (packed_of f number l finder load)) ∙ ap brings (sym bits) in record {
       bits = chosen_of f number l found finder load at bits;
       loads = loads_of f number l found finder load at bits;
-      captured = subst (λ (b : List Bool). IsCapture f.design.now f.config.now plan.chains found.merged b found.response) cells captured;
+      captured = subst (λ (b : List Bool). IsCapture f.loads.now.design f.loads.now.config plan.chains found.merged b found.response) cells captured;
       masks = masks ∙ ap (λ (a : List Bool). masks_of a (by_chain plan.chains found.response.cells)) finder.always;
     }
 
-pub fits_found : (f : Finder) (number : ℕ) (l : Load) (found : Found) → IsFinder f → IsLoad f number l → found.bits ≡ l.bits → found.masks ≡ masks_of f.always.now (by_chain f.chains.now.chains found.response.cells) →
-    IsCapture f.design.now f.config.now f.chains.now.chains found.merged l.cells found.response → FitsFound f.config.now f.chains.now found
+pub fits_found : (f : Finder) (number : ℕ) (l : Load) (found : Found) → IsFinder f → IsLoad f number l → found.bits ≡ l.bits → found.masks ≡ masks_of f.always.now (by_chain f.loads.now.plan.chains found.response.cells) →
+    IsCapture f.loads.now.design f.loads.now.config f.loads.now.plan.chains found.merged l.cells found.response → FitsFound f.loads.now.config f.loads.now.plan found
 fits_found f number l found finder load bits masks captured = record {
-  bits = subst (λ (b : List ℕ). IsPacked (columns_of f.config.now f.chains.now) b) (sym bits) (packed_of f number l finder load);
-  masks = ap length masks ∙ masks_count f.always.now f.chains.now.chains found.response.cells;
-  cells = captured_count f.design.now f.config.now f.chains.now.chains found.merged l.cells found.response captured;
+  bits = subst (λ (b : List ℕ). IsPacked (columns_of f.loads.now.config f.loads.now.plan) b) (sym bits) (packed_of f number l finder load);
+  masks = ap length masks ∙ masks_count f.always.now f.loads.now.plan.chains found.response.cells;
+  cells = captured_count f.loads.now.design f.loads.now.config f.loads.now.plan.chains found.merged l.cells found.response captured;
 }

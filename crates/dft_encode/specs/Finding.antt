@@ -30,18 +30,18 @@ use Rattle.dft_encode.specs.Counts.{masked_in}
 
 -- ---- the finder
 
--- it is of a design that the rules pass, its configuration and its planned chains
+-- it has the load equations that its merger has, and for each chain whether it is always masked; and what is known of planned chains
 pub record IsFinder (f : Finder) : Type 0 where
-  pub range : IsInRange f.config.now
-  pub passed : refusal f.design.now f.config.now ≡ None
-  pub chains : f.chains.now ≡ plan_of f.design.now f.config.now
-  pub count : length f.chains.now.chains ≡ f.config.now.chains
-  pub cells : All (λ cells. length cells ≤ f.chains.now.cycles) f.chains.now.chains
-  pub cycles : f.chains.now.cycles ≤ 4096
-  pub small : columns_of f.config.now f.chains.now ≤ 16384
-  pub always : f.always.now ≡ always_of f.config.now
-  pub merger : f.merger.now.chains ≡ f.chains.now.chains
-  pub columns : f.merger.now.rows.columns ≡ columns_of f.config.now f.chains.now
+  pub range : IsInRange f.loads.now.config
+  pub passed : refusal f.loads.now.design f.loads.now.config ≡ None
+  pub chains : f.loads.now.plan ≡ plan_of f.loads.now.design f.loads.now.config
+  pub count : length f.loads.now.plan.chains ≡ f.loads.now.config.chains
+  pub cells : All (λ cells. length cells ≤ f.loads.now.plan.cycles) f.loads.now.plan.chains
+  pub cycles : f.loads.now.plan.cycles ≤ 4096
+  pub small : columns_of f.loads.now.config f.loads.now.plan ≤ 16384
+  pub always : f.always.now ≡ always_of f.loads.now.config
+  pub merger : f.merger.now.loads ≡ f.loads.now
+  pub columns : f.merger.now.loads.rows.columns ≡ columns_of f.loads.now.config f.loads.now.plan
   pub few : length f.merger.now.patterns ≤ 65536
 
 -- ---- loads and captures
@@ -51,10 +51,10 @@ pub record IsFinder (f : Finder) : Type 0 where
 pub record IsLoad (f : Finder) (number : ℕ) (l : Load) : Type 0 where
   pub packed : IsPacked (columns_in f.merger.now) l.bits
   pub chosen : (merged : Merged) → slice_get f.merger.now.patterns number ≡ Some merged →
-      IsChosen (columns_in f.merger.now) (equations_of (rows_in f.merger.now) merged.cells) (fill_of f.config.now.fill number (columns_in f.merger.now)) (bits_of (columns_in f.merger.now) l.bits)
+      IsChosen (columns_in f.merger.now) (equations_of (rows_in f.merger.now) merged.cells) (fill_of f.loads.now.config.fill number (columns_in f.merger.now)) (bits_of (columns_in f.merger.now) l.bits)
   pub loads : (merged : Merged) → slice_get f.merger.now.patterns number ≡ Some merged →
       Loads (columns_in f.merger.now) (rows_in f.merger.now) (bit_at (bits_of (columns_in f.merger.now) l.bits)) merged.cells
-  pub cells : l.cells ≡ loaded_of f.config.now.ring (table_of f.config.now.ring (packed_bit l.bits)) f.chains.now.cycles f.chains.now.chains
+  pub cells : l.cells ≡ loaded_of f.loads.now.config.ring (table_of f.loads.now.config.ring (packed_bit l.bits)) f.loads.now.plan.cycles f.loads.now.plan.chains
 
 -- the loads of patterns from this number on
 abbrev pub AreLoads : Finder → (first : ℕ) → List Load → Type 0
@@ -75,7 +75,7 @@ pub record AreLoaded (all : List Merged) (first : ℕ) (loads : List Load) (patt
 pub record Captured (f : Finder) (first : ℕ) (loads : List Load) (responses : List Response) : Type 0 where
   pub count : length responses ≡ length loads
   pub each : (k : ℕ) (l : Load) (r : Response) (merged : Merged) → slice_get loads k ≡ Some l → slice_get responses k ≡ Some r → slice_get f.merger.now.patterns (first + k) ≡ Some merged →
-      IsCapture f.design.now f.config.now f.chains.now.chains merged l.cells r
+      IsCapture f.loads.now.design f.loads.now.config f.loads.now.plan.chains merged l.cells r
 
 -- ---- patterns
 
@@ -94,13 +94,13 @@ pub record FitsFound (config : Config) (plan : Plan) (f : Found) : Type 0 where
 
 -- A list of vectors has the first patterns, so many: this was found of the last one, and so many chains are masked.
 pub record HasPatterns (f : Finder) (count : ℕ) (g : Filled) (l : Listing) : Type 0 where
-  pub design : l.design ≡ f.design.now
-  pub config : l.config ≡ f.config.now
-  pub plan : l.plan ≡ f.chains.now
+  pub design : l.design ≡ f.loads.now.design
+  pub config : l.config ≡ f.loads.now.config
+  pub plan : l.plan ≡ f.loads.now.plan
   pub patterns : List PatternData
-  pub are : ArePatterns f.design.now f.config.now f.chains.now f.merger.now.rows (take count f.merger.now.patterns) patterns
+  pub are : ArePatterns f.loads.now.design f.loads.now.config f.loads.now.plan f.merger.now.loads.rows (take count f.merger.now.patterns) patterns
   pub lists : Lists l patterns
-  pub last : last_found f.config.now f.chains.now g.last ≡ last_of None patterns
-  pub fits : IfSome g.last (FitsFound f.config.now f.chains.now)
+  pub last : last_found f.loads.now.config f.loads.now.plan g.last ≡ last_of None patterns
+  pub fits : IfSome g.last (FitsFound f.loads.now.config f.loads.now.plan)
   pub masked : g.masked ≡ masked_in patterns
   pub few : g.masked ≤ count * 1024

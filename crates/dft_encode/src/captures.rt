@@ -42,7 +42,7 @@ pub(crate) fn captures(
     loads: &[Load],
 ) -> Result<Vec<Response>, AllocError>
     requires finder { IsFinder finder.now }
-    requires capturer { capturer.old ≡ record { design = finder.now.design.now; config = finder.now.config.now } }
+    requires capturer { capturer.old ≡ record { design = finder.now.loads.now.design; config = finder.now.loads.now.config } }
     requires few { length loads.now ≤ 512 }
     requires count { first + length loads.now ≤ length finder.now.merger.now.patterns }
     ensures same { capturer.new ≡ capturer.old }

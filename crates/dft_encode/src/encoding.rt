@@ -1,11 +1,8 @@
 //! The patterns of merged cubes.
 
 ghost use Rattle.std.specs.Prelude.{◌≡◌, ◌≤◌, List, None, [], length, IfOk, IfSome};
-ghost use Rattle.dft_rules.specs.Refusals as rules;
-ghost use Rattle.dft_stitch.specs.Chains.{plan_of};
-ghost use Rattle.dft_stitch.specs.Limits as stitch;
 ghost use Rattle.dft_vectors.specs.Listing.{Lists};
-ghost use Rattle.dft_vectors.specs.PatternData.{PatternData, columns_of};
+ghost use Rattle.dft_vectors.specs.PatternData.{PatternData};
 ghost use Rattle.dft_vectors.specs.VectorList.{last_of, patterns_of};
 ghost use Rattle.dft_encode.specs.Encoding.{IsEncoded};
 ghost use Rattle.dft_encode.specs.Finding.{FitsFound, HasPatterns, IsFinder, last_found};
@@ -14,12 +11,10 @@ use crate::filling::{Filled, fill};
 use crate::finder::Finder;
 use crate::found::Found;
 use crate::settings::always_masked;
-use dft_config::Config;
 use dft_expect::Capturer;
 use dft_merge::Merger;
 use dft_netlist::Design;
 use dft_patterns::PatternSet;
-use dft_stitch::Chains;
 use dft_vectors::VectorList;
 use std::alloc::{AllocError, Global};
 
@@ -34,14 +29,15 @@ pub struct Encoded {
 // Adds all patterns to a list of vectors that has none.
 fn fill_all(finder: &Finder<'_>, list: &mut VectorList<'_>) -> Result<Filled, AllocError>
     requires finder { IsFinder finder.now }
-    requires list { list.old ≡ record { design = finder.now.design.now; config = finder.now.config.now; plan = finder.now.chains.now; vectors = []; count = 0 } }
+    requires list { list.old ≡ record { design = finder.now.loads.now.design; config = finder.now.loads.now.config; plan = finder.now.loads.now.plan; vectors = []; count = 0 } }
     ensures { IfOk result (λ filled. HasPatterns finder.now (length finder.now.merger.now.patterns) filled list.new) }
 {
+    let loads = finder.loads;
     let mut capturer = Capturer::prepare(
         finder.alloc,
-        finder.design,
-        finder.config,
-        finder.chains,
+        loads.design(),
+        loads.config(),
+        loads.chains(),
     )?;
     fill(finder, &mut capturer, list)
 }
@@ -65,9 +61,10 @@ fn finished(
 // The patterns of all merged cubes.
 fn patterns(finder: &Finder<'_>, written: &Design) -> Result<Encoded, AllocError>
     requires { IsFinder finder.now }
-    ensures { IfOk result (IsEncoded written.now finder.now.design.now finder.now.config.now finder.now.chains.now finder.now.merger.now.rows finder.now.merger.now.patterns) }
+    ensures { IfOk result (IsEncoded written.now finder.now.loads.now.design finder.now.loads.now.config finder.now.loads.now.plan finder.now.merger.now.loads.rows finder.now.merger.now.patterns) }
 {
-    let mut list = VectorList::new(finder.alloc, finder.design, finder.config, finder.chains)?;
+    let loads = finder.loads;
+    let mut list = VectorList::new(finder.alloc, loads.design(), loads.config(), loads.chains())?;
     let filled = fill_all(finder, &mut list)?;
     Ok(Encoded {
         set: finished(list, written, &filled.last)?,
@@ -77,29 +74,16 @@ fn patterns(finder: &Finder<'_>, written: &Design) -> Result<Encoded, AllocError
 
 /// The patterns of all merged cubes of a design, in the signals of its written netlist: their channel bits, what they capture, 512 at a time,
 /// which chains are masked, and the vectors of all that.
-pub fn encode(
-    alloc: Global,
-    design: &Design,
-    config: &Config,
-    chains: &Chains,
-    merger: &Merger<'_>,
-    written: &Design,
-) -> Result<Encoded, AllocError>
-    requires passed { rules.refusal design.now config.now ≡ None }
-    requires fits { stitch.refusal design.now config.now ≡ None }
-    requires planned { chains.now ≡ plan_of design.now config.now }
-    requires chains { merger.now.chains ≡ chains.now.chains }
-    requires columns { merger.now.rows.columns ≡ columns_of config.now chains.now }
+pub fn encode(alloc: Global, merger: &Merger<'_>, written: &Design) -> Result<Encoded, AllocError>
     requires few { length merger.now.patterns ≤ 65536 }
-    ensures { IfOk result (IsEncoded written.now design.now config.now chains.now merger.now.rows merger.now.patterns) }
+    ensures { IfOk result (IsEncoded written.now merger.now.loads.design merger.now.loads.config merger.now.loads.plan merger.now.loads.rows merger.now.patterns) }
 {
-    config.soundness();
-    let always = always_masked(alloc, config)?;
+    let loads = merger.loads();
+    loads.soundness();
+    let always = always_masked(alloc, loads.config())?;
     let finder = Finder {
         alloc,
-        design,
-        config,
-        chains,
+        loads,
         always: &always,
         merger,
     };

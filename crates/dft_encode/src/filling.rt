@@ -63,7 +63,7 @@ fn step(
     requires number { number < length finder.now.merger.now.patterns }
     requires load { IsLoad finder.now number load.now }
     requires captured { (merged : Merged) → slice_get finder.now.merger.now.patterns number ≡ Some merged →
-        IsCapture finder.now.design.now finder.now.config.now finder.now.chains.now.chains merged load.now.cells response.now }
+        IsCapture finder.now.loads.now.design finder.now.loads.now.config finder.now.loads.now.plan.chains merged load.now.cells response.now }
     requires before { HasPatterns finder.now number filled.old list.old }
     ensures { OnOk result (HasPatterns finder.now (number + 1) filled.new list.new) }
 {
@@ -106,7 +106,7 @@ fn group(
     count: usize,
 ) -> Result<(), AllocError>
     requires finder { IsFinder finder.now }
-    requires capturer { capturer.old ≡ record { design = finder.now.design.now; config = finder.now.config.now } }
+    requires capturer { capturer.old ≡ record { design = finder.now.loads.now.design; config = finder.now.loads.now.config } }
     requires few { count ≤ 512 }
     requires count { first + count ≤ length finder.now.merger.now.patterns }
     requires before { HasPatterns finder.now first filled.old list.old }
@@ -125,8 +125,8 @@ pub(crate) fn fill(
     list: &mut VectorList<'_>,
 ) -> Result<Filled, AllocError>
     requires finder { IsFinder finder.now }
-    requires capturer { capturer.old ≡ record { design = finder.now.design.now; config = finder.now.config.now } }
-    requires list { list.old ≡ record { design = finder.now.design.now; config = finder.now.config.now; plan = finder.now.chains.now; vectors = []; count = 0 } }
+    requires capturer { capturer.old ≡ record { design = finder.now.loads.now.design; config = finder.now.loads.now.config } }
+    requires list { list.old ≡ record { design = finder.now.loads.now.design; config = finder.now.loads.now.config; plan = finder.now.loads.now.plan; vectors = []; count = 0 } }
     ensures { IfOk result (λ filled. HasPatterns finder.now (length finder.now.merger.now.patterns) filled list.new) }
 {
     let mut filled = Filled {

@@ -101,13 +101,13 @@ pub(crate) fn find(
     requires number { number < length finder.now.merger.now.patterns }
     requires load { IsLoad finder.now number load.now }
     requires captured { (merged : Merged) → slice_get finder.now.merger.now.patterns number ≡ Some merged →
-        IsCapture finder.now.design.now finder.now.config.now finder.now.chains.now.chains merged load.now.cells response.now }
+        IsCapture finder.now.loads.now.design finder.now.loads.now.config finder.now.loads.now.plan.chains merged load.now.cells response.now }
     ensures merged { IfOk result (λ f. slice_get finder.now.merger.now.patterns number ≡ Some f.merged) }
-    ensures found { IfOk result (λ f. IsPattern finder.now.design.now finder.now.config.now finder.now.chains.now finder.now.merger.now.rows number (data_found finder.now.config.now finder.now.chains.now f)) }
-    ensures fits { IfOk result (FitsFound finder.now.config.now finder.now.chains.now) }
+    ensures found { IfOk result (λ f. IsPattern finder.now.loads.now.design finder.now.loads.now.config finder.now.loads.now.plan finder.now.merger.now.loads.rows number (data_found finder.now.loads.now.config finder.now.loads.now.plan f)) }
+    ensures fits { IfOk result (FitsFound finder.now.loads.now.config finder.now.loads.now.plan) }
 {
     let merged = copied(finder.alloc, &finder.merger.patterns()[number])?;
-    let masks = mask_bits(finder.alloc, finder.always, finder.chains, response)?;
+    let masks = mask_bits(finder.alloc, finder.always, finder.loads.chains(), response)?;
     let bits = Vec::from_slice(finder.alloc, load.bits.as_slice())?;
     let response = copied_response(finder.alloc, response)?;
     Ok(Found {

@@ -15,4 +15,3 @@ mod settings;
 pub use encoding::{Encoded, encode};
 pub use laws::vectors_have_width;
 pub use placing::place_all;
-pub use settings::lengths_of;

@@ -25,9 +25,10 @@ fn load_of(finder: &Finder<'_>, number: u32) -> Result<Load, AllocError>
     requires number { number < length finder.now.merger.now.patterns }
     ensures { IfOk result (IsLoad finder.now number) }
 {
-    let columns = u32::from(finder.chains.cycles()) * u32::from(finder.config.ring().channels);
-    let bits = channel_bits(finder.alloc, finder.config, finder.merger, number, columns)?;
-    let cells = loaded(finder.alloc, finder.config, finder.chains, &bits)?;
+    let config = finder.loads.config();
+    let columns = finder.loads.equations().columns();
+    let bits = channel_bits(finder.alloc, config, finder.merger, number, columns)?;
+    let cells = loaded(finder.alloc, config, finder.loads.chains(), &bits)?;
     Ok(Load {
         bits: Listed::from_vec(bits),
         cells: Listed::from_vec(cells),

@@ -1,27 +1,11 @@
 //! What patterns are found by.
 
-ghost use Rattle.std.specs.Prelude.{◌≡◌, ◌≤◌, length, map, IfOk};
-ghost use Rattle.std.specs.List.{All};
+ghost use Rattle.std.specs.Prelude.{◌≡◌, IfOk};
 ghost use Rattle.dft_config.specs.Range.{has, same_number};
 ghost use Rattle.dft_expect.specs.Masks.{always_of};
 
 use dft_config::Config;
-use dft_stitch::Chains;
 use std::alloc::{AllocError, Global};
-
-/// How many cells each chain has.
-pub fn lengths_of(alloc: Global, chains: &Chains) -> Result<Vec<u16>, AllocError>
-    requires cells { All (λ cells. length cells ≤ chains.now.cycles) chains.now.chains }
-    requires cycles { chains.now.cycles ≤ 4096 }
-    ensures { IfOk result (λ lengths. lengths.items ≡ map length chains.now.chains) }
-{
-    let mut lengths = Vec::with_capacity(alloc, usize::from(chains.count()))?;
-    for chain in 0..chains.count() {
-        let cells = chains.chain(chain).len();
-        lengths.push(cells as u16)?;
-    }
-    Ok(lengths)
-}
 
 fn is_listed(chains: &[u16], chain: u16) -> bool
     ensures { result ≡ has same_number chains.now chain }

@@ -29,6 +29,16 @@ only d e = e == d
 abbrev both : ℕ → Bool
 both e = true
 
+-- a phase of a pulse of these domains, where all ports are 1 and all cells 0
+abbrev phase : (rising : Bool) → (pulsed : ℕ → Bool) → Pulse
+phase rising pulsed = record { rising = rising; ports = λ k. One; pulsed = pulsed; old = λ c. Zero }
+
+abbrev rises : (pulsed : ℕ → Bool) → Pulse
+rises = phase true
+
+abbrev falls : (pulsed : ℕ → Bool) → Pulse
+falls = phase false
+
 -- ---- a lock-up of a clock that does not pulse, between two flip-flops of one that does
 
 -- nets ca, cb, d, n, p, q: `DFF 0 (.CK(ca), .D(d), .Q(n)); LOCKUP 2 (.CK(cb), .D(n), .Q(p)); DFF 1 (.CK(ca), .D(p), .Q(q));`
@@ -45,32 +55,36 @@ quiet_next ports at = refl
 quiet_reads : reads (quiet.net 4) ≡ 3 ∷ []
 quiet_reads = refl
 
-quiet_view : read_in 0 (quiet.net 4) ≡ 1
+quiet_view : read_in (rises (only 0)) 0 (quiet.net 4) ≡ 1
 quiet_view = refl
 
 -- where ca pulses, n moves in the view of cb, though it shows a flip-flop of ca that a flip-flop of ca reads
-quiet_moves : moves quiet (only 0) 1 (quiet.net 3) ≡ true
+quiet_moves : moves quiet (rises (only 0)) 1 (quiet.net 3) ≡ true
 quiet_moves = refl
 
 -- in the view of ca it does not, nor in any view where ca does not pulse
-quiet_still : moves quiet (only 0) 0 (quiet.net 3) ≡ false
+quiet_still : moves quiet (rises (only 0)) 0 (quiet.net 3) ≡ false
 quiet_still = refl
 
-quiet_at_rest : (d : ℕ) → moves quiet (only 1) d (quiet.net 3) ≡ false
+quiet_at_rest : (d : ℕ) → moves quiet (rises (only 1)) d (quiet.net 3) ≡ false
 quiet_at_rest d = refl
 
 -- where ca pulses, what p shows may move in every view
-quiet_shows : (shown : ℕ → Shown) → shown 3 ≡ Domain 0 → shown_given quiet (only 0) shown 4 (quiet.net 4) ≡ Several
-quiet_shows shown is = ap (λ (t : Shown). lockup_shown 1 (with_shown t Nothing)) is
+quiet_shows : (shown : ℕ → Shown) → shown 3 ≡ Domain 0 → shown_given quiet (rises (only 0)) shown 4 (quiet.net 4) ≡ Several
+quiet_shows shown is = ap (λ (t : Shown). lockup_shown true false false 1 (with_shown t Nothing)) is
+
+-- at the falls no flip-flop takes a value, and the lock-up is a wire, since cb rests
+quiet_fall : (d : ℕ) → moves quiet (falls (only 0)) d (quiet.net 3) ≡ false
+quiet_fall d = refl
+
+quiet_wire : (shown : ℕ → Shown) → shown 3 ≡ Nothing → shown_given quiet (falls (only 0)) shown 4 (quiet.net 4) ≡ Nothing
+quiet_wire shown is = ap (λ (t : Shown). lockup_shown false false false 1 (with_shown t Nothing)) is
 
 -- an assignment of the needed values alone, and any others: the second flip-flop takes what the first may have
-abbrev ca_pulses : Pulse
-ca_pulses = record { rising = true; ports = λ k. One; pulsed = only 0; old = λ c. Zero }
-
 abbrev needed : (others : Tri) → ℕ → ℕ → Tri
 needed others d k = if (d == 0) && (k == 4) then Unknown else (if (d == 1) && (k == 3) then Unknown else others)
 
-quiet_takes : (others : Tri) → next_value quiet ca_pulses (needed others) 1 ≡ Unknown
+quiet_takes : (others : Tri) → next_value quiet (rises (only 0)) (needed others) 1 ≡ Unknown
 quiet_takes others = refl
 
 -- ---- a scan cell with a reset
@@ -93,13 +107,13 @@ is_reset at = refl
 
 -- ---- a clock read as data by the other domain
 
-sees_clock : is_other_clock both 1 0 Clock ≡ true
+sees_clock : is_other_clock (rises both) 1 0 Clock ≡ true
 sees_clock = refl
 
-sees_its_own : is_other_clock both 0 0 Clock ≡ false
+sees_its_own : is_other_clock (rises both) 0 0 Clock ≡ false
 sees_its_own = refl
 
-sees_none : is_other_clock (only 1) 1 0 Clock ≡ false
+sees_none : is_other_clock (rises (only 1)) 1 0 Clock ≡ false
 sees_none = refl
 
 -- ---- two domains that meet in a capture alone
@@ -115,14 +129,14 @@ meeting = record {
 meeting_shifts : next_reads (meeting.cell 0) (λ k. Zero) (λ s. One) ≡ Net 2 ∷ Net 3 ∷ []
 meeting_shifts = refl
 
-meeting_still : (d : ℕ) → moves meeting both d (meeting.net 3) ≡ false
+meeting_still : (d : ℕ) → moves meeting (rises both) d (meeting.net 3) ≡ false
 meeting_still d = refl
 
 -- and what moves where it captures
 meeting_captures : next_reads (meeting.cell 0) (λ k. Zero) (λ s. Zero) ≡ Net 2 ∷ Net 6 ∷ []
 meeting_captures = refl
 
-meeting_moves : moves meeting both 0 (meeting.net 6) ≡ true
+meeting_moves : moves meeting (rises both) 0 (meeting.net 6) ≡ true
 meeting_moves = refl
 
 -- ---- lock-ups of a third clock between its flip-flops and the chains of two domains
@@ -138,11 +152,15 @@ abbrev all_three : ℕ → Bool
 all_three e = true
 
 -- where all three pulse, the lock-up holds, and shows nothing that moves
-chains_flop : (shown : ℕ → Shown) → shown_given chains all_three shown 4 (chains.net 4) ≡ Domain 2
+chains_flop : (shown : ℕ → Shown) → shown_given chains (rises all_three) shown 4 (chains.net 4) ≡ Domain 2
 chains_flop shown = refl
 
-chains_hold : (shown : ℕ → Shown) → shown 4 ≡ Domain 2 → shown_given chains all_three shown 5 (chains.net 5) ≡ Nothing
-chains_hold shown is = ap (λ (t : Shown). lockup_shown 2 (with_shown t Nothing)) is
+chains_hold : (shown : ℕ → Shown) → shown 4 ≡ Domain 2 → shown_given chains (rises all_three) shown 5 (chains.net 5) ≡ Nothing
+chains_hold shown is = ap (λ (t : Shown). lockup_shown true true false 2 (with_shown t Nothing)) is
+
+-- where they fall, the lock-up opens, and shows its clock
+chains_open : (shown : ℕ → Shown) → shown_given chains (falls all_three) shown 5 (chains.net 5) ≡ Domain 2
+chains_open shown = refl
 
 -- without it the first cell of a chain would read what moves
 chains_race : is_still 0 (Domain 2) ≡ false

@@ -1,4 +1,6 @@
 pub mod Rows
+pub mod LoadPlan
+pub mod LoadsShown
 pub mod Placement
 pub mod Fills
 pub mod Merging

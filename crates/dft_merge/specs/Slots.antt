@@ -7,9 +7,8 @@ use Rattle.dft_equations.specs.LoadRows.{LoadRows, IsCell, row_of}
 use Rattle.dft_gf2.specs.Elimination.{Elimination}
 use Rattle.dft_cubes.specs.declared.cube.Cube.{Cube}
 use Rattle.dft_cubes.specs.declared.cube.Merged.{Merged}
-use Rattle.dft_merge.specs.declared.loading.Loading.{Loading}
 use Rattle.dft_merge.specs.declared.slot.Slot.{Slot}
-use Rattle.dft_merge.specs.Rows.{CellRows, StandApart, cell_row}
+use Rattle.dft_merge.specs.Rows.{CellRows, StandApart}
 use Rattle.dft_merge.specs.Placement.{Fits, cell_number, port_number, equations_of, first_unscanned, joined}
 use Rattle.dft_merge.specs.Systems.{IsSystem}
 use Rattle.dft_merge.specs.Tables.{IsTable}
@@ -19,16 +18,6 @@ pub record AreRows (chains : List (List InstanceId)) (rows : LoadRows) : Type 0 
   pub cells : (chain place : ℕ) (cell : InstanceId) → cell_at chains chain place ≡ Some cell → IsCell rows chain place
   pub wide : (chain place : ℕ) (cell : InstanceId) → cell_at chains chain place ≡ Some cell → length (row_of rows chain place) ≡ rows.columns
   pub apart : StandApart chains
-
--- what `Loading` lends
-abbrev pub rows_by : Loading → CellRows
-rows_by loading = cell_row loading.chains.now.chains loading.equations.now
-
-abbrev pub columns_by : Loading → ℕ
-columns_by loading = loading.equations.now.columns
-
-abbrev pub IsLoading : Loading → Type 0
-IsLoading loading = AreRows loading.chains.now.chains loading.equations.now
 
 -- the system has the equations of the pattern's cells, and the tables its bits
 pub record IsSlot (n : ℕ) (row : CellRows) (pattern : Merged) (slot : Slot) : Type 0 where

@@ -4,30 +4,23 @@ ghost use Rattle.std.specs.Prelude.{◌≡◌, ◌<◌, ◌^◌, [], None, lengt
 ghost use Rattle.dft_base.specs.Solutions.{Equation, IsSolvable};
 ghost use Rattle.dft_merge.specs.Placement as spec;
 ghost use Rattle.dft_merge.specs.Placement.{equations_of};
-ghost use Rattle.dft_merge.specs.Slots.{IsLoading, columns_by, rows_by};
+ghost use Rattle.dft_merge.specs.LoadPlan.{columns_by, rows_by};
 ghost use Rattle.dft_merge.specs.Systems.{IsConflict, IsRefused, IsRun, IsSystem, IsTaken};
 
-use crate::loading::Loading;
+use crate::loads::Loads;
 use dft_gf2::{Outcome, System};
 use dft_netlist::InstanceId;
-use std::alloc::AllocError;
+use std::alloc::{AllocError, Global};
 
 // Adds the equation of a scanned cell, and says whether it can hold with those that are kept.
-fn add_cell(
-    system: &mut System,
-    loading: &Loading<'_>,
-    cell: InstanceId,
-    bit: bool,
-    id: u32,
-) -> bool
-    requires loading { IsLoading loading.now }
-    requires columns { system.old.columns ≡ columns_by loading.now }
-    requires scanned { rows_by loading.now cell ≡ None → ⊥ }
-    ensures columns { system.new.columns ≡ columns_by loading.now }
-    ensures added { let e : Equation = record { row = unwrap_or (rows_by loading.now cell) []; bit = bit; id = id } in
-        MatchBool result (IsTaken (columns_by loading.now) system.old.kept e system.new.kept) (IsConflict (columns_by loading.now) e system.old system.new) }
+fn add_cell(system: &mut System, loads: &Loads<'_>, cell: InstanceId, bit: bool, id: u32) -> bool
+    requires columns { system.old.columns ≡ columns_by loads.now }
+    requires scanned { rows_by loads.now cell ≡ None → ⊥ }
+    ensures columns { system.new.columns ≡ columns_by loads.now }
+    ensures added { let e : Equation = record { row = unwrap_or (rows_by loads.now cell) []; bit = bit; id = id } in
+        MatchBool result (IsTaken (columns_by loads.now) system.old.kept e system.new.kept) (IsConflict (columns_by loads.now) e system.old system.new) }
 {
-    match loading.row(cell) {
+    match loads.row(cell) {
         Some(row) => match system.try_add(row, bit, id) {
             Outcome::Kept => true,
             Outcome::Implied => true,
@@ -41,20 +34,20 @@ fn add_cell(
 // whether there is none.
 pub(crate) fn add_cells(
     system: &mut System,
-    loading: &Loading<'_>,
+    loads: &Loads<'_>,
     cells: &[(InstanceId, bool)],
 ) -> bool
-    requires loading { IsLoading loading.now }
-    requires columns { system.old.columns ≡ columns_by loading.now }
-    requires scanned { spec.first_unscanned (rows_by loading.now) cells.now ≡ None }
+    requires columns { system.old.columns ≡ columns_by loads.now }
+    requires scanned { spec.first_unscanned (rows_by loads.now) cells.now ≡ None }
     requires few { length cells.now < 2 ^ 32 }
-    ensures columns { system.new.columns ≡ columns_by loading.now }
+    ensures columns { system.new.columns ≡ columns_by loads.now }
     ensures added { MatchBool result
-        (IsRun (columns_by loading.now) system.old.kept (equations_of (rows_by loading.now) cells.now) system.new.kept [])
-        (IsRefused (columns_by loading.now) (equations_of (rows_by loading.now) cells.now) system.old system.new) }
+        (IsRun (columns_by loads.now) system.old.kept (equations_of (rows_by loads.now) cells.now) system.new.kept [])
+        (IsRefused (columns_by loads.now) (equations_of (rows_by loads.now) cells.now) system.old system.new) }
 {
+    loads.soundness();
     for (id, given) in cells.iter().enumerate() {
-        if !add_cell(system, loading, given.0, given.1, id as u32) {
+        if !add_cell(system, loads, given.0, given.1, id as u32) {
             return false;
         }
     }
@@ -63,17 +56,18 @@ pub(crate) fn add_cells(
 
 // A new system with the equations of scanned cells that some channel bits load.
 pub(crate) fn system_of(
-    loading: &Loading<'_>,
+    alloc: Global,
+    loads: &Loads<'_>,
     cells: &[(InstanceId, bool)],
 ) -> Result<System, AllocError>
-    requires loading { IsLoading loading.now }
-    requires scanned { spec.first_unscanned (rows_by loading.now) cells.now ≡ None }
-    requires solvable { IsSolvable (columns_by loading.now) (equations_of (rows_by loading.now) cells.now) }
-    ensures { IfOk result (IsSystem (columns_by loading.now) (equations_of (rows_by loading.now) cells.now)) }
+    requires scanned { spec.first_unscanned (rows_by loads.now) cells.now ≡ None }
+    requires solvable { IsSolvable (columns_by loads.now) (equations_of (rows_by loads.now) cells.now) }
+    ensures { IfOk result (IsSystem (columns_by loads.now) (equations_of (rows_by loads.now) cells.now)) }
 {
-    let mut system = System::new(loading.alloc, loading.equations.columns())?;
+    loads.soundness();
+    let mut system = System::new(alloc, loads.equations().columns())?;
     for given in cells {
-        add_cell(&mut system, loading, given.0, given.1, 0);
+        add_cell(&mut system, loads, given.0, given.1, 0);
     }
     Ok(system)
 }

@@ -3,11 +3,12 @@
 ghost use Rattle.std.specs.Prelude.{◌≡◌, ◌<◌, ◌^◌, ◌++◌, None, length, IfOk, MatchBool, MatchOption, OnErr, OnOk};
 ghost use Rattle.dft_merge.specs.Placement as spec;
 ghost use Rattle.dft_merge.specs.Placement.{Fits, cell_number, joined, port_number};
-ghost use Rattle.dft_merge.specs.Slots.{AreSlots, IsJoined, IsLoading, IsSlot, NoneFrom, columns_by, rows_by};
+ghost use Rattle.dft_merge.specs.LoadPlan.{columns_by, rows_by};
+ghost use Rattle.dft_merge.specs.Slots.{AreSlots, IsJoined, IsSlot, NoneFrom};
 ghost use Rattle.dft_merge.specs.Tables.{IsTable, missing_by};
 
 use crate::adding::add_cells;
-use crate::loading::Loading;
+use crate::loads::Loads;
 use crate::slot::{Slot, grow_for, opposes};
 use crate::tables::{note_cells, note_ports, push_missing_cells, push_missing_ports};
 use dft_base::Listed;
@@ -71,30 +72,30 @@ fn give(alloc: Global, slot: &mut Slot, pattern: &mut Merged, cube: &Cube) -> Re
 
 // Puts a cube of scanned cells into an open pattern where it fits, and says whether it does.
 fn join(
-    loading: &Loading<'_>,
+    alloc: Global,
+    loads: &Loads<'_>,
     slot: &mut Slot,
     pattern: &mut Merged,
     cube: &Cube,
 ) -> Result<bool, AllocError>
-    requires loading { IsLoading loading.now }
-    requires scanned { spec.first_unscanned (rows_by loading.now) cube.now.cells ≡ None }
+    requires scanned { spec.first_unscanned (rows_by loads.now) cube.now.cells ≡ None }
     requires few { length cube.now.cells < 2 ^ 32 }
-    requires slot { IsSlot (columns_by loading.now) (rows_by loading.now) pattern.old slot.old }
-    ensures slot { IsSlot (columns_by loading.now) (rows_by loading.now) pattern.new slot.new }
+    requires slot { IsSlot (columns_by loads.now) (rows_by loads.now) pattern.old slot.old }
+    ensures slot { IsSlot (columns_by loads.now) (rows_by loads.now) pattern.new slot.new }
     ensures joined { IfOk result (λ fits. MatchBool fits
-        (Fits (columns_by loading.now) (rows_by loading.now) pattern.old cube.now × (pattern.new ≡ joined pattern.old cube.now))
-        ((Fits (columns_by loading.now) (rows_by loading.now) pattern.old cube.now → ⊥) × (pattern.new ≡ pattern.old))) }
+        (Fits (columns_by loads.now) (rows_by loads.now) pattern.old cube.now × (pattern.new ≡ joined pattern.old cube.now))
+        ((Fits (columns_by loads.now) (rows_by loads.now) pattern.old cube.now → ⊥) × (pattern.new ≡ pattern.old))) }
     ensures err { OnErr result (pattern.new ≡ pattern.old) }
 {
     if pattern.domain != cube.domain || opposes(&slot.cells, &slot.ports, cube) {
         return Ok(false);
     }
     let mark = slot.system.mark();
-    if !add_cells(&mut slot.system, loading, cube.cells.as_slice()) {
+    if !add_cells(&mut slot.system, loads, cube.cells.as_slice()) {
         slot.system.back_to(mark);
         return Ok(false);
     }
-    match give(loading.alloc, slot, pattern, cube) {
+    match give(alloc, slot, pattern, cube) {
         Ok(()) => Ok(true),
         Err(error) => {
             slot.system.back_to(mark);
@@ -105,25 +106,26 @@ fn join(
 
 // Puts a cube of scanned cells into the first of the open patterns that it fits, and tells that pattern's number.
 pub(crate) fn join_first(
-    loading: &Loading<'_>,
+    alloc: Global,
+    loads: &Loads<'_>,
     slots: &mut [Slot],
     patterns: &mut [Merged],
     first: usize,
     cube: &Cube,
 ) -> Result<Option<usize>, AllocError>
-    requires loading { IsLoading loading.now }
-    requires scanned { spec.first_unscanned (rows_by loading.now) cube.now.cells ≡ None }
+    requires scanned { spec.first_unscanned (rows_by loads.now) cube.now.cells ≡ None }
     requires few { length cube.now.cells < 2 ^ 32 }
-    requires slots { AreSlots (columns_by loading.now) (rows_by loading.now) first patterns.old slots.old }
-    ensures slots { AreSlots (columns_by loading.now) (rows_by loading.now) first patterns.new slots.new }
+    requires slots { AreSlots (columns_by loads.now) (rows_by loads.now) first patterns.old slots.old }
+    ensures slots { AreSlots (columns_by loads.now) (rows_by loads.now) first patterns.new slots.new }
     ensures joined { IfOk result (λ found. MatchOption found
-        (NoneFrom (columns_by loading.now) (rows_by loading.now) first patterns.old cube.now (length patterns.old) × (patterns.new ≡ patterns.old))
-        (IsJoined (columns_by loading.now) (rows_by loading.now) first patterns.old cube.now patterns.new)) }
+        (NoneFrom (columns_by loads.now) (rows_by loads.now) first patterns.old cube.now (length patterns.old) × (patterns.new ≡ patterns.old))
+        (IsJoined (columns_by loads.now) (rows_by loads.now) first patterns.old cube.now patterns.new)) }
     ensures err { OnErr result (patterns.new ≡ patterns.old) }
 {
     for place in 0..slots.len() {
         if join(
-            loading,
+            alloc,
+            loads,
             &mut slots[place],
             &mut patterns[first + place],
             cube,

@@ -5,7 +5,7 @@ mod adding;
 mod fills;
 mod joining;
 mod laws;
-mod loading;
+mod loads;
 mod merger;
 mod opening;
 mod placed;
@@ -16,5 +16,6 @@ pub use fills::fill_bits;
 pub use laws::{
     cubes_stay, patterns_are_sound, placement_is_one, plans_stand_apart, unsolvable_is_exact,
 };
+pub use loads::Loads;
 pub use merger::Merger;
 pub use placed::Placed;

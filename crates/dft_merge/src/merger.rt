@@ -1,33 +1,30 @@
-ghost use Rattle.std.specs.Prelude.{◌≡◌, ◌≤◌, ◌<◌, ◌^◌, ℕ, [], None, Some, length, map, IfOk, MatchOption, OnErr, slice_get};
+ghost use Rattle.std.specs.Prelude.{◌≡◌, ◌≤◌, ◌<◌, ◌^◌, ℕ, [], None, Some, length, IfOk, MatchOption, OnErr, slice_get};
 ghost use Rattle.dft_base.specs.Solutions.{bit_at, IsChosen};
-ghost use Rattle.dft_equations.specs.LoadRows.{AreLoadEquations};
 ghost use Rattle.dft_gf2.specs.Like.{AnswersLike};
 ghost use Rattle.dft_lanes.specs.Rows.{bits_of, IsPacked};
 ghost use Rattle.dft_cubes.specs.declared.cube.Merged.{Merged};
-ghost use Rattle.dft_merge.specs.Rows.{StandApart};
 ghost use Rattle.dft_merge.specs.Placement as spec;
-ghost use Rattle.dft_merge.specs.Placement.{Joins, Loads, NoneFits, Places, equations_of};
+ghost use Rattle.dft_merge.specs.Placement.{Joins, NoneFits, Places, equations_of};
 ghost use Rattle.dft_merge.specs.Merging.{columns_in, rows_in};
 
 use crate::adding::{add_cells, system_of};
 use crate::joining::join_first;
-use crate::loading::Loading;
+use crate::loads::Loads;
 use crate::opening::open;
 use crate::placed::Placed;
 use crate::slot::Slot;
 use dft_base::Listed;
-use dft_config::Config;
 use dft_cubes::{Cube, Merged};
-use dft_equations::Equations;
 use dft_gf2::{Fill, Mark, System};
-use dft_stitch::Chains;
 use std::alloc::{AllocError, Global};
 use std::marker::Model;
 
-/// Puts cubes together into patterns. A clause sees the chains, the load equations, the window and the patterns.
+/// Puts cubes together into patterns. A clause sees the planned design with its load equations, the
+/// window and the patterns.
 #[derive(Drop)]
 pub struct Merger<'a> {
-    loading: Loading<'a>,
+    alloc: Global,
+    loads: &'a Loads<'a>,
     window: usize,
     patterns: Vec<Merged>,
     // What is kept of the open patterns, the oldest first.
@@ -50,33 +47,30 @@ impl<'a> Model for Merger<'a> {
 }
 
 impl<'a> Merger<'a> {
-    /// The merger of cubes for these chains and the load equations of their places; no cube is placed yet. Of the
-    /// patterns as many as the window has are open, the last ones, whatever their clocks.
-    pub fn new(
-        alloc: Global,
-        config: &Config,
-        chains: &'a Chains,
-        equations: &'a Equations,
-    ) -> Result<Merger<'a>, AllocError>
-        requires equations { AreLoadEquations config.now.ring (map length chains.now.chains) chains.now.cycles equations.now }
-        requires apart { StandApart chains.now.chains }
-        ensures { IfOk result (λ merger. merger ≡ record { chains = chains.entry.now.chains; rows = equations.entry.now; window = config.now.window; patterns = [] }) }
+    /// The merger of cubes for the load equations of a planned design; no cube is placed yet. Of the patterns as many as
+    /// the window has are open, the last ones, whatever their clocks.
+    pub fn new(alloc: Global, loads: &'a Loads<'a>) -> Result<Merger<'a>, AllocError>
+        ensures { IfOk result (λ merger. merger ≡ record { loads = loads.entry.now; window = loads.entry.now.config.window; patterns = [] }) }
     {
-        config.soundness();
-        let alone = System::new(alloc, equations.columns())?;
+        loads.soundness();
+        let alone = System::new(alloc, loads.equations().columns())?;
         let start = alone.mark();
         Ok(Merger {
-            loading: Loading {
-                alloc,
-                chains,
-                equations,
-            },
-            window: config.window() as usize,
+            alloc,
+            loads,
+            window: loads.config().window() as usize,
             patterns: Vec::new(alloc),
             slots: Vec::new(alloc),
             alone,
             start,
         })
+    }
+
+    /// The planned design with its load equations.
+    pub fn loads(&self) -> &'a Loads<'a>
+        ensures { result.now ≡ self.now.loads }
+    {
+        self.loads
     }
 
     /// Places a cube (static compaction): one that names a cell that is not scanned is skipped; another goes into the oldest
@@ -88,7 +82,7 @@ impl<'a> Merger<'a> {
         ensures same { self.new ≡ record self.old { patterns = self.new.patterns } }
         ensures err { OnErr result (self.new ≡ self.old) }
     {
-        if let Some(cell) = self.loading.first_unscanned(cube.cells.as_slice()) {
+        if let Some(cell) = self.loads.first_unscanned(cube.cells.as_slice()) {
             return Ok(Placed::Skipped(cell));
         }
         match self.join(cube)? {
@@ -109,7 +103,8 @@ impl<'a> Merger<'a> {
     {
         let first = self.patterns.len() - self.slots.len();
         join_first(
-            &self.loading,
+            self.alloc,
+            self.loads,
             &mut self.slots,
             &mut self.patterns,
             first,
@@ -127,14 +122,16 @@ impl<'a> Merger<'a> {
         ensures same { self.new ≡ record self.old { patterns = self.new.patterns } }
         ensures err { OnErr result (self.new ≡ self.old) }
     {
+        self.loads.soundness();
         self.alone.back_to(self.start);
-        if !add_cells(&mut self.alone, &self.loading, cube.cells.as_slice()) {
-            let ids = self.alone.certificate(self.loading.alloc)?;
+        if !add_cells(&mut self.alone, self.loads, cube.cells.as_slice()) {
+            let ids = self.alone.certificate(self.alloc)?;
             return Ok(Placed::Unsolvable(Listed::from_vec(ids)));
         }
         let number = self.patterns.len() as u32;
         open(
-            &self.loading,
+            self.alloc,
+            self.loads,
             self.window,
             &mut self.alone,
             &mut self.slots,
@@ -165,17 +162,19 @@ impl<'a> Merger<'a> {
         ensures chosen { IfOk result (λ words. (merged : Merged) → slice_get self.now.patterns pattern ≡ Some merged →
             IsChosen (columns_in self.now) (equations_of (rows_in self.now) merged.cells) fill.now.like.now (bits_of (columns_in self.now) words.items)) }
         ensures loads { IfOk result (λ words. (merged : Merged) → slice_get self.now.patterns pattern ≡ Some merged →
-            Loads (columns_in self.now) (rows_in self.now) (bit_at (bits_of (columns_in self.now) words.items)) merged.cells) }
+            spec.Loads (columns_in self.now) (rows_in self.now) (bit_at (bits_of (columns_in self.now) words.items)) merged.cells) }
     {
         let pattern = pattern as usize;
         let first = self.patterns.len() - self.slots.len();
         if first <= pattern {
-            self.slots[pattern - first]
-                .system
-                .solve(self.loading.alloc, fill)
+            self.slots[pattern - first].system.solve(self.alloc, fill)
         } else {
-            let system = system_of(&self.loading, self.patterns[pattern].cells.as_slice())?;
-            system.solve(self.loading.alloc, fill)
+            let system = system_of(
+                self.alloc,
+                self.loads,
+                self.patterns[pattern].cells.as_slice(),
+            )?;
+            system.solve(self.alloc, fill)
         }
     }
 }

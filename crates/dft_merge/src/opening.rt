@@ -3,11 +3,12 @@
 ghost use Rattle.std.specs.Prelude.{◌≡◌, ◌≤◌, ◌<◌, ◌-◌, ◌++◌, ◌∷◌, [], length, IfOk, OnErr, OnOk, vec_len};
 ghost use Rattle.std.specs.Vec.{vec_capacity};
 ghost use Rattle.dft_merge.specs.Placement.{begun, cell_number, equations_of, port_number};
-ghost use Rattle.dft_merge.specs.Slots.{AreSlots, HasPlace, HaveColumns, IsNextCount, IsPut, columns_by, rows_by};
+ghost use Rattle.dft_merge.specs.LoadPlan.{columns_by, rows_by};
+ghost use Rattle.dft_merge.specs.Slots.{AreSlots, HasPlace, HaveColumns, IsNextCount, IsPut};
 ghost use Rattle.dft_merge.specs.Systems.{IsSystem};
 ghost use Rattle.dft_merge.specs.Tables.{IsTable};
 
-use crate::loading::Loading;
+use crate::loads::Loads;
 use crate::slot::{Slot, grow_for};
 use crate::tables::{note_cells, note_ports};
 use dft_base::Listed;
@@ -69,21 +70,22 @@ fn draft_of(alloc: Global, cube: &Cube) -> Result<Draft, AllocError>
 
 // Makes room for one pattern more, and a slot for it at the end: a new one, or the oldest where the window is full.
 fn make_room(
-    loading: &Loading<'_>,
+    alloc: Global,
+    loads: &Loads<'_>,
     window: usize,
     slots: &mut Vec<Slot>,
     patterns: &mut Vec<Merged>,
 ) -> Result<(), AllocError>
     requires window { 1 ≤ window }
-    requires columns { HaveColumns (columns_by loading.now) slots.old.items }
+    requires columns { HaveColumns (columns_by loads.now) slots.old.items }
     ensures patterns { patterns.new.items ≡ patterns.old.items }
     ensures room { OnOk result (vec_len patterns.new < vec_capacity patterns.new) }
-    ensures ok { OnOk result (HasPlace (columns_by loading.now) window slots.old.items slots.new.items) }
+    ensures ok { OnOk result (HasPlace (columns_by loads.now) window slots.old.items slots.new.items) }
     ensures err { OnErr result (slots.new.items ≡ slots.old.items) }
 {
     patterns.reserve(1)?;
     if slots.len() < window {
-        slots.push(Slot::blank(loading.alloc, loading.equations.columns())?)?;
+        slots.push(Slot::blank(alloc, loads.equations().columns())?)?;
     } else {
         slots.rotate_left(1);
     }
@@ -108,7 +110,8 @@ fn put(draft: Draft, system: &mut System, slots: &mut [Slot], patterns: &mut Vec
 // Begins a pattern with a cube whose equations the system has, and closes the oldest open one where the window is full.
 // The system becomes that of a closed pattern, or a new one.
 pub(crate) fn open(
-    loading: &Loading<'_>,
+    alloc: Global,
+    loads: &Loads<'_>,
     window: usize,
     system: &mut System,
     slots: &mut Vec<Slot>,
@@ -117,17 +120,17 @@ pub(crate) fn open(
 ) -> Result<(), AllocError>
     requires window { 1 ≤ window }
     requires few { length slots.old.items ≤ window }
-    requires system { IsSystem (columns_by loading.now) (equations_of (rows_by loading.now) cube.now.cells) system.old }
-    requires slots { AreSlots (columns_by loading.now) (rows_by loading.now) (length patterns.old.items - length slots.old.items) patterns.old.items slots.old.items }
-    ensures columns { system.new.columns ≡ columns_by loading.now }
+    requires system { IsSystem (columns_by loads.now) (equations_of (rows_by loads.now) cube.now.cells) system.old }
+    requires slots { AreSlots (columns_by loads.now) (rows_by loads.now) (length patterns.old.items - length slots.old.items) patterns.old.items slots.old.items }
+    ensures columns { system.new.columns ≡ columns_by loads.now }
     ensures ok { OnOk result (patterns.new.items ≡ patterns.old.items ++ begun cube.now ∷ []) }
-    ensures slots { OnOk result (AreSlots (columns_by loading.now) (rows_by loading.now) (length patterns.new.items - length slots.new.items) patterns.new.items slots.new.items) }
+    ensures slots { OnOk result (AreSlots (columns_by loads.now) (rows_by loads.now) (length patterns.new.items - length slots.new.items) patterns.new.items slots.new.items) }
     ensures count { OnOk result (IsNextCount window (length slots.old.items) (length slots.new.items)) }
     ensures err_patterns { OnErr result (patterns.new.items ≡ patterns.old.items) }
     ensures err_slots { OnErr result (slots.new.items ≡ slots.old.items) }
 {
-    let draft = draft_of(loading.alloc, cube)?;
-    make_room(loading, window, slots, patterns)?;
+    let draft = draft_of(alloc, cube)?;
+    make_room(alloc, loads, window, slots, patterns)?;
     put(draft, system, slots, patterns);
     Ok(())
 }

@@ -1,20 +1,15 @@
 //! Cubes that are put together into patterns, and the channel bits of each pattern, worked by hand.
 
-ghost use Rattle.std.specs.Prelude.{◌≡◌, ◌<◌, length, map, IfOk, IfSome, OnOk, nat_le};
-ghost use Rattle.std.specs.List.{list_all};
-ghost use Rattle.dft_equations.specs.LoadRows.{AreLoadEquations};
-ghost use Rattle.dft_stitch.specs.Chains.{plan_of};
+ghost use Rattle.std.specs.Prelude.{◌≡◌, ◌<◌, length, OnOk};
 ghost use Rattle.dft_merge.specs.Merging.{columns_in};
-ghost use Rattle.dft_merge.specs.Rows.{StandApart};
 
 use crate::lines::{Job, Texts, Told, line_for};
 use crate::texts::{ON_CLK, RING, SMALL, TWO_CLOCKS, WIDE, wide_cubes};
 use dft_config::Config;
 use dft_cubes::Cube;
-use dft_equations::{Equations, equations};
 use dft_gf2::Fill;
-use dft_merge::{Merger, Placed, fill_bits, plans_stand_apart};
-use dft_stitch::Chains;
+use dft_merge::{Loads, Merger, Placed, fill_bits};
+use dft_stitch::Planned;
 use dft_text_tests::ring_of_forty;
 use std::alloc::{AllocError, Global};
 use std::test::Fail;
@@ -130,28 +125,6 @@ static CASES: [(&str, &str, &str, &str, &str); 14] = [
     ),
 ];
 
-// The numbers of cells of the chains, where none has more than so many.
-fn lengths_of(alloc: Global, chains: &Chains, most: u16) -> Result<Option<Vec<u16>>, AllocError>
-    ensures { IfOk result (λ found. IfSome found (λ lengths. lengths.items ≡ map length chains.now.chains)) }
-{
-    let mut lengths = Vec::new(alloc);
-    for chain in 0..chains.count() {
-        let cells = chains.chain(chain).len();
-        if cells > usize::from(most) {
-            return Ok(None);
-        }
-        lengths.push(cells as u16)?;
-    }
-    Ok(Some(lengths))
-}
-
-// Whether no chain has more than so many cells.
-fn are_at_most(lengths: &[u16], cycles: u16) -> bool
-    ensures { result ≡ list_all (λ cells. nat_le cells cycles) lengths.now }
-{
-    lengths.iter().all(|cells| *cells <= cycles)
-}
-
 // What became of a cube.
 fn push_placed(alloc: Global, line: &mut String, placed: Placed) -> Result<(), AllocError> {
     if !line.is_empty() {
@@ -244,55 +217,24 @@ fn push_all_bits(
     Ok(())
 }
 
-// What becomes of cubes.
-fn merged(
-    alloc: Global,
-    config: &Config,
-    chains: &Chains,
-    equations: &Equations,
-    cubes: &[Cube],
-) -> Result<String, AllocError>
-    requires equations { AreLoadEquations config.now.ring (map length chains.now.chains) chains.now.cycles equations.now }
-    requires apart { StandApart chains.now.chains }
-{
+// What becomes of cubes over the load equations of a planned design.
+fn merged(alloc: Global, loads: &Loads<'_>, cubes: &[Cube]) -> Result<String, AllocError> {
     let mut line = String::new(alloc);
-    let mut merger = Merger::new(alloc, config, chains, equations)?;
+    let columns = loads.equations().columns();
+    let mut merger = Merger::new(alloc, loads)?;
     place_all(alloc, &mut line, &mut merger, cubes)?;
-    push_all_bits(alloc, &mut line, &merger, config, equations.columns())?;
+    push_all_bits(alloc, &mut line, &merger, loads.config(), columns)?;
     Ok(line)
 }
 
-// The same, over the load equations of chains of these lengths.
-fn loaded(
-    alloc: Global,
-    config: &Config,
-    chains: &Chains,
-    lengths: &[u16],
-    cubes: &[Cube],
-) -> Result<String, AllocError>
-    requires lengths { map length chains.now.chains ≡ lengths.now }
-    requires apart { StandApart chains.now.chains }
-{
-    let cycles = chains.cycles();
-    if lengths.len() != usize::from(config.chains())
-        || !are_at_most(lengths, cycles)
-        || u32::from(cycles) * u32::from(config.ring().channels) > 16_384
-    {
-        return String::from_str(alloc, "not loaded");
-    }
-    let equations = equations(alloc, config, lengths, cycles)?;
-    merged(alloc, config, chains, &equations, cubes)
-}
-
 // What becomes of the cubes of a job.
-pub(crate) fn line(alloc: Global, job: &Job<'_>) -> Result<String, AllocError>
-    requires chains { job.now.chains.now ≡ plan_of job.now.design.now job.now.config.now }
-{
-    job.config.soundness();
-    plans_stand_apart();
-    match lengths_of(alloc, job.chains, job.chains.cycles())? {
-        Some(lengths) => loaded(alloc, job.config, job.chains, &lengths, job.cubes),
-        None => String::from_str(alloc, "too long"),
+pub(crate) fn line(alloc: Global, job: &Job<'_>) -> Result<String, AllocError> {
+    match Planned::prepare(alloc, job.design, job.config).ok() {
+        Some(planned) => {
+            let loads = Loads::prepare(alloc, planned)?;
+            merged(alloc, &loads, job.cubes)
+        }
+        None => String::from_str(alloc, "not planned"),
     }
 }
 

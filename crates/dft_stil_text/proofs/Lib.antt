@@ -6,3 +6,4 @@ pub mod WellShaped
 pub mod WellFitted
 pub mod WellFormed
 pub mod LimitLemmas
+pub mod BeyondLemmas

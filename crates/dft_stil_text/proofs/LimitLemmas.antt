@@ -21,7 +21,7 @@ use Rattle.dft_stil_text.proofs.GivenRules.{Gives, after_any, then_gives, pure_g
 use Rattle.dft_stil_text.proofs.WellFormed.{few_vectors, well_formed}
 
 -- what the first outcome gives, and what has so many vectors at most, the second gives too
-abbrev Kept : {A : Type 0} → (A → ℕ) → ℕ → Outcome A → Outcome A → Type 0
+abbrev pub Kept : {A : Type 0} → (A → ℕ) → ℕ → Outcome A → Outcome A → Type 0
 Kept {A} size n o o' = (a : A) (x : List Token) → o ≡ Ok (a, x) → size a ≤ n → o' ≡ Ok (a, x)
 
 same_kept : {A : Type 0} (size : A → ℕ) (n : ℕ) (o : Outcome A) → Kept size n o o
@@ -58,14 +58,14 @@ needed_kept size n why place false u rule ts h a x e few = absurd (true≢false 
 -- ---- vectors
 
 -- how many vectors a pattern has so far
-abbrev count : PatternBlock → ℕ
+abbrev pub count : PatternBlock → ℕ
 count p = length p.vectors
 
 -- at least as many vectors as this one
 abbrev Grown : PatternBlock → PatternBlock → Type 0
 Grown p q = count p ≤ count q
 
-one_more : (names : Names) (tables : WaveformTables) (p : PatternBlock)
+pub one_more : (names : Names) (tables : WaveformTables) (p : PatternBlock)
     → Gives (λ q. count q ≡ suc (count p)) (expect kind.OpenBrace >> ((λ us. assignments_from (left us) names (spec.waveforms_at tables p.table) (spec.vector_after p.acts) us) >>= (λ v. pure (spec.with_acts v.acts p))))
 one_more names tables p =
     after_any (λ q. count q ≡ suc (count p)) (expect kind.OpenBrace) _ (λ u. after_any (λ q. count q ≡ suc (count p)) _ _ (λ v.
@@ -89,20 +89,27 @@ unfolding labelled
 labelled_kept m n names tables p ts =
     after_kept count n (name ts) _ _ (λ u us. after_kept count n (expect kind.Colon us) _ _ (λ v vs. vector_kept m n names tables p vs))
 
-statement_kept : (m n : ℕ) (names : Names) (tables : WaveformTables) (p : PatternBlock) (ts : List Token) → Kept count n (statement m names tables p ts) (statement n names tables p ts)
+pub statement_kept : (m n : ℕ) (names : Names) (tables : WaveformTables) (p : PatternBlock) (ts : List Token) → Kept count n (statement m names tables p ts) (statement n names tables p ts)
 unfolding statement
 statement_kept m n names tables p ts =
     if_kept count n (sees_word (codes "W") ts) _ _ _ _ (same_kept count n (table_used tables p (next ts))) (if_kept count n (sees_word (codes "V") ts) _ _ _ _ (vector_kept m n names tables p ts)
     (if_kept count n (sees_left_out ts) _ _ _ _ (same_kept count n (Err (unsupported ts))) (labelled_kept m n names tables p ts)))
 
-using_grows : (word : Text) (place : ℕ) (p : PatternBlock) (o : Option ℕ) → Gives (Grown p) (spec.using_table word place p o)
-using_grows word place p (Some n) = pure_gives (Grown p) (record p { table = Some n }) (omega arith)
-using_grows word place p None = λ ts. err_gives (Grown p) _
+-- as many vectors as this one
+abbrev Even : PatternBlock → PatternBlock → Type 0
+Even p q = count q ≡ count p
+
+using_even : (word : Text) (place : ℕ) (p : PatternBlock) (o : Option ℕ) → Gives (Even p) (spec.using_table word place p o)
+using_even word place p (Some n) = pure_gives (Even p) (record p { table = Some n }) refl
+using_even word place p None = λ ts. err_gives (Even p) _
+
+pub table_even : (tables : WaveformTables) (p : PatternBlock) → Gives (Even p) (table_used tables p)
+unfolding table_used
+table_even tables p ts =
+    after_any (Even p) name _ (λ word. then_gives (Even p) (Even p) _ _ (using_even word (left ts) p (number_of tables.names word)) (λ more g. after_any (Even p) (expect kind.Semicolon) _ (λ u. pure_gives (Even p) more g))) ts
 
 table_grows : (tables : WaveformTables) (p : PatternBlock) → Gives (Grown p) (table_used tables p)
-unfolding table_used
-table_grows tables p ts =
-    after_any (Grown p) name _ (λ word. then_gives (Grown p) (Grown p) _ _ (using_grows word (left ts) p (number_of tables.names word)) (λ more g. after_any (Grown p) (expect kind.Semicolon) _ (λ u. pure_gives (Grown p) more g))) ts
+table_grows tables p ts q x e = let same : count q ≡ count p = table_even tables p ts q x e in omega arith
 
 labelled_grows : (m : ℕ) (names : Names) (tables : WaveformTables) (p : PatternBlock) → Gives (Grown p) (labelled m names tables p)
 unfolding labelled
@@ -130,13 +137,13 @@ statements_kept (suc k) m n names tables p ts =
 
 -- ---- whole texts
 
-pattern_kept : (m n : ℕ) (names : Names) (t : Timing) (b : Burst) (ts : List Token) → Kept count n (pattern m names t b ts) (pattern n names t b ts)
+pub pattern_kept : (m n : ℕ) (names : Names) (t : Timing) (b : Burst) (ts : List Token) → Kept count n (pattern m names t b ts) (pattern n names t b ts)
 unfolding pattern
 pattern_kept m n names t b ts =
     after_kept count n (keyword _ ts) _ _ (λ u us. after_kept count n (known_name _ us) _ _ (λ v vs. after_kept count n (expect kind.OpenBrace vs) _ _ (λ w ws. statements_kept (left ws) m n names t.tables _ ws)))
 
 -- how many vectors patterns have
-abbrev vectors : Patterns → ℕ
+abbrev pub vectors : Patterns → ℕ
 vectors p = length p.vectors
 
 text_kept : (m n : ℕ) (ts : List Token) → Kept vectors n (stil_text m ts) (stil_text n ts)
@@ -153,7 +160,7 @@ abbrev patterns_or : Patterns → Result Patterns Refusal → Patterns
 patterns_or d (Ok p) = p
 patterns_or d (Err r) = d
 
-steady_same : (q p : Patterns) (o : Option Unsteady) → steady_or q o ≡ Ok p → q ≡ p
+pub steady_same : (q p : Patterns) (o : Option Unsteady) → steady_or q o ≡ Ok p → q ≡ p
 steady_same q p None e = ap (patterns_or q) e
 steady_same q p (Some u) e = absurd (true≢false (sym (ap is_ok e)))
 

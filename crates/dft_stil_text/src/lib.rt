@@ -7,5 +7,5 @@ mod laws;
 mod limits;
 
 pub use error::StilError;
-pub use laws::{one_reading, read_within, well_formed};
+pub use laws::{one_reading, read_within, refused_beyond, well_formed};
 pub use limits::MAX_VECTORS;

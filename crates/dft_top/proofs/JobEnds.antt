@@ -1,6 +1,5 @@
 -- How the run of a generated job ends.
-use Rattle.std.proofs.Common.{ℕ, ◌≡◌, ◌<◌, ◌≤◌, ◌⊎◌, ◌∙◌, inl, inr, List, [], refl, ap, subst, Option, Some}
-use Rattle.std.proofs.lemmas.Bool.{cases_lt}
+use Rattle.std.proofs.Common.{ℕ, ◌≡◌, ◌⊎◌, ◌∙◌, inl, inr, List, [], refl, ap, subst, Option, Some}
 use Rattle.dft_files.specs.Outside.{Rose}
 use Rattle.dft_generate.specs.Jobs.{IsSize}
 use Rattle.dft_command_line.specs.Words.{AreFor, Command, Generate, JobNumbers}
@@ -21,25 +20,17 @@ use Rattle.dft_top.proofs.Kept.{no_failing}
 abbrev JobEnds : JobNumbers → (put_faults put_faults' : ℕ) → Answer → Type 0
 JobEnds numbers put_faults put_faults' answer =
     (answer.status ≡ Done)
-    ⊎ (MayBeRefused numbers × ((refusal : Refusal) × (IsOutcomeOfJob numbers (outcome.Refused refusal) × (answer ≡ answer_of (outcome.Refused refusal)))))
+    ⊎ ((refusal : Refusal) × (MayBeRefused numbers refusal × (IsOutcomeOfJob numbers (outcome.Refused refusal) × (answer ≡ answer_of (outcome.Refused refusal)))))
     ⊎ ((answer.status ≡ WriteFault) × Rose put_faults put_faults')
     ⊎ (answer.status ≡ OutOfMemory)
 
 status_is : (a b : Answer) → a ≡ b → a.status ≡ b.status
 status_is a b same = ap (λ (c : Answer). c.status) same
 
--- one that is refused has many cells
-refused_large : JobsFit → (numbers : JobNumbers) (refusal : Refusal) → IsSize numbers.size → IsOutcomeOfJob numbers (outcome.Refused refusal) → MayBeRefused numbers
-refused_large fit numbers refusal sized is = by (cases_lt 16240 numbers.size)
-  where
-    by : (16240 < numbers.size) ⊎ (numbers.size ≤ 16240) → MayBeRefused numbers
-    by (inl large) = large
-    by (inr small) = absurd (fit numbers (outcome.Refused refusal) sized small is refusal refl)
-
 -- where its outcome is answered
 answered : JobsPass → JobsFit → (numbers : JobNumbers) (o : Outcome) (put_faults put_faults' : ℕ) (answer : Answer) → IsSize numbers.size → IsOf (Generate numbers) o → IsOutcomeOfJob numbers o → answer ≡ answer_of o → JobEnds numbers put_faults put_faults' answer
 answered pass fit numbers outcome.Usage put_faults put_faults' answer sized suits is same = absurd suits
-answered pass fit numbers (outcome.Refused refusal) put_faults put_faults' answer sized suits is same = inr (inl (refused_large fit numbers refusal sized is, (refusal, (is, same))))
+answered pass fit numbers (outcome.Refused refusal) put_faults put_faults' answer sized suits is same = inr (inl (refusal, (fit numbers (outcome.Refused refusal) sized is refusal refl, (is, same))))
 answered pass fit numbers (outcome.Finished work) put_faults put_faults' answer sized suits is same = inl (status_is answer _ same ∙ pass numbers (outcome.Finished work) (λ refusal e. cc) is)
 
 delivered : JobsPass → JobsFit → (numbers : JobNumbers) (o : Outcome) (before after : Seen) (answer : Answer) → IsSize numbers.size → IsOf (Generate numbers) o → IsOutcomeOfJob numbers o → IsDelivered (Some (Generate numbers)) o before after answer →

@@ -1,5 +1,6 @@
--- No check refuses a generated job of up to 16,240 cells.
-use Rattle.std.proofs.Common.{ℕ, ◌≡◌, ◌≤◌, ◌∙◌, inl, inr, nat_lt, false, List, [], ◌∷◌, codes, length, refl, sym, ap, subst, arith, Option, None, Some, option_map, Result, Ok, Err}
+-- A generated job is refused only for its size: where its patterns have more vectors than are read, or its report has more bytes than it may; and not up to 16,240 cells.
+use Rattle.std.proofs.Common.{ℕ, ◌≡◌, ◌<◌, ◌≤◌, ◌⊎◌, ◌∙◌, inl, inr, nat_lt, true, false, pos, List, [], ◌∷◌, codes, length, refl, sym, ap, subst, arith, Option, None, Some, option_map, Result, Ok, Err}
+use Rattle.std.proofs.lemmas.Bool.{cases_lt}
 use Rattle.std.proofs.lemmas.Bool.Decides.{nat_tests}
 use Rattle.dft_files.specs.Outside.{Held}
 use Rattle.dft_cells.specs.declared.cell.Cell.{Cell}
@@ -12,7 +13,7 @@ use Rattle.dft_netlist.specs.Orders.{IsOrder}
 use Rattle.dft_netlist.specs.Sound.{IsNetlist}
 use Rattle.dft_netlist.proofs.RankLemmas.{order_ranks}
 use Rattle.dft_netlist_text.specs.NetlistText.{StandsFor}
-use Rattle.dft_patterns.specs.Patterns.{Patterns}
+use Rattle.dft_patterns.specs.Patterns.{Patterns, IsWellFormed}
 use Rattle.dft_stil_text.specs.declared.limits.TheConstants.{MAX_VECTORS}
 use Rattle.dft_stitch.specs.declared.error.StitchError.{StitchError}
 use Rattle.dft_stitch.specs.Chains.{plan_of}
@@ -23,7 +24,12 @@ use Rattle.dft_scan_hardware.specs.declared.style.Style.TheVariants.{Edt}
 use Rattle.dft_scan_hardware.specs.Statements.{scanned}
 use Rattle.dft_stil_tokens.specs.declared.blanks.TheConstants.{MAX_TEXT}
 use Rattle.dft_stil_text.specs.declared.error.StilError.{StilError}
+use Rattle.dft_stil_text.specs.PatternText as pattern
+use Rattle.dft_replay.specs.declared.verdict.Verdict.TheVariants as verdict
+use Rattle.dft_replay.specs.Fits.{first_misfit}
+use Rattle.dft_replay.specs.Verdicts.{HasVerdict}
 use Rattle.dft_report.specs.declared.error.ReportError.{ReportError}
+use Rattle.dft_report.specs.declared.error.ReportError.TheVariants.{K6 as K6_of}
 use Rattle.dft_report.specs.declared.limits.TheConstants.{MAX_BYTES}
 use Rattle.dft_cubes.specs.declared.cube.Cube.{Cube}
 use Rattle.dft_cubes.specs.Cubes.{cubes_of}
@@ -32,9 +38,9 @@ use Rattle.dft_vectors.specs.PatternData.{PatternData}
 use Rattle.dft_encode.specs.Compiled.{ArePatterns, Placing}
 use Rattle.dft_encode.specs.Laws.{vectors_in}
 use Rattle.dft_compile.specs.declared.error.CompileError.TheVariants.{Insert, Patterns as TooManyPatterns, Report as TooLongReport, Rules, Stitch}
-use Rattle.dft_compile.specs.declared.prepared.Prepared.{Prepared}
+use Rattle.dft_stitch.specs.Planning.{Planned}
 use Rattle.dft_compile.specs.declared.texts.Counts.{Counts}
-use Rattle.dft_compile.specs.Refusals.{first_failing, first_refusal, of_length, too_many}
+use Rattle.dft_compile.specs.Refusals.{first_failing, first_refusal, of_length, too_long, too_many}
 use Rattle.dft_compile.specs.Texts as compiled
 use Rattle.dft_compile.proofs.BytesLemmas.{bytes_told, list_count, vector_count}
 use Rattle.dft_compile_laws.specs.Holding.{CompilationsHold, HoldsOf, without_notes}
@@ -59,20 +65,24 @@ use Rattle.dft_generate_laws.proofs.ScannedTexts.{scanned_are_short}
 use Rattle.dft_generate_laws.proofs.Seeds.{seeds_give_words}
 use Rattle.dft_generate_laws.proofs.Vectors.{patterns_fit}
 use Rattle.dft_command_line.specs.Words.{JobNumbers}
+use Rattle.dft_answers.specs.declared.answer.Code.TheVariants.{K6, P4}
 use Rattle.dft_answers.specs.declared.answer.Refusal.{Refusal}
 use Rattle.dft_answers.specs.declared.outcome.Outcome.{Outcome}
-use Rattle.dft_answers.specs.declared.outcome.Outcome.TheVariants.{Finished}
+use Rattle.dft_answers.specs.declared.outcome.Outcome.TheVariants.{Finished, Refused}
 use Rattle.dft_answers.specs.declared.outcome.Work.TheVariants.{Compiled}
+use Rattle.dft_answers.specs.Refusals.{measured}
 use Rattle.dft_io.specs.Texts.{FileGives}
-use Rattle.dft_top.specs.declared.limits.TheConstants.{MAX_CONFIG_BYTES, MAX_CUBE_BYTES, MAX_NETLIST_BYTES}
-use Rattle.dft_top.specs.Checks.{ConfigGives, ConfigText, CubeText, CubesGive, DesignGives, IsReadied, LibraryGives, NetlistGives, NetlistText, PatternsGive}
+use Rattle.dft_top.specs.declared.limits.TheConstants.{MAX_CONFIG_BYTES, MAX_CUBE_BYTES, MAX_NETLIST_BYTES, MAX_PATTERN_BYTES}
+use Rattle.dft_top.specs.Checks.{ConfigGives, ConfigText, CubeText, CubesGive, DesignGives, IsReadied, LibraryGives, NetlistGives, NetlistText, PatternText, PatternsGive}
 use Rattle.dft_top.specs.Courses.{Reaches, Then}
 use Rattle.dft_top.specs.Outcomes.{IsCompiled, IsOutcomeOfCubes, IsOutcomeOfJob, IsOutcomeOfPlacing, IsOutcomeOn, IsReplayedOf, course_of_compile, generated, job_files, made_files, made_held, refusal_of, texts_held}
+use Rattle.dft_top.specs.Run.{IsForSize, MayBeRefused}
 use Rattle.dft_top.proofs.Lengths.{late_short}
-use Rattle.dft_top.proofs.PassingFiles.{replay_due}
+use Rattle.dft_top.proofs.ManyVectors.{replay_many}
+use Rattle.dft_top.proofs.PassingFiles.{replay_read}
 use Rattle.dft_top.proofs.Promised.{are_cubes}
-use Rattle.dft_top.proofs.Readings.{accepted_or_refused, config_one, config_refused, cubes_refused, netlist_refused, ok_same, stands_one}
-use Rattle.dft_top.proofs.Replays.{IsAccepted, on_passes}
+use Rattle.dft_top.proofs.Readings.{accepted_or_refused, config_one, config_refused, cubes_refused, file_one, given_next, netlist_refused, ok_same, pattern_text_one, stands_one}
+use Rattle.dft_top.proofs.Replays.{on_passes}
 use Rattle.dft_top.proofs.Steps.{CompileOf, CompileOn, CompileOver, CompileWith}
 
 -- ---- steps that give one value and are not refused
@@ -123,7 +133,7 @@ record IsRead (netlist config cubes : List ℕ) (n : Netlist) (c : Config) (give
   accepted : first_refusal n c ≡ None
   read : cubes_of n c cubes ≡ Ok given
 
-design_given : (n : Netlist) (c : Config) (next : Prepared → Outcome → Type 0) (o : Outcome) → first_refusal n c ≡ None → Then (DesignGives n c) next o → (prepared : Prepared) × (IsReadied n c prepared × next prepared o)
+design_given : (n : Netlist) (c : Config) (next : Planned → Outcome → Type 0) (o : Outcome) → first_refusal n c ≡ None → Then (DesignGives n c) next o → (prepared : Planned) × (IsReadied n c prepared × next prepared o)
 design_given n c next o none (inl x) = x
 design_given n c next o none (inr x) = absurd (accepted_or_refused (first_refusal n c) x.1.0.0 none x.1.0.1.0)
 
@@ -153,40 +163,82 @@ reached netlist config cubes n c given o r x =
 record IsWithin (n : Netlist) (c : Config) (given : List Cube) : Type 0 where
   library : n.library ≡ standard_cells
   netlist_short : length (compiled.netlist_text n c) ≤ MAX_NETLIST_BYTES
-  late : (placing : Placing c (plan_of n c) given) (list : List PatternData) → IsInRange c → ArePatterns n c (plan_of n c) placing.rows placing.merged list → refusal_of n c given placing list ≡ None
-  few : (placing : Placing c (plan_of n c) given) (list : List PatternData) → ArePatterns n c (plan_of n c) placing.rows placing.merged list → length (set_of n c list).vectors ≤ MAX_VECTORS
+  not_many : (placing : Placing c (plan_of n c) given) (list : List PatternData) → IsInRange c → ArePatterns n c (plan_of n c) placing.rows placing.merged list → too_many (length (compiled.pattern_text n c list)) ≡ None
 
-accepted : CompilationsHold → (n : Netlist) (c : Config) (given : List Cube) (compilation o : Outcome) → IsWithin n c given → IsReached n c given compilation → IsReplayedOf compilation o → IsAccepted o
-accepted hold n c given compilation o within r x =
+-- what is compiled, and a replay that comes to its patterns
+record IsPlayed (n : Netlist) (c : Config) (p : Patterns) (text : List ℕ) (counts : Counts) (replay o : Outcome) : Type 0 where
+  order : List ℕ
+  sound : IsNetlist (scanned Edt n c)
+  ordered : IsOrder (scanned Edt n c) order
+  short : length text ≤ MAX_PATTERN_BYTES
+  stands : pattern.StandsFor text p
+  formed : IsWellFormed p
+  compared : ℕ
+  fits : first_misfit (scanned Edt n c) p.signals ≡ None
+  passes : HasVerdict (scanned Edt n c) p (verdict.Pass compared)
+  read : Then (PatternsGive (codes "patterns") (made_held (compiled.netlist_text n c) text)) (λ q. IsOutcomeOn (scanned Edt n c) q (first_misfit (scanned Edt n c) q.signals)) replay
+  same : o ≡ generated counts replay
+
+played : (n : Netlist) (c : Config) (given : List Cube) (compilation o : Outcome) → IsWithin n c given → (r : IsReached n c given compilation) → HoldsOf n c given r.outcome.placing r.outcome.list → refusal_of n c given r.outcome.placing r.outcome.list ≡ None →
+    IsReplayedOf compilation o → (counts : Counts) × ((replay : Outcome) × IsPlayed n c (without_notes (set_of n c r.outcome.list)) (compiled.pattern_text n c r.outcome.list) counts replay o)
+played n c given compilation o within r holds none x =
     let u = r.outcome in
-    let placing = u.placing in
     let list = u.list in
-    let none = within.late placing list r.range u.are in
-    let is : IsCompiled n c given placing list compilation = subst (λ refused. IsOutcomeOfPlacing n c given placing list refused compilation) none u.outcome in
-    let holds : HoldsOf n c given placing list = hold n c r.order given placing list r.ready r.sound r.ordered r.cubes u.are in
+    let is : IsCompiled n c given u.placing list compilation = subst (λ refused. IsOutcomeOfPlacing n c given u.placing list refused compilation) none u.outcome in
     let w : Netlist = scanned Edt n c in
-    let p : Patterns = without_notes (set_of n c list) in
     let netlist : List ℕ = compiled.netlist_text n c in
     let patterns : List ℕ = compiled.pattern_text n c list in
-    let counts : Counts = compiled.counts_of n c placing.placed list in
-    let report : List ℕ = compiled.report_text n c placing.rows given placing.placed in
-    let few = within.few placing list u.are in
-    let well = (holds.formed is.few).well in
+    let counts : Counts = compiled.counts_of n c u.placing.placed list in
+    let report : List ℕ = compiled.report_text n c u.placing.rows given u.placing.placed in
     let replayed : IsReplayedOf (Finished (Compiled counts netlist patterns report)) o = subst (λ end. IsReplayedOf end o) is.is x in
     let held : Held = made_held netlist patterns in
     let stands : StandsFor standard_cells netlist w = subst (λ (cells : List Cell). StandsFor cells netlist w) within.library is.reads in
     let design : NetlistGives standard_cells (codes "netlist") held (Ok w) = (within.netlist_short, record { stands = stands; sound = r.sound; order = r.order; ordered = r.ordered }) in
-    let vectors : PatternsGive (codes "patterns") held (Ok p) =
-    ((late_short n c given placing list none).0, record { stands = holds.reads is.few; few = few; well_formed = record { distinct = well.distinct; few = well.few; fits = well.fits; steady = well.steady } }) in
-    let on : IsOutcomeOn w p None replayed.0 = subst (λ (misfit : Option (List ℕ)). IsOutcomeOn w p misfit replayed.0) holds.passes.fits (replay_due made_files held standard_cells w p replayed.0 refl design vectors replayed.1.0) in
-    let ranked = order_ranks w r.order r.sound r.ordered in
-    let passed = on_passes w w p p ranked.0 (all_compared c (plan_of n c) list) replayed.0 ranked.1 refl refl holds.passes.verdict on in
-    λ refusal same. (let end = sym same ∙ replayed.1.1 ∙ ap (generated counts) passed in cc)
+    let well = (holds.formed is.few).well in (
+      counts,
+      (
+        replayed.0,
+        record {
+          order = r.order;
+          sound = r.sound;
+          ordered = r.ordered;
+          short = (late_short n c given u.placing list none).0;
+          stands = holds.reads is.few;
+          formed = record { distinct = well.distinct; few = well.few; fits = well.fits; steady = well.steady };
+          compared = all_compared c (plan_of n c) list;
+          fits = holds.passes.fits;
+          passes = holds.passes.verdict;
+          read = replay_read made_files held standard_cells w replayed.0 refl design replayed.1.0;
+          same = replayed.1.1;
+        },
+      ),
+    )
 
--- ---- a generated job
+-- why a job is refused, whose patterns have so many vectors and whose report has so many bytes: they are more than are read, or than it may have
+abbrev Why : (vectors bytes : ℕ) → Refusal → Type 0
+Why vectors bytes refusal = ((MAX_VECTORS < vectors) × (refusal.code ≡ P4)) ⊎ ((MAX_BYTES < bytes) × (refusal.code ≡ K6))
 
-first_none : (a : Option RuleError) (b : Option StitchError) (c : Option InsertError) → a ≡ None → b ≡ None → c ≡ None → first_failing (option_map Rules a ∷ option_map Stitch b ∷ option_map Insert c ∷ []) ≡ None
-first_none a b c p q r = rw (p, q, r) refl
+-- where it is refused
+abbrev RefusedFor : (vectors bytes : ℕ) → Outcome → Type 0
+RefusedFor vectors bytes o = (refusal : Refusal) → o ≡ Refused refusal → Why vectors bytes refusal
+
+code_of : (a b : Refusal) → Refused a ≡ Refused b → b.code ≡ a.code
+code_of a b same = let e = same in cc
+
+-- a replay of no more vectors than are read passes, and of more it is refused for them
+counted : (n : Netlist) (c : Config) (p : Patterns) (text : List ℕ) (counts : Counts) (replay o : Outcome) → IsPlayed n c p text counts replay o → (bytes : ℕ) → (MAX_VECTORS < length p.vectors) ⊎ (length p.vectors ≤ MAX_VECTORS) → RefusedFor (length p.vectors) bytes o
+counted n c p text counts replay o x bytes (inl many) refusal is =
+    let refused = replay_many (λ q. IsOutcomeOn (scanned Edt n c) q (first_misfit (scanned Edt n c) q.signals)) text p replay x.short x.stands many x.read in
+    let same : Refused refused.0 ≡ Refused refusal = sym (ap (generated counts) refused.1.1) ∙ sym x.same ∙ is in inl (many, code_of refused.0 refusal same ∙ refused.1.0)
+counted n c p text counts replay o x bytes (inr few) refusal is =
+    let w : Netlist = scanned Edt n c in
+    let held : Held = made_held (compiled.netlist_text n c) text in
+    let given : PatternsGive (codes "patterns") held (Ok p) = (x.short, record { stands = x.stands; few = few; well_formed = x.formed }) in
+    let due = given_next (PatternsGive (codes "patterns") held) (λ q. IsOutcomeOn w q (first_misfit w q.signals)) replay p (file_one MAX_PATTERN_BYTES (codes "patterns") PatternText pattern_text_one (Some text)) given x.read in
+    let on : IsOutcomeOn w p None replay = subst (λ (misfit : Option (List ℕ)). IsOutcomeOn w p misfit replay) x.fits due in
+    let ranked = order_ranks w x.order x.sound x.ordered in
+    let passed = on_passes w w p p ranked.0 x.compared replay ranked.1 refl refl x.passes on in
+    absurd (let end = sym is ∙ x.same ∙ ap (generated counts) passed in cc)
 
 late_none : (a : Option StilError) (b : Option ReportError) → a ≡ None → b ≡ None → first_failing (option_map TooManyPatterns a ∷ option_map TooLongReport b ∷ []) ≡ None
 late_none a b p q = rw (p, q) refl
@@ -196,6 +248,34 @@ not_many bytes le = let below : nat_lt MAX_TEXT bytes ≡ false = grind (arith, 
 
 not_long : (bytes : ℕ) → bytes ≤ MAX_BYTES → of_length bytes ≡ None
 not_long bytes le = let below : nat_lt MAX_BYTES bytes ≡ false = grind (arith, nat_tests) in rw below refl
+
+late_some : (a : Option StilError) (b : Option ReportError) (error : ReportError) → a ≡ None → b ≡ Some error → first_failing (option_map TooManyPatterns a ∷ option_map TooLongReport b ∷ []) ≡ Some (TooLongReport error)
+late_some a b error p q = rw (p, q) refl
+
+too_long_told : (bytes : ℕ) → MAX_BYTES < bytes → of_length bytes ≡ Some (K6_of (pos bytes))
+too_long_told bytes lt = let above : nat_lt MAX_BYTES bytes ≡ true = grind (arith, nat_tests) in rw above refl
+
+-- why the job of a placement is refused, where its report has so many bytes
+why : CompilationsHold → (n : Netlist) (c : Config) (given : List Cube) (compilation o : Outcome) → IsWithin n c given → (r : IsReached n c given compilation) → IsReplayedOf compilation o →
+    (bytes : ℕ) → length (compiled.report_text n c r.outcome.placing.rows given r.outcome.placing.placed) ≡ bytes → (MAX_BYTES < bytes) ⊎ (bytes ≤ MAX_BYTES) → RefusedFor (length (set_of n c r.outcome.list).vectors) bytes o
+why hold n c given compilation o within r x bytes told (inl long) refusal is =
+    let u = r.outcome in
+    let error : ReportError = K6_of (pos bytes) in
+    let last : too_long (compiled.report_text n c u.placing.rows given u.placing.placed) ≡ Some error = ap of_length told ∙ too_long_told bytes long in
+    let refused : refusal_of n c given u.placing u.list ≡ Some (TooLongReport error) = late_some _ _ error (within.not_many u.placing u.list r.range u.are) last in
+    let end : compilation ≡ Refused (measured K6 (pos bytes)) = subst (λ refused. IsOutcomeOfPlacing n c given u.placing u.list refused compilation) refused u.outcome in
+    let same : o ≡ Refused (measured K6 (pos bytes)) = subst (λ end. IsReplayedOf end o) end x in inr (long, code_of (measured K6 (pos bytes)) refusal (sym same ∙ is))
+why hold n c given compilation o within r x bytes told (inr short) refusal is =
+    let u = r.outcome in
+    let holds : HoldsOf n c given u.placing u.list = hold n c r.order given u.placing u.list r.ready r.sound r.ordered r.cubes u.are in
+    let last : too_long (compiled.report_text n c u.placing.rows given u.placing.placed) ≡ None = ap of_length told ∙ not_long bytes short in
+    let none : refusal_of n c given u.placing u.list ≡ None = late_none _ _ (within.not_many u.placing u.list r.range u.are) last in
+    let p = played n c given compilation o within r holds none x in counted n c _ _ p.0 p.1.0 o p.1.1 bytes (cases_lt MAX_VECTORS (length (set_of n c u.list).vectors)) refusal is
+
+-- ---- a generated job
+
+first_none : (a : Option RuleError) (b : Option StitchError) (c : Option InsertError) → a ≡ None → b ≡ None → c ≡ None → first_failing (option_map Rules a ∷ option_map Stitch b ∷ option_map Insert c ∷ []) ≡ None
+first_none a b c p q r = rw (p, q, r) refl
 
 job_read : (seed size : ℕ) → IsSize size → IsRead (job_netlist size (words_of seed size)) job_configuration (job_cubes size (words_of seed size)) (design size (words_of seed size)) configuration (cubes_in size (words_of seed size))
 job_read seed size is =
@@ -216,31 +296,45 @@ job_read seed size is =
       read = cubes_are_read size words is (seeds_give_words seed size);
     }
 
-job_within : (size : ℕ) (words : List ℕ) → IsSize size → size ≤ 16240 → IsWithin (design size words) configuration (cubes_in size words)
-job_within size words is most =
+job_within : (size : ℕ) (words : List ℕ) → IsSize size → IsWithin (design size words) configuration (cubes_in size words)
+job_within size words is =
     let n : Netlist = design size words in
-    let cycles : ℕ = (plan_of n configuration).cycles in
+    let most = is.high in
     record {
       library = refl;
       netlist_short = (let short = scanned_are_short size words is in omega (arith, short, most));
-      late = λ placing list range are.
+      not_many = λ placing list range are.
           let bytes = bytes_told n configuration placing.rows placing.merged list range are in
-          let fits : length (compiled.pattern_text n configuration list) ≤ MAX_TEXT = subst (λ (k : ℕ). k ≤ MAX_TEXT) (sym bytes) (pattern_texts_fit size words is placing) in
-          let text : List ℕ = compiled.pattern_text n configuration list in
-          let report : List ℕ = compiled.report_text n configuration placing.rows (cubes_in size words) placing.placed in
-          late_none (too_many (length text)) (of_length (length report)) (not_many (length text) fits) (not_long (length report) (reports_fit size words is most placing));
-      few = λ placing list are.
-          let count = vector_count n configuration placing.rows placing.merged list are ∙ ap (vectors_in cycles) (list_count n configuration placing.rows placing.merged list are) in
-          subst (λ (k : ℕ). k ≤ MAX_VECTORS) (sym count) (patterns_fit size words is most placing);
+          let fits : length (compiled.pattern_text n configuration list) ≤ MAX_TEXT = subst (λ (k : ℕ). k ≤ MAX_TEXT) (sym bytes) (pattern_texts_fit size words is placing) in not_many (length (compiled.pattern_text n configuration list)) fits;
     }
 
--- a job of up to 16,240 cells is not refused
+-- how many vectors a job's patterns have
+vectors_told : (size : ℕ) (words : List ℕ) (placing : Placing configuration (plan_of (design size words) configuration) (cubes_in size words)) (list : List PatternData) → ArePatterns (design size words) configuration (plan_of (design size words) configuration) placing.rows placing.merged list →
+    length (set_of (design size words) configuration list).vectors ≡ vectors_in (plan_of (design size words) configuration).cycles (length placing.merged)
+vectors_told size words placing list are =
+    let n : Netlist = design size words in
+    vector_count n configuration placing.rows placing.merged list are ∙ ap (vectors_in (plan_of n configuration).cycles) (list_count n configuration placing.rows placing.merged list are)
+
+-- that it is so only above a size of 16,240
+large : (size : ℕ) (words : List ℕ) → IsSize size → (placing : Placing configuration (plan_of (design size words) configuration) (cubes_in size words)) (list : List PatternData) →
+    ArePatterns (design size words) configuration (plan_of (design size words) configuration) placing.rows placing.merged list → (refusal : Refusal) →
+    Why (length (set_of (design size words) configuration list).vectors) (length (compiled.report_text (design size words) configuration placing.rows (cubes_in size words) placing.placed)) refusal → (16240 < size) ⊎ (size ≤ 16240) → (16240 < size) × IsForSize refusal
+large size words is placing list are refusal (inl x) (inl more) = (more, inl x.1)
+large size words is placing list are refusal (inr x) (inl more) = (more, inr x.1)
+large size words is placing list are refusal (inl x) (inr most) = let told = vectors_told size words placing list are in let fit = patterns_fit size words is most placing in let many = x.0 in absurd (omega (arith, told, fit, many))
+large size words is placing list are refusal (inr x) (inr most) = let fit = reports_fit size words is most placing in let long = x.0 in absurd (omega (arith, fit, long))
+
+-- a job is refused for its size alone, and only if it has more than 16,240 cells
 abbrev pub JobsFit : Type 0
-JobsFit = (numbers : JobNumbers) (o : Outcome) → IsSize numbers.size → numbers.size ≤ 16240 → IsOutcomeOfJob numbers o → IsAccepted o
+JobsFit = (numbers : JobNumbers) (o : Outcome) → IsSize numbers.size → IsOutcomeOfJob numbers o → (refusal : Refusal) → o ≡ Refused refusal → MayBeRefused numbers refusal
 
 pub jobs_fit : CompilationsHold → JobsFit
-jobs_fit hold numbers o is most x =
-    let words : List ℕ = words_of numbers.seed numbers.size in
-    let texts = job_read numbers.seed numbers.size is in
-    accepted hold (design numbers.size words) configuration (cubes_in numbers.size words) x.0 o (job_within numbers.size words is most)
-    (reached (job_netlist numbers.size words) job_configuration (job_cubes numbers.size words) (design numbers.size words) configuration (cubes_in numbers.size words) x.0 texts x.1.0) x.1.1
+jobs_fit hold numbers o is x refusal same =
+    let size : ℕ = numbers.size in
+    let words : List ℕ = words_of numbers.seed size in
+    let n : Netlist = design size words in
+    let given : List Cube = cubes_in size words in
+    let r = reached (job_netlist size words) job_configuration (job_cubes size words) n configuration given x.0 (job_read numbers.seed size is) x.1.0 in
+    let u = r.outcome in
+    let report : List ℕ = compiled.report_text n configuration u.placing.rows given u.placing.placed in
+    large size words is u.placing u.list u.are refusal (why hold n configuration given x.0 o (job_within size words is) r x.1.1 (length report) refl (cases_lt MAX_BYTES (length report)) refusal same) (cases_lt 16240 size)

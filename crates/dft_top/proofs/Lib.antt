@@ -22,6 +22,7 @@ pub mod SomePatterns
 pub mod Completed
 pub mod Failing
 pub mod JobEnds
+pub mod ManyVectors
 pub mod JobFits
 pub mod Suited
 pub mod RunEnds

@@ -20,7 +20,7 @@ use Rattle.dft_certify.specs.Certifying.{certify_refusal}
 use Rattle.dft_cubes.specs.declared.cube.Cube.{Cube}
 use Rattle.dft_vectors.specs.PatternData.{PatternData}
 use Rattle.dft_encode.specs.Compiled.{ArePatterns, Placing}
-use Rattle.dft_compile.specs.declared.prepared.Prepared.{Prepared}
+use Rattle.dft_stitch.specs.Planning.{Planned}
 use Rattle.dft_compile.specs.Refusals.{first_refusal}
 use Rattle.dft_command_line.specs.Words.{Command, Replay, Scan, Compile, Certify, ReplayFiles, ScanFiles, CompileFiles, CertifyFiles}
 use Rattle.dft_command_line.proofs.Understood.{for_once}
@@ -38,12 +38,17 @@ use Rattle.dft_top.proofs.CertifyLemmas.{report_over}
 use Rattle.dft_top.proofs.Readings.{config_text_one, cube_text_one, file_one, given_next, library_gives_one, netlist_text_one, pattern_text_one, report_text_one, accepted_or_refused}
 use Rattle.dft_top.proofs.Steps.{CertifyFor, CertifyOf, CertifyOn, CertifyOver, CertifyWith, CompileOf, CompileOn, CompileOver, CompileWith, ReplayOn, ReplayOver, ScanOn, ScanOver}
 
+-- where a design is given, the patterns are next
+pub replay_read : (files : ReplayFiles) (held : Held) (cells : List Cell) (n : Netlist) (o : Outcome) → LibraryGives files.library held (Ok cells) → NetlistGives cells files.netlist held (Ok n) →
+    Reaches (course_of_replay files) held o → Then (PatternsGive files.patterns held) (λ p. IsOutcomeOn n p (first_misfit n p.signals)) o
+replay_read files held cells n o library netlist is =
+    let over = given_next (LibraryGives files.library held) (ReplayOver files held) o cells (library_gives_one files.library held) library is in
+    given_next (NetlistGives cells files.netlist held) (ReplayOn files held) o n (file_one MAX_NETLIST_BYTES (codes "netlist") (NetlistText cells) (netlist_text_one cells) (file_at files.netlist held)) netlist over
+
 pub replay_due : (files : ReplayFiles) (held : Held) (cells : List Cell) (n : Netlist) (p : Patterns) (o : Outcome) → LibraryGives files.library held (Ok cells) → NetlistGives cells files.netlist held (Ok n) →
     PatternsGive files.patterns held (Ok p) → Reaches (course_of_replay files) held o → IsOutcomeOn n p (first_misfit n p.signals) o
 replay_due files held cells n p o library netlist patterns is =
-    let over = given_next (LibraryGives files.library held) (ReplayOver files held) o cells (library_gives_one files.library held) library is in
-    let on = given_next (NetlistGives cells files.netlist held) (ReplayOn files held) o n (file_one MAX_NETLIST_BYTES (codes "netlist") (NetlistText cells) (netlist_text_one cells) (file_at files.netlist held)) netlist over in
-    given_next (PatternsGive files.patterns held) (λ p. IsOutcomeOn n p (first_misfit n p.signals)) o p (file_one MAX_PATTERN_BYTES (codes "patterns") PatternText pattern_text_one (file_at files.patterns held)) patterns on
+    given_next (PatternsGive files.patterns held) (λ p. IsOutcomeOn n p (first_misfit n p.signals)) o p (file_one MAX_PATTERN_BYTES (codes "patterns") PatternText pattern_text_one (file_at files.patterns held)) patterns (replay_read files held cells n o library netlist is)
 
 scan_due : (files : ScanFiles) (held : Held) (cells : List Cell) (c : Config) (n : Netlist) (o : Outcome) → LibraryGives files.library held (Ok cells) → ConfigGives files.config held (Ok c) →
     NetlistGives cells files.netlist held (Ok n) → refusal n c ≡ None → Reaches (course_of_scan files) held o → o ≡ Finished (Scanned (counts_of n c) (netlist_text n c) (report_text n c))
@@ -54,7 +59,7 @@ scan_due files held cells c n o library config netlist none is =
     (subst (λ (refused : Option ScanError). IsOutcomeOfScanOf n c refused o) none scan).is
 
 -- where no check of the design fails, what comes behind gives the outcome
-design_next : (n : Netlist) (c : Config) (next : Prepared → Outcome → Type 0) (o : Outcome) → first_refusal n c ≡ None → Then (DesignGives n c) next o → (prepared : Prepared) × next prepared o
+design_next : (n : Netlist) (c : Config) (next : Planned → Outcome → Type 0) (o : Outcome) → first_refusal n c ≡ None → Then (DesignGives n c) next o → (prepared : Planned) × next prepared o
 design_next n c next o none (inl x) = (x.0, x.1.1)
 design_next n c next o none (inr x) = absurd (accepted_or_refused (first_refusal n c) x.1.0.0 none x.1.0.1.0)
 

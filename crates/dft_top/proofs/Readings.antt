@@ -32,7 +32,7 @@ use Rattle.dft_cubes.specs.declared.error.CubeError.{CubeError}
 use Rattle.dft_cubes.specs.declared.error.CubeError.TheVariants as cube
 use Rattle.dft_cubes.specs.Cubes as cubes
 use Rattle.dft_compile.specs.declared.error.CompileError.{CompileError}
-use Rattle.dft_compile.specs.declared.prepared.Prepared.{Prepared}
+use Rattle.dft_stitch.specs.Planning.{Planned}
 use Rattle.dft_compile.specs.Prepared.{IsPrepared}
 use Rattle.dft_compile.specs.Refusals.{first_refusal as design_refusal}
 use Rattle.dft_stil_text.specs.PatternText.{patterns_in}
@@ -57,7 +57,7 @@ use Rattle.dft_top.specs.Checks.{ArePatternsOf, ConfigText, CubeText, DesignGive
 use Rattle.dft_top.specs.Courses.{Then}
 use Rattle.dft_top.proofs.NetlistRefusals.{IsReason, reason_one, finished_or_refused}
 
-err_same : {A E : Type 0} (r : Result A E) (a b : E) → r ≡ Err a → r ≡ Err b → a ≡ b
+pub err_same : {A E : Type 0} (r : Result A E) (a b : E) → r ≡ Err a → r ≡ Err b → a ≡ b
 err_same r a b p q = let e = sym p ∙ q in cc
 
 -- what one error is told as
@@ -264,7 +264,7 @@ patterns_or_refused text p error x y = let e : Ok p ≡ Err y.refusal = sym (kep
 stil_one : (text : List ℕ) (a b : StilError) → IsFirstRefusal text a → IsFirstRefusal text b → a ≡ b
 stil_one text a b x y = x.told ∙ ap (StilRefusals.told_of text) (err_same (patterns_in MAX_VECTORS text) x.refusal y.refusal x.first y.first) ∙ sym y.told
 
-first_refusal : (text : List ℕ) (error : StilError) (refusal : Refusal) → StilRefusals.IsRefused text error → stil_refusal error ≡ Some refusal → IsFirstRefusal text error
+pub first_refusal : (text : List ℕ) (error : StilError) (refusal : Refusal) → StilRefusals.IsRefused text error → stil_refusal error ≡ Some refusal → IsFirstRefusal text error
 first_refusal text (stil.P1 place) refusal refused is = refused
 first_refusal text (stil.P2 place name) refusal refused is = refused
 first_refusal text (stil.P3 place name) refusal refused is = refused
@@ -284,12 +284,8 @@ pattern_text_one text (Err a) (Err b) x y = ap Err (told_one _ _ a b (ap stil_re
 
 -- ---- the design of a compilation
 
-prepared_one : (n : Netlist) (c : Config) (p q : Prepared) → IsPrepared n c p → IsPrepared n c q → p ≡ q
-prepared_one n c p q x y =
-    let verdicts : p.verdicts ≡ q.verdicts = x.verdicts ∙ sym y.verdicts in
-    let chains : p.chains ≡ q.chains = x.chains ∙ sym y.chains in
-    let scanned : p.scanned ≡ q.scanned = x.scanned ∙ sym y.scanned in
-    λ i. record { verdicts = verdicts i; chains = chains i; scanned = scanned i }
+prepared_one : (n : Netlist) (c : Config) (p q : Planned) → IsPrepared n c p → IsPrepared n c q → p ≡ q
+prepared_one n c p q x y = x ∙ sym y
 
 pub accepted_or_refused : (refused : Option CompileError) (error : CompileError) → refused ≡ None → refused ≡ Some error → ⊥
 accepted_or_refused refused error x y = let e : None ≡ Some error = sym x ∙ y in cc
@@ -297,7 +293,7 @@ accepted_or_refused refused error x y = let e : None ≡ Some error = sym x ∙ 
 compile_error_one : (refused : Option CompileError) (a b : CompileError) → refused ≡ Some a → refused ≡ Some b → a ≡ b
 compile_error_one refused a b x y = let e : Some a ≡ Some b = sym x ∙ y in cc
 
-pub design_gives_one : (n : Netlist) (c : Config) (r s : Result Prepared Refusal) → DesignGives n c r → DesignGives n c s → r ≡ s
+pub design_gives_one : (n : Netlist) (c : Config) (r s : Result Planned Refusal) → DesignGives n c r → DesignGives n c s → r ≡ s
 design_gives_one n c (Ok p) (Ok q) x y = ap Ok (prepared_one n c p q x.is y.is)
 design_gives_one n c (Ok p) (Err refusal) x y = absurd (accepted_or_refused (design_refusal n c) y.0 x.accepted y.1.0)
 design_gives_one n c (Err refusal) (Ok p) x y = absurd (accepted_or_refused (design_refusal n c) x.0 y.accepted x.1.0)

@@ -6,7 +6,7 @@ use Rattle.dft_config.specs.Config.{Config}
 use Rattle.dft_netlist.specs.Netlist.{Netlist}
 use Rattle.dft_replay.specs.Fits.{first_misfit}
 use Rattle.dft_scan.specs.Refusals.{refusal}
-use Rattle.dft_compile.specs.declared.prepared.Prepared.{Prepared}
+use Rattle.dft_stitch.specs.Planning.{Planned}
 use Rattle.dft_cubes.specs.declared.cube.Cube.{Cube}
 use Rattle.dft_stitch.specs.Plans.{Plan}
 use Rattle.dft_command_line.specs.Words.{ReplayFiles, ScanFiles, CompileFiles, CertifyFiles}
@@ -43,7 +43,7 @@ abbrev pub CompileOver : CompileFiles → Held → List Cell → Outcome → Typ
 CompileOver files h cells = Then (ConfigGives files.config h) (CompileOn files cells h)
 
 -- behind the checks of the design
-abbrev pub CompileWith : Netlist → Config → (cubes : List ℕ) → Held → Prepared → Outcome → Type 0
+abbrev pub CompileWith : Netlist → Config → (cubes : List ℕ) → Held → Planned → Outcome → Type 0
 CompileWith n config cubes h prepared = Reaches (course_of_cubes n config cubes) h
 
 -- ---- behind each file of a test of certificates

@@ -32,6 +32,7 @@ use Rattle.dft_scan_hardware.specs.Statements.{scanned}
 use Rattle.dft_rules.specs.Refusals as rules
 use Rattle.dft_stitch.specs.Chains.{plan_of}
 use Rattle.dft_stitch.specs.Limits as stitch
+use Rattle.dft_stitch.specs.Planning.{Planned}
 use Rattle.dft_stitch.specs.Plans.{Plan}
 use Rattle.dft_report.specs.declared.report.Report.{Report}
 use Rattle.dft_report_reader.specs.declared.error.ReadError.{ReadError}
@@ -39,7 +40,6 @@ use Rattle.dft_report_reader.specs.Reading.{report_of}
 use Rattle.dft_report_reader.specs.Reading as reports
 use Rattle.dft_compile.specs.declared.error.CompileError.{CompileError}
 use Rattle.dft_compile.specs.declared.error.CompileError.TheVariants.{Rules, Stitch}
-use Rattle.dft_compile.specs.declared.prepared.Prepared.{Prepared}
 use Rattle.dft_compile.specs.Prepared.{IsPrepared}
 use Rattle.dft_compile.specs.Refusals.{first_failing, first_refusal}
 use Rattle.dft_answers.specs.declared.answer.Refusal.{Refusal}
@@ -107,7 +107,7 @@ PatternsGive name held r = FileGives MAX_PATTERN_BYTES (codes "patterns") Patter
 -- ---- a design, before its cubes are read
 
 -- the design as it is prepared, which no check refuses; the nets of its scanned netlist have an order
-pub record IsReadied (n : Netlist) (config : Config) (p : Prepared) : Type 0 where
+pub record IsReadied (n : Netlist) (config : Config) (p : Planned) : Type 0 where
   pub is : IsPrepared n config p
   pub ready : IsReady n config
   pub accepted : first_refusal n config ≡ None
@@ -116,7 +116,7 @@ pub record IsReadied (n : Netlist) (config : Config) (p : Prepared) : Type 0 whe
   pub ordered : IsOrder (scanned Edt n config) order
 
 -- a refusal is that of the first check that fails
-abbrev pub DesignGives : Netlist → Config → Result Prepared Refusal → Type 0
+abbrev pub DesignGives : Netlist → Config → Result Planned Refusal → Type 0
 DesignGives n config (Ok p) = IsReadied n config p
 DesignGives n config (Err refusal) = (error : CompileError) × ((first_refusal n config ≡ Some error) × (compile_refusal error ≡ Some refusal))
 

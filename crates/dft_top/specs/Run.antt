@@ -5,6 +5,7 @@ use Rattle.dft_files.specs.Put.{Adds, AddsPrefix}
 use Rattle.dft_answers.specs.declared.answer.Status.{Status}
 use Rattle.dft_answers.specs.declared.answer.Status.TheVariants.{Done, NotPassed, Usage, Refused, ReadFault, WriteFault, OutOfMemory}
 use Rattle.dft_answers.specs.declared.answer.Answer.{Answer}
+use Rattle.dft_answers.specs.declared.answer.Code.TheVariants.{K6, P4}
 use Rattle.dft_answers.specs.declared.answer.Refusal.{Refusal}
 use Rattle.dft_answers.specs.declared.outcome.Outcome.{Outcome}
 use Rattle.dft_answers.specs.declared.outcome.Outcome.TheVariants as outcome
@@ -165,17 +166,21 @@ CompilesTold words held held' answer = (files : CompileFiles) → IsCompile word
 abbrev pub CertifiesTold : List (List ℕ) → Option Held → Answer → Type 0
 CertifiesTold words held answer = (files : CertifyFiles) → IsCertify words files → answer.status ≡ Done → Told (Certifies files) held
 
--- a job of more than 16,240 cells may be refused: its patterns may have more vectors than are read, or its report more bytes than it may have
-abbrev pub MayBeRefused : JobNumbers → Type 0
-MayBeRefused numbers = 16240 < numbers.size
+-- a refusal for size: the patterns have more vectors than are read, or the report would have more bytes than it may
+abbrev pub IsForSize : Refusal → Type 0
+IsForSize refusal = (refusal.code ≡ P4) ⊎ (refusal.code ≡ K6)
 
--- where the words are a generated job, its run is done; or it may be refused, and is, with the refusal of the job; or its lines could not be put, or
+-- a job of more than 16,240 cells may be refused, for its size alone
+abbrev pub MayBeRefused : JobNumbers → Refusal → Type 0
+MayBeRefused numbers refusal = (16240 < numbers.size) × IsForSize refusal
+
+-- where the words are a generated job, its run is done; or it may be refused so, and is, with the refusal of the job; or its lines could not be put, or
 -- memory ran out
 abbrev pub GeneratesJob : List (List ℕ) → (put_faults put_faults' : ℕ) → Answer → Type 0
 GeneratesJob words put_faults put_faults' answer =
     (numbers : JobNumbers) → IsGenerate words numbers →
     (answer.status ≡ Done)
-    ⊎ (MayBeRefused numbers × ((refusal : Refusal) × (IsOutcomeOfJob numbers (outcome.Refused refusal) × (answer ≡ answer_of (outcome.Refused refusal)))))
+    ⊎ ((refusal : Refusal) × (MayBeRefused numbers refusal × (IsOutcomeOfJob numbers (outcome.Refused refusal) × (answer ≡ answer_of (outcome.Refused refusal)))))
     ⊎ ((answer.status ≡ WriteFault) × Rose put_faults put_faults')
     ⊎ (answer.status ≡ OutOfMemory)
 

@@ -56,12 +56,16 @@ fn outcome_of_design<F: Files>(
 }
 
 /// The design with its chains, behind compression hardware, where no check refuses it.
-pub fn prepared(alloc: Global, design: &Design, config: &Config) -> Result<Prepared, Stop>
-    ensures { IsGiven (DesignGives design.now config.now) result }
+pub fn prepared<'a>(
+    alloc: Global,
+    design: &'a Design,
+    config: &'a Config,
+) -> Result<Prepared<'a>, Stop>
+    ensures { IsGiven (DesignGives design.entry.now config.entry.now) result }
 {
     match prepare(alloc, design, config) {
         Ok(prepared) => {
-            prepared.scanned.soundness();
+            prepared.scanned().soundness();
             Ok(prepared)
         }
         Err(error) => Err(Stop::Refused(compile_refusal(alloc, error)?)),
@@ -73,7 +77,7 @@ fn outcome_with<F: Files>(
     alloc: Global,
     design: &Design,
     config: &Config,
-    prepared: &Prepared,
+    prepared: &Prepared<'_>,
     cubes: &str,
     files: &mut F,
 ) -> Result<Outcome, Stop>
@@ -92,7 +96,7 @@ pub fn outcome_of_cubes(
     alloc: Global,
     design: &Design,
     config: &Config,
-    prepared: &Prepared,
+    prepared: &Prepared<'_>,
     cubes: &[Cube],
 ) -> Result<Outcome, Stop>
     requires joined { GatesAreJoined design.now }
@@ -103,7 +107,7 @@ pub fn outcome_of_cubes(
 {
     design.soundness();
     config.soundness();
-    match compile(alloc, design, config, prepared, cubes) {
+    match compile(alloc, prepared, cubes) {
         Ok(texts) => Ok(outcome_of(texts)),
         Err(error) => Err(Stop::Refused(compile_refusal(alloc, error)?)),
     }

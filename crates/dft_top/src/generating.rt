@@ -79,7 +79,7 @@ fn compiled_with(
     alloc: Global,
     design: &Design,
     config: &Config,
-    prepared: &Prepared,
+    prepared: &Prepared<'_>,
     cubes: &[u8],
 ) -> Result<Outcome, Stop>
     requires joined { GatesAreJoined design.now }

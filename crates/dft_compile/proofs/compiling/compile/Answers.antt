@@ -1,17 +1,20 @@
 -- The cubes are placed, and the texts are made of that.
-use Rattle.std.proofs.Common.{◌∙◌, ap, arith, length, subst, sym}
+use Rattle.std.proofs.Common.{◌≡◌, ◌∙◌, ap, arith, length, subst, sym}
 use Rattle.std.proofs.lemmas.Result.{IfErr-weaker, IfOk-weaker}
+use Rattle.std.specs.Prelude.{IfErr, IfOk}
+use Rattle.dft_netlist_text.specs.NetlistText.{StandsFor}
 use Rattle.dft_merge.specs.Merging.{Merging, columns_in, rows_in}
 use Rattle.dft_merge.specs.Rows.{StandApart}
+use Rattle.dft_scan_hardware.specs.declared.style.Style.TheVariants.{Edt}
+use Rattle.dft_scan_hardware.specs.Statements.{scanned}
+use Rattle.dft_stitch.specs.Planning.{Planned}
 use Rattle.dft_stitch.specs.Plans.{Plan}
+use Rattle.dft_verilog_out.specs.Named.{GatesAreJoined}
 use Rattle.dft_compile.specs.Compilation.{AreTextsOf, IsCompileOf}
 use Rattle.dft_compile.specs.Refusals.{IsLate, IsRefusal, late_refusal}
 use Rattle.dft_compile.proofs.TellingLemmas.{told_of}
 use Rattle.dft_compile.proofs.WorkLemmas.{compiled_of, placed_by, placed_count, refused_of}
 use Rattle.dft_compile.proofs.compiling.compile.Goals as goal
-
-pub new-requires-clause-apart : goal.new-requires-clause-apart
-new-requires-clause-apart c = subst (λ (p : Plan). StandApart p.chains) (sym c.requires.prepared.chains) (c.plans_stand_apart.ensures c.args.design.now c.args.config.now c.soundness-2.ensures)
 
 pub texts-requires : goal.texts-requires
 texts-requires c =
@@ -19,13 +22,9 @@ texts-requires c =
     let new = c.in_ok-merger.ensures in
     let none = ap (λ (m : Merging). length m.patterns) new in
     record {
-      range = c.soundness-2.ensures;
-      joined = c.requires.joined;
-      prepared = c.requires.prepared;
-      equations = c.in_ok-equations.ensures;
-      apart = subst (λ (p : Plan). StandApart p.chains) (sym c.requires.prepared.chains) (c.plans_stand_apart.ensures c.args.design.now c.args.config.now c.soundness-2.ensures);
-      chains = ap (λ (m : Merging). m.chains) same ∙ ap (λ (m : Merging). m.chains) new;
-      rows = ap (λ (m : Merging). m.rows) same ∙ ap (λ (m : Merging). m.rows) new;
+      joined = subst (λ (p : Planned). GatesAreJoined p.design) (sym c.loads-loads.ensures) c.requires.joined;
+      scanned = c.scanned.ensures ∙ ap (λ (p : Planned). scanned Edt p.design p.config) (sym c.loads-loads.ensures);
+      merger = ap (λ (m : Merging). m.loads) same ∙ ap (λ (m : Merging). m.loads) new;
       few = omega (arith, c.in_ok-placed.ensures.few, none, c.requires.cubes);
       cubes = c.requires.cubes;
       placed = ap length c.deref.ensures.value
@@ -34,19 +33,25 @@ texts-requires c =
 
 pub returns-clause-compile : goal.returns-clause-compile
 returns-clause-compile c =
-    let n = c.args.design.now in
-    let config = c.args.config.now in
-    let told = told_of n config c.args.cubes.now c.soundness-2.ensures c.soundness.ensures.netlist c.requires.prepared.passed c.requires.prepared.fits (c.plans_stand_apart.ensures n config c.soundness-2.ensures) c.cubes_are_named.ensures c.requires.cubes c.requires.cells in
-    let p = placed_by c.args.design.now c.args.config.now c.args.cubes.now c.args.prepared.now.chains c.in_ok-equations.equations c.in_ok-merger.merger c.in_ok-placed.placed.items c.deref.result.now c.place_all.new.merger.patterns c.requires.prepared.chains
-    c.in_ok-equations.ensures c.in_ok-merger.ensures c.deref.ensures.value c.in_ok-placed.ensures.placed in
-    IfOk-weaker c.texts.result (AreTextsOf n config c.args.cubes.now c.in_ok-equations.equations c.deref.result.now c.place_all.new.merger.patterns) (IsCompileOf n config c.args.cubes.now)
-    (λ t h. compiled_of n config c.args.cubes.now c.in_ok-equations.equations c.deref.result.now c.place_all.new.merger.patterns t p told h) c.texts.ensures.texts
+    let l = c.loads-loads.result.now in
+    let known = c.soundness-2.ensures in
+    let sound = rw c.design.ensures at c.soundness.ensures.netlist in
+    let apart = subst (λ (p : Plan). StandApart p.chains) known.planned known.rows.apart in
+    let told = told_of l.design l.config c.args.cubes.now known.range sound known.passed known.fits apart c.cubes_are_named.ensures c.requires.cubes c.requires.cells in
+    let p = placed_by l c.args.cubes.now c.in_ok-merger.merger c.in_ok-placed.placed.items c.deref.result.now c.place_all.new.merger.patterns known.planned known.equations c.in_ok-merger.ensures c.deref.ensures.value c.in_ok-placed.ensures.placed in
+    subst (λ (q : Planned). IfOk c.texts.result (IsCompileOf q.design q.config c.args.cubes.now)) c.loads-loads.ensures
+    (IfOk-weaker c.texts.result (AreTextsOf l.design l.config c.args.cubes.now l.rows c.deref.result.now c.place_all.new.merger.patterns) (IsCompileOf l.design l.config c.args.cubes.now)
+    (λ t h. compiled_of l.design l.config c.args.cubes.now l.rows c.deref.result.now c.place_all.new.merger.patterns t p told h) c.texts.ensures.texts)
+
+pub returns-clause-reads : goal.returns-clause-reads
+returns-clause-reads c =
+    subst (λ (q : Planned). IfOk c.texts.result (λ t. StandsFor q.design.library t.netlist.items (scanned Edt q.design q.config))) c.loads-loads.ensures c.texts.ensures.reads
 
 pub returns-clause-refused : goal.returns-clause-refused
 returns-clause-refused c =
-    let n = c.args.design.now in
-    let config = c.args.config.now in
-    let p = placed_by c.args.design.now c.args.config.now c.args.cubes.now c.args.prepared.now.chains c.in_ok-equations.equations c.in_ok-merger.merger c.in_ok-placed.placed.items c.deref.result.now c.place_all.new.merger.patterns c.requires.prepared.chains
-    c.in_ok-equations.ensures c.in_ok-merger.ensures c.deref.ensures.value c.in_ok-placed.ensures.placed in
-    IfErr-weaker c.texts.result (IsRefusal (late_refusal n config c.args.cubes.now c.in_ok-equations.equations c.deref.result.now (length c.place_all.new.merger.patterns))) (IsLate n config c.args.cubes.now)
-    (λ e h. refused_of n config c.args.cubes.now c.in_ok-equations.equations c.deref.result.now c.place_all.new.merger.patterns e p h) c.texts.ensures.refused
+    let l = c.loads-loads.result.now in
+    let known = c.soundness-2.ensures in
+    let p = placed_by l c.args.cubes.now c.in_ok-merger.merger c.in_ok-placed.placed.items c.deref.result.now c.place_all.new.merger.patterns known.planned known.equations c.in_ok-merger.ensures c.deref.ensures.value c.in_ok-placed.ensures.placed in
+    subst (λ (q : Planned). IfErr c.texts.result (IsLate q.design q.config c.args.cubes.now)) c.loads-loads.ensures
+    (IfErr-weaker c.texts.result (IsRefusal (late_refusal l.design l.config c.args.cubes.now l.rows c.deref.result.now (length c.place_all.new.merger.patterns))) (IsLate l.design l.config c.args.cubes.now)
+    (λ e h. refused_of l.design l.config c.args.cubes.now l.rows c.deref.result.now c.place_all.new.merger.patterns e p h) c.texts.ensures.refused)

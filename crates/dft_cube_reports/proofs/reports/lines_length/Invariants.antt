@@ -2,9 +2,9 @@
 use Rattle.std.proofs.Common.{◌≡◌, ◌+◌, drop}
 use Rattle.dft_cube_reports.specs.Outcomes.{cube_reports}
 use Rattle.dft_cube_reports.specs.Lengths.{lines_length}
-use Rattle.dft_cube_reports.specs.Sums.{rows_in}
+use Rattle.dft_merge.specs.LoadPlan.{rows_by}
 use Rattle.dft_cube_reports.proofs.reports.lines_length.Given as goal
 
 abbrev pub invariant-loop-place : goal.invariant-loop-place
 invariant-loop-place l =
-    l.bytes + lines_length (cube_reports l.sums.design.now l.sums.ring.now (rows_in l.sums) (drop l.place l.cubes) (drop l.place l.placed)) ≡ lines_length (cube_reports l.sums.design.now l.sums.ring.now (rows_in l.sums) l.cubes l.placed)
+    l.bytes + lines_length (cube_reports l.loads.design l.loads.config.ring (rows_by l.loads) (drop l.place l.cubes) (drop l.place l.placed)) ≡ lines_length (cube_reports l.loads.design l.loads.config.ring (rows_by l.loads) l.cubes l.placed)

@@ -12,12 +12,12 @@ add-requires-clause-few c =
 pub add-requires-clause-last : goal.add-requires-clause-last
 add-requires-clause-last c =
     let f = c.args.finder.now in
-    last_fits c.args.list.now.config f.config.now c.args.list.now.plan f.chains.now c.args.filled.now.last c.requires.before.config c.requires.before.plan c.requires.before.fits
+    last_fits c.args.list.now.config f.loads.now.config c.args.list.now.plan f.loads.now.plan c.args.filled.now.last c.requires.before.config c.requires.before.plan c.requires.before.fits
 
 pub add-requires-clause-found : goal.add-requires-clause-found
 add-requires-clause-found c =
     let f = c.args.finder.now in
-    fits_list c.args.list.now.config f.config.now c.args.list.now.plan f.chains.now c.in_ok-found.found c.requires.before.config c.requires.before.plan c.in_ok-found.ensures.fits
+    fits_list c.args.list.now.config f.loads.now.config c.args.list.now.plan f.loads.now.plan c.in_ok-found.found c.requires.before.config c.requires.before.plan c.in_ok-found.ensures.fits
 
 pub returns : goal.returns
 returns c =

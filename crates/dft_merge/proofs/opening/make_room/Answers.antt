@@ -1,4 +1,5 @@
-use Rattle.std.proofs.Common.{◌≤◌, ◌∙◌, length, arith}
+use Rattle.std.proofs.Common.{◌≤◌, ◌∙◌, ap, length, arith}
+use Rattle.dft_equations.specs.LoadRows.{LoadRows}
 use Rattle.dft_merge.proofs.SlotLemmas.{oldest_last}
 use Rattle.dft_merge.proofs.opening.make_room.Goals as goal
 
@@ -7,7 +8,7 @@ returns-in_ok-push-clause-ok c =
     let size = c.args.slots.now.ok.0 in
     record {
       slot = c.in_ok-blank.field-0;
-      columns = c.in_ok-blank.ensures ∙ c.columns.ensures;
+      columns = c.in_ok-blank.ensures ∙ c.columns.ensures ∙ ap (λ (r : LoadRows). r.columns) c.equations.ensures;
       more = λ less. c.in_ok-push.ensures.items;
       same = λ full. absurd (omega arith);
     }

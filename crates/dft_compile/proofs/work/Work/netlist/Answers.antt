@@ -15,15 +15,15 @@ use Rattle.dft_compile.proofs.work.Work.netlist.Goals as goal
 
 pub write-requires : goal.write-requires
 write-requires c =
-    let w = c.args.self.now in
-    subst GatesAreJoined (sym c.requires.prepared.scanned) (scanned_joined Edt w.design.now w.config.now c.requires.range c.requires.joined)
+    let l = c.args.self.now.loads.now in
+    subst GatesAreJoined (sym c.requires.scanned) (scanned_joined Edt l.design l.config c.soundness.ensures.range c.requires.joined)
 
 pub returns-clause-reads : goal.returns-clause-reads
 returns-clause-reads c =
-    let n = c.args.self.now.design.now in
-    let config = c.args.self.now.config.now in
-    let made = c.args.self.now.prepared.now.scanned in
+    let n = c.args.self.now.loads.now.design in
+    let config = c.args.self.now.loads.now.config in
+    let made = c.args.self.now.scanned.now in
     IfOk-weaker c.write.result (λ text. StandsFor made.library text.items made) (λ text. StandsFor n.library text.items (scanned Edt n config))
     (λ text h. subst (λ (library : List Cell). StandsFor library text.items (scanned Edt n config)) (parts_grow (framed Edt n config) (parts_of Edt n config (plan_of n config))).library
-    (subst (λ (x : Netlist). StandsFor x.library text.items x) c.requires.prepared.scanned h))
+    (subst (λ (x : Netlist). StandsFor x.library text.items x) c.requires.scanned h))
     c.write.ensures.reads

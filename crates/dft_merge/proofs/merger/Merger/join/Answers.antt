@@ -2,15 +2,15 @@ use Rattle.std.proofs.Common.{◌≡◌, ◌-◌, List, None, IfOk, ap, length, 
 use Rattle.std.specs.Vec.{with_items}
 use Rattle.dft_cubes.specs.declared.cube.Merged.{Merged}
 use Rattle.dft_merge.specs.Placement.{first_unscanned}
-use Rattle.dft_merge.specs.Slots.{columns_by, rows_by}
+use Rattle.dft_merge.specs.LoadPlan.{columns_by, rows_by}
 use Rattle.dft_merge.specs.Merging.{Merging, columns_in, rows_in}
 use Rattle.dft_merge.proofs.BitLemmas.{filled}
 use Rattle.dft_merge.proofs.MergerLemmas.{IsState, Said, said_all, state_same, state_tried}
 use Rattle.dft_merge.proofs.merger.Merger.join.Goals as goal
 
 -- what holds of the slots and patterns that were lent
-lent : (c : goal.After-self-2-1) → IsState (columns_by c.self.inside.loading) (rows_by c.self.inside.loading) c.self.inside.window c.deref_mut-2.result.now c.deref_mut.result.now
-lent c = state_same (columns_by c.self.inside.loading) (rows_by c.self.inside.loading) c.self.inside.window c.self.inside.patterns.items c.deref_mut-2.result.now c.self.inside.slots.items c.deref_mut.result.now
+lent : (c : goal.After-self-2-1) → IsState (columns_by c.self.inside.loads.now) (rows_by c.self.inside.loads.now) c.self.inside.window c.deref_mut-2.result.now c.deref_mut.result.now
+lent c = state_same (columns_by c.self.inside.loads.now) (rows_by c.self.inside.loads.now) c.self.inside.window c.self.inside.patterns.items c.deref_mut-2.result.now c.self.inside.slots.items c.deref_mut.result.now
     (record { count = c.self.invariant.count; open_ones = c.self.invariant.slots; loadable = c.self.invariant.loadable }) c.deref_mut-2.ensures.value c.deref_mut.ensures.value
 
 first : (c : goal.After-self-2-1) → c.len.result - c.len-2.result ≡ length c.deref_mut-2.result.now - length c.deref_mut.result.now
@@ -23,8 +23,8 @@ first c =
 
 pub invariant_of-self : goal.invariant_of-self
 invariant_of-self c =
-    let n = columns_by c.self.inside.loading in
-    let row = rows_by c.self.inside.loading in
+    let n = columns_by c.self.inside.loads.now in
+    let row = rows_by c.self.inside.loads.now in
     let scanned : first_unscanned row c.args.cube.now.cells ≡ None = subst (λ (m : Merging). first_unscanned (rows_in m) c.args.cube.now.cells ≡ None) (sym c.self.view_is) c.requires.scanned in
     let now : IsState n row c.self.inside.window c.join_first.new.patterns c.join_first.new.slots =
     state_tried n row c.self.inside.window (c.len.result - c.len-2.result) c.deref_mut-2.result.now c.join_first.new.patterns c.args.cube.now c.deref_mut.result.now c.join_first.new.slots c.join_first.result
@@ -34,7 +34,6 @@ invariant_of-self c =
     (filled c.self.inside.patterns c.join_first.new.patterns c.deref_mut-2.result.now c.join_first.auto.patterns c.deref_mut-2.ensures.value)
     (filled c.self.inside.slots c.join_first.new.slots c.deref_mut.result.now c.join_first.auto.slots c.deref_mut.ensures.value) in
     record {
-      loading = c.self.invariant.loading;
       window = c.self.invariant.window;
       start = c.self.invariant.start;
       alone = c.self.invariant.alone;
@@ -45,8 +44,8 @@ invariant_of-self c =
 
 pub returns-clause-joined : goal.returns-clause-joined
 returns-clause-joined c =
-    let n = columns_by c.self.inside.loading in
-    let row = rows_by c.self.inside.loading in
+    let n = columns_by c.self.inside.loads.now in
+    let row = rows_by c.self.inside.loads.now in
     let told : IfOk c.join_first.result (Said n row c.self.inside.window c.deref_mut-2.result.now c.args.cube.now c.join_first.new.patterns) =
     said_all n row c.self.inside.window (c.len.result - c.len-2.result) c.deref_mut-2.result.now c.args.cube.now c.join_first.new.patterns c.deref_mut.result.now c.join_first.result (lent c).count (first c) c.join_first.ensures.joined in
     let new : List Merged = (with_items c.self.inside.patterns c.join_first.new.patterns).items in

@@ -1,8 +1,0 @@
--- The cells that are left have the first unscanned one of all.
-use Rattle.std.proofs.Common.{◌≡◌, drop}
-use Rattle.dft_merge.specs.Placement.{first_unscanned}
-use Rattle.dft_merge.specs.Slots.{rows_by}
-use Rattle.dft_merge.proofs.loading.Loading.first_unscanned.Given as goal
-
-abbrev pub invariant-loop-given : goal.invariant-loop-given
-invariant-loop-given l = first_unscanned (rows_by l.self) (drop l.given-index l.cells) ≡ first_unscanned (rows_by l.self) l.cells
