@@ -1,108 +1,103 @@
 #!/usr/bin/env python3
-"""Makes a compiled job that moves at other edges, to time `dft replay` on: edges.py NETLIST PATTERNS KIND FOLDER
+"""Makes a scanned netlist of both edges and patterns, to time `dft replay` on: edges.py CELLS PATTERNS CLOCKS both|rising FOLDER
 
-KIND says what becomes of the job, which `compile` wrote: `rising`, nothing; `falling`, every second clock pin of each clock
-is behind an inverter; `four`, the pins of the design's clocks are given to four clocks by turns, which pulse as theirs did
-in a load and by turns in captures; `lockups`, the first cell of a chain that reads another scan cell reads it through a
-lock-up, the next one through a lock-up whose clock is inverted. The patterns compare nothing, so that all vectors are
-replayed. The files are FOLDER/edges.v and FOLDER/edges.stil.
+As what shift.py makes, but with CLOCKS clocks. With `both` every second clock pin is behind an inverter of its clock: each of
+the 16 chains has cells that fall, clock by clock, and then as many that rise, clock by clock. A lock-up stands where the clock
+changes and the edge does not: of the inverted clock between cells that fall, of the clock between cells that rise. With
+`rising` the same cells are on the clocks themselves, with a lock-up wherever the clock changes. All clocks pulse in each
+vector, and nothing is compared. The same words make the same files.
 """
-import itertools
-import re
+import random
 import sys
 
-TEST = "edt_clock"
-PIN = re.compile(r"\.CK\((\w+)\)")
-SCAN = re.compile(r"\.SI\(([^()]+)\)")
-SHOWN = re.compile(r"^\s*SDFF\w* .*?\.QN?\(([^()]+)\)", re.M)
+sys.dont_write_bytecode = True
+from shift import CHAINS, GATES, HEAD, INPUTS, OUTS
 
 
-def clocks_of(netlist):
-    """The clocks of the design, in order."""
-    return [name for name in dict.fromkeys(PIN.findall(netlist)) if name != TEST]
+def ins(clocks):
+    return [f"c{k}" for k in range(clocks)] + ["se"] + [f"i{k}" for k in range(CHAINS)] + [f"d{k}" for k in range(INPUTS)]
 
 
-def inverter(clock):
-    return f"INV bench_i_{clock} (.A({clock}), .Y(bench_{clock}));\n"
+def blocks(length, clocks, both):
+    """For each place of a chain its edge and its clock."""
+    edges = [True, False] if both else [False, False]
+    return [(edges[place * 2 // length], place * 2 * clocks // length % clocks) for place in range(length)]
 
 
-def falling(netlist):
-    turns = {name: itertools.cycle([name, f"bench_{name}"]) for name in dict.fromkeys(PIN.findall(netlist))}
-    netlist = PIN.sub(lambda pin: f".CK({next(turns[pin[1]])})", netlist)
-    return netlist.replace("endmodule", "".join(map(inverter, turns)) + "endmodule")
+def clock_net(block):
+    falling, clock = block
+    return f"n{clock}" if falling else f"c{clock}"
 
 
-def lockups(netlist):
-    """A low lock-up and a high one, each before a scan cell that reads another one."""
-    cells = set(SHOWN.findall(netlist))
-    low, high = itertools.islice((found for found in SCAN.finditer(netlist) if found[1] in cells), 2)
-    clock = PIN.search(netlist[netlist.rindex("\n", 0, low.start()):])[1]
-    parts = inverter(clock)
-    for found, pin, name in ((low, clock, "low"), (high, f"bench_{clock}", "high")):
-        parts += f"LOCKUP bench_l_{name} (.CK({pin}), .D({found[1]}), .Q(bench_{name}));\n"
-    netlist = netlist[:high.start()] + ".SI(bench_high)" + netlist[high.end():]
-    netlist = netlist[:low.start()] + ".SI(bench_low)" + netlist[low.end():]
-    return netlist.replace("endmodule", parts + "endmodule")
+def make_gates(cells, places):
+    """The gates of each block in order, each a cell, the two nets that it reads and its own; and each cell's input."""
+    gates, inputs = [], [0] * cells
+    for block in sorted(set(places)):
+        own = [c for c in range(cells) if places[c % len(places)] == block]
+        nets = [f"d{k}" for k in range(INPUTS)] + [f"q{c}" for c in own]
+        for c in own:
+            for side in "ab":
+                gates.append((random.choice(list(GATES)), random.choice(nets), random.choice(nets[-400:]), f"g{c}{side}"))
+                nets.append(f"g{c}{side}")
+            inputs[c] = nets[-1]
+    return gates, inputs
 
 
-def copies_of(clocks):
-    """The clocks that take the pins of each clock by turns, four in all."""
-    return {name: [name] + [f"{name}_{k}" for k in range(1, 4 // len(clocks))] for name in clocks}
+def is_locked(before, after):
+    """Whether a lock-up stands between neighbours."""
+    return before[0] == after[0] and before[1] != after[1]
 
 
-def four(netlist, copies):
-    turns = {name: itertools.cycle(copies.get(name, [name])) for name in dict.fromkeys(PIN.findall(netlist))}
-    netlist = PIN.sub(lambda pin: f".CK({next(turns[pin[1]])})", netlist)
-    added = [name for names in copies.values() for name in names[1:]]
-    head, rest = netlist.split(");", 1)
-    return head + "".join(f", {name}" for name in added) + ");" + "".join(f"\ninput {name};" for name in added) + rest
+def netlist(cells, clocks, places, gates, inputs, out):
+    names = ins(clocks)
+    out.write(f"module edges ({', '.join(names + OUTS)});\n")
+    out.writelines(f"input {name};\n" for name in names)
+    out.writelines(f"output {name};\n" for name in OUTS)
+    out.writelines(f"INV x{k} (.A(c{k}), .Y(n{k}));\n" for k in range(clocks))
+    for k, (cell, a, b, y) in enumerate(gates):
+        out.write(f"{cell} u{k} (.A({a}), .B({b}), .Y({y}));\n")
+    for c in range(cells):
+        chain, place = divmod(c, len(places))
+        before = f"i{chain}" if place == 0 else f"q{c - 1}"
+        if place > 0 and is_locked(places[place - 1], places[place]):
+            out.write(f"LOCKUP l{c} (.CK({clock_net(places[place - 1])}), .D({before}), .Q(k{c}));\n")
+            before = f"k{c}"
+        out.write(f"SDFF f{c} (.CK({clock_net(places[place])}), .D({inputs[c]}), .SI({before}), .SE(se), .Q(q{c}));\n")
+    for chain in range(CHAINS):
+        out.write(f"assign o{chain} = q{(chain + 1) * len(places) - 1};\n")
+    out.write("endmodule\n")
 
 
-def pulses(patterns, clocks, copies):
-    """Each clock's character, and those of its copies: the same where the test clock pulses too, else by turns."""
-    inputs = re.search(r"^ins = '(.*)';", patterns, re.M)[1].replace('"', "").split("+")
-    turns = {name: itertools.cycle(range(len(copies[name]))) for name in clocks}
+def bits(count):
+    return "".join(random.choice("01") for _ in range(count))
 
-    def vector(found):
-        acts = dict(zip(inputs, found[1]))
-        added = ""
-        for name in clocks:
-            others = len(copies[name]) - 1
-            if acts[name] != "P" or acts[TEST] == "P":
-                added += acts[name] * others
-                continue
-            turn = next(turns[name])
-            acts[name] = "P" if turn == 0 else "0"
-            added += "".join("P" if turn == k + 1 else "0" for k in range(others))
-        return f"V {{ ins = {''.join(acts.values())}{added};"
 
-    names = [name for clock in clocks for name in copies[clock][1:]]
-    patterns = re.sub(r"^V \{ ins = (\w+);", vector, patterns, flags=re.M)
-    patterns = re.sub(r"^(ins = '.*)';", lambda line: line[1] + "".join(f'+"{name}"' for name in names) + "';", patterns, flags=re.M)
-    return patterns.replace("Signals {\n", "Signals {\n" + "".join(f'"{name}" In;\n' for name in names), 1)
+def patterns(length, clocks, count, out):
+    names = ins(clocks)
+    out.write("STIL 1.0;\nSignals {\n")
+    out.writelines(f'"{name}" In;\n' for name in names)
+    out.writelines(f'"{name}" Out;\n' for name in OUTS)
+    out.write("}\nSignalGroups {\n")
+    for group, members in (("ins", names), ("outs", OUTS)):
+        out.write(f"{group} = '" + "+".join(f'"{name}"' for name in members) + "';\n")
+    out.write("}\n" + HEAD)
+    for _ in range(count):
+        for enable, data, vectors in (("1", "0" * INPUTS, length), ("0", bits(INPUTS), 1)):
+            for _ in range(vectors):
+                out.write(f"V {{ ins = {'P' * clocks}{enable}{bits(CHAINS)}{data}; outs = {'X' * CHAINS}; }}\n")
+    out.write("}\n")
 
 
 def main():
-    kind, folder = sys.argv[3], sys.argv[4]
-    with open(sys.argv[1]) as file:
-        netlist = file.read()
-    with open(sys.argv[2]) as file:
-        patterns = file.read()
-    patterns = re.sub(r"outs = (\w+);", lambda seen: f"outs = {'X' * len(seen[1])};", patterns)
-    if kind == "falling":
-        netlist = falling(netlist)
-    elif kind == "lockups":
-        netlist = lockups(netlist)
-    elif kind == "four":
-        clocks = clocks_of(netlist)
-        copies = copies_of(clocks)
-        netlist, patterns = four(netlist, copies), pulses(patterns, clocks, copies)
-    elif kind != "rising":
-        sys.exit(__doc__)
+    cells, count, clocks, edges, folder = int(sys.argv[1]), int(sys.argv[2]), int(sys.argv[3]), sys.argv[4], sys.argv[5]
+    random.seed(cells * 1000003 + count * 1009 + clocks)
+    length = cells // CHAINS
+    places = blocks(length, clocks, edges == "both")
+    gates, inputs = make_gates(length * CHAINS, places)
     with open(f"{folder}/edges.v", "w") as out:
-        out.write(netlist)
+        netlist(length * CHAINS, clocks, places, gates, inputs, out)
     with open(f"{folder}/edges.stil", "w") as out:
-        out.write(patterns)
+        patterns(length, clocks, count, out)
 
 
 if __name__ == "__main__":

@@ -1,10 +1,11 @@
 #!/usr/bin/env python3
-"""Makes a netlist, patterns and a configuration to time `dft` on: make.py GATES VECTORS CLOCKS FOLDER
+"""Makes a netlist, patterns and a configuration to time `dft` on: make.py GATES VECTORS CLOCKS FOLDER [both]
 
 The netlist has GATES two-input gates, one flip-flop for five gates, 32 data inputs, 32 outputs and CLOCKS clock
 inputs that take turns over the flip-flops. The patterns pulse every clock in each of VECTORS vectors, set the data
 inputs at random and compare nothing, so that all vectors are replayed. The configuration asks for a chain for each
-100 flip-flops, up to 1,024 chains, with a domain for each clock. The same words make the same files.
+100 flip-flops, up to 1,024 chains, with a domain for each clock. With `both` every second clock pin of each clock is
+behind an inverter, which `dft scan` refuses. The same words make the same files.
 """
 import random
 import sys
@@ -25,7 +26,13 @@ W w;
 """
 
 
-def netlist(gates, clocks, out):
+def clock_pin(flop, clocks, both):
+    """The net at a clock pin."""
+    name = f"clk{flop % clocks}"
+    return f"n{name}" if both and flop // clocks % 2 else name
+
+
+def netlist(gates, clocks, both, out):
     flops = gates // 5
     ports = [f"clk{i}" for i in range(clocks)] + [f"d{i}" for i in range(32)] + [f"y{i}" for i in range(32)]
     out.write(f"module bench ({', '.join(ports)});\n")
@@ -35,6 +42,8 @@ def netlist(gates, clocks, out):
         out.write(f"input d{i};\n")
     for i in range(32):
         out.write(f"output y{i};\n")
+    if both:
+        out.writelines(f"INV c{i} (.A(clk{i}), .Y(nclk{i}));\n" for i in range(clocks))
     nets = [f"d{i}" for i in range(32)] + [f"q{i}" for i in range(flops)]
     for i in range(gates):
         cell = random.choice(["NAND2", "NOR2", "XOR2", "AND2"])
@@ -42,7 +51,7 @@ def netlist(gates, clocks, out):
         out.write(f"{cell} g{i} (.A({a}), .B({b}), .Y(n{i}));\n")
         nets.append(f"n{i}")
     for i in range(flops):
-        out.write(f"DFF f{i} (.CK(clk{i % clocks}), .D(n{random.randrange(gates)}), .Q(q{i}));\n")
+        out.write(f"DFF f{i} (.CK({clock_pin(i, clocks, both)}), .D(n{random.randrange(gates)}), .Q(q{i}));\n")
     for i in range(32):
         out.write(f"assign y{i} = n{gates - 1 - i};\n")
     out.write("endmodule\n")
@@ -78,7 +87,7 @@ def main():
     gates, vectors, clocks, folder = int(sys.argv[1]), int(sys.argv[2]), int(sys.argv[3]), sys.argv[4]
     random.seed(gates * 1000003 + vectors * 1009 + clocks)
     with open(f"{folder}/bench.v", "w") as out:
-        netlist(gates, clocks, out)
+        netlist(gates, clocks, sys.argv[5:] == ["both"], out)
     with open(f"{folder}/bench.stil", "w") as out:
         patterns(vectors, clocks, out)
     with open(f"{folder}/bench.toml", "w") as out:

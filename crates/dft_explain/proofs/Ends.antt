@@ -34,7 +34,7 @@ once [] = refl
 once (piece ∷ pieces) = omega (arith, both (shown piece) (told_line pieces), no_ends piece, once pieces)
 
 -- a page ends as many lines as it has
-each : (lines : List (List (List ℕ))) → ends_of (page_of lines) ≡ length lines
+pub each : (lines : List (List (List ℕ))) → ends_of (page_of lines) ≡ length lines
 each [] = refl
 each (line ∷ lines) = omega (arith, both (told_line line) (page_of lines), once line, each lines)
 

@@ -3,3 +3,7 @@ pub mod Asked
 pub mod Options
 pub mod Texts
 pub mod Explained
+pub mod Faults
+pub mod CodeFaults
+pub mod FaultLines
+pub mod Rows

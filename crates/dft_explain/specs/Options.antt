@@ -68,11 +68,17 @@ file_of code name words =
 abbrev pub loaded : List (List ℕ)
 loaded = codes "library" ∷ codes "config" ∷ codes "netlist" ∷ codes "patterns" ∷ codes "cubes" ∷ codes "report" ∷ []
 
--- the options whose files a command saves, in the order of saves
+-- the options whose files a scan and a compilation save, in the order of saves
+abbrev pub scan_saves : List (List ℕ)
+scan_saves = codes "out" ∷ codes "report" ∷ []
+
+abbrev pub compile_saves : List (List ℕ)
+compile_saves = codes "out-netlist" ∷ codes "out-patterns" ∷ codes "out-report" ∷ []
+
+-- the options whose files a command saves
 abbrev pub saved_by : (command : List ℕ) → List (List ℕ)
 saved_by command =
-    if bytes_eq command (codes "scan") then codes "out" ∷ codes "report" ∷ []
-    else (if bytes_eq command (codes "compile") then codes "out-netlist" ∷ codes "out-patterns" ∷ codes "out-report" ∷ [] else [])
+    if bytes_eq command (codes "scan") then scan_saves else (if bytes_eq command (codes "compile") then compile_saves else [])
 
 abbrev pub saved : (words : List (List ℕ)) → List (List ℕ)
 saved [] = []

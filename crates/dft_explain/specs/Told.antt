@@ -1,5 +1,5 @@
 -- Text for a person: lines of printed bytes and blanks, so that no byte of a word, a file or the host drives a terminal.
-use Rattle.std.specs.Prelude.{ℕ, suc, [], ◌∷◌, Bool, ◌||◌, ◌==◌, List, map, if◌then◌else◌}
+use Rattle.std.specs.Prelude.{ℕ, ◌+◌, suc, [], ◌∷◌, Bool, ◌||◌, ◌==◌, List, length, map, if◌then◌else◌}
 use Rattle.std.specs.List.{list_all}
 use Rattle.dft_base.specs.Bytes.{is_printed}
 
@@ -23,3 +23,8 @@ ends_of (b ∷ bs) = if b == 10 then suc (ends_of bs) else ends_of bs
 -- whether a text is lines of such bytes
 abbrev pub is_told : List ℕ → Bool
 is_told text = list_all (λ b. (b == 10) || is_clear b) text
+
+-- how many bytes these texts have
+abbrev pub bytes_of : List (List ℕ) → ℕ
+bytes_of [] = 0
+bytes_of (text ∷ texts) = length text + bytes_of texts

@@ -1,11 +1,11 @@
 //! What a person is told of how a run ended.
 
-ghost use Rattle.std.specs.Prelude.{◌≡◌, ◌≤◌, ◌++◌, [], IfOk, OnOk, codes, map, option_map, string_bytes};
+ghost use Rattle.std.specs.Prelude.{◌≡◌, ◌≤◌, ◌+◌, ◌*◌, ◌++◌, [], true, length, IfOk, OnOk, codes, map, option_map, string_bytes};
 ghost use Rattle.std.specs.Fmt.{decimal};
 ghost use Rattle.dft_explain.specs.Explained as spec;
 ghost use Rattle.dft_explain.specs.Explained.{page_of, told_line};
 ghost use Rattle.dft_explain.specs.Options as named;
-ghost use Rattle.dft_explain.specs.Told.{ends_of};
+ghost use Rattle.dft_explain.specs.Told.{bytes_of, ends_of, is_told};
 ghost use Rattle.dft_explain.specs.declared.ending.Ending.TheVariants as how;
 
 use crate::ending::{Ending, Refusal};
@@ -19,12 +19,14 @@ use crate::windows::{before_column, window};
 use dft_base::Place;
 use std::alloc::{AllocError, Global};
 
-#[tactic(auto, using(crate::proofs::Silence::silent, crate::proofs::Ends::few_lines))]
-/// What a person is told of how the run of these words ended: the lines that `specs/Explained.antt` states, none exactly where it
-/// is done.
+#[tactic(auto, using(crate::proofs::Silence::silent, crate::proofs::Ends::few_lines, crate::proofs::RunBounds::few_bytes))]
+/// What a person is told of how the run of these words ended: the lines that `specs/Explained.antt` states, of printed bytes, none
+/// exactly where it is done.
 pub fn explanation(alloc: Global, words: &[String], ending: Ending<'_>) -> Result<Page, AllocError>
     ensures says { IfOk result (λ page. page ≡ page_of (spec.explained (map string_bytes words.now) ending.entry)) }
     ensures lines { IfOk result (λ page. ends_of page ≤ 4) }
+    ensures few { IfOk result (λ page. length page ≤ 4096 + 4 * bytes_of (map string_bytes words.now)) }
+    ensures told { IfOk result (λ page. is_told page ≡ true) }
     ensures silent { IfOk result (λ page. page ≡ [] → ending.entry ≡ how.Done) }
 {
     let mut page = Page::new(alloc);

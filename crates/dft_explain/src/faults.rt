@@ -1,310 +1,330 @@
 //! What is wrong with words that are no command.
 
-ghost use Rattle.std.specs.Prelude.{◌≡◌, ◌++◌, OnOk, codes};
-ghost use Rattle.dft_explain.specs.Told.{shown};
+ghost use Rattle.std.specs.Prelude.{◌≡◌, ◌≤◌, [], Some, IfOk, OnOk, length, map, option_map, string_bytes};
+ghost use Rattle.std.specs.Char.{is_ascii_digit};
+ghost use Rattle.std.specs.List.{list_all, prefix_len};
+ghost use Rattle.dft_explain.specs.Faults as spec;
+ghost use Rattle.dft_explain.specs.Options.{value_of};
+ghost use Rattle.dft_explain.specs.CodeFaults.{fault_seen, form_seen, range_seen};
 
+use crate::fault::{Fault, Range};
 use crate::forms::Form;
-use crate::page::Page;
+use crate::options::{behind, option_of, value_of};
 use std::alloc::{AllocError, Global};
 
-// The first thing that is wrong with words.
-#[derive(Clone, Copy)]
-enum Fault<'a> {
-    NoCommand,
-    NoSuchCommand(&'a str),
-    Unexpected(&'a str),
-    NoOption(&'a str),
-    Twice(&'a str),
-    NoValue(&'a str),
-    EmptyValue(&'a str),
-    Missing(&'static str),
-    NoNumber(Range, &'a str),
-    OneFile(&'static str, &'static str, &'a str),
-}
-
-// An option whose value is a number, and its least and greatest.
-#[derive(Clone, Copy)]
-struct Range {
-    option: &'static str,
-    digits: usize,
-    least: u64,
-    most: u64,
-    bounds: (&'static str, &'static str),
-}
-
-const SEED: Range = Range {
+static SEED: Range = Range {
     option: "seed",
     digits: 20,
     least: 0,
-    most: u64::MAX,
-    bounds: ("0", "18446744073709551615"),
+    most: 18_446_744_073_709_551_615,
+    text: "0 to 18446744073709551615",
 };
 
-const SIZE: Range = Range {
+static SIZE: Range = Range {
     option: "size",
     digits: 5,
     least: 16,
     most: 20_000,
-    bounds: ("16", "20000"),
+    text: "16 to 20000",
 };
 
-// An option as it was given.
-#[derive(Clone, Copy)]
-struct Given<'a> {
-    name: &'a str,
-    value: &'a str,
-}
-
-/// What is wrong with words that are no command, and the form of the command that they name: two lines at most.
-pub fn fault_of_words(alloc: Global, words: &[String]) -> Result<Page, AllocError> {
-    let mut page = Page::new(alloc);
-    match words {
-        [] => {
-            put_fault(&mut page, "", Fault::NoCommand)?;
-            put_forms(&mut page)?;
-        }
-        [name, options @ ..] => match Form::named(name.as_str()) {
-            None => {
-                put_fault(&mut page, "", Fault::NoSuchCommand(name.as_str()))?;
-                put_forms(&mut page)?;
-            }
-            Some(form) => {
-                if let Some(fault) = fault_of_options(alloc, form, options)? {
-                    put_fault(&mut page, form.name, fault)?;
-                }
-                put_form(&mut page, form)?;
-            }
-        },
-    }
-    Ok(page)
-}
-
 // The first thing that is wrong with the options of a command.
-fn fault_of_options<'a>(
+pub(crate) fn fault_of_options<'a>(
     alloc: Global,
     form: &Form,
     words: &'a [String],
-) -> Result<Option<Fault<'a>>, AllocError> {
-    let mut given = Vec::new(alloc);
-    if let Some(fault) = take_options(form, words, &mut given)? {
-        return Ok(Some(fault));
+) -> Result<Option<Fault<'a>>, AllocError>
+    ensures { IfOk result (λ fault. option_map fault_seen fault ≡ spec.fault_of_options (form_seen form.now) (map string_bytes words.entry.now)) }
+{
+    match wrong_option(alloc, form, words)? {
+        Some(fault) => Ok(Some(fault)),
+        None => Ok(fault_of_right_options(form, words)),
     }
-    Ok(
-        missing(form, &given)
-            .or_else(|| no_number(&given))
-            .or_else(|| one_file(form, &given)),
-    )
 }
 
-// Takes options in turn, up to the first that is wrong.
-fn take_options<'a>(
+// What is wrong with options that are right each.
+fn fault_of_right_options<'a>(form: &Form, words: &'a [String]) -> Option<Fault<'a>>
+    ensures { option_map fault_seen result ≡ spec.fault_of_right_options (form_seen form.now) (map string_bytes words.entry.now) }
+{
+    if let Some(fault) = missing(form.needed, words) {
+        return Some(fault);
+    }
+    if let Some(fault) = no_number(words) {
+        return Some(fault);
+    }
+    one_file(form.saved, words)
+}
+
+// ---- options, one by one
+
+// The first option that is wrong.
+fn wrong_option<'a>(
+    alloc: Global,
     form: &Form,
     words: &'a [String],
-    given: &mut Vec<Given<'a>>,
-) -> Result<Option<Fault<'a>>, AllocError> {
-    let mut is_value = false;
-    for (at, word) in words.iter().enumerate() {
-        if is_value {
-            is_value = false;
-            continue;
+) -> Result<Option<Fault<'a>>, AllocError>
+    ensures { IfOk result (λ fault. option_map fault_seen fault ≡ spec.wrong_option (form_seen form.now) [] (map string_bytes words.entry.now)) }
+{
+    let mut before = Vec::new(alloc);
+    let mut rest = words;
+    while let [word, next @ ..] = rest {
+        let word = word.as_bytes();
+        if let Some(fault) = fault_of_option(form, &before, word, next) {
+            return Ok(Some(fault));
         }
-        let Some((name, joined)) = option_in(word.as_str()) else {
-            return Ok(Some(Fault::Unexpected(word.as_str())));
-        };
-        is_value = joined.is_none();
-        let value = match joined {
-            Some(value) => Some(value),
-            None => words
-                .get(at + 1)
-                .map(|next| next.as_str())
-                .filter(|next| may_be_value(next)),
-        };
-        match judged(form, given, name, value) {
-            Err(fault) => return Ok(Some(fault)),
-            Ok(option) => given.push(option)?,
-        }
+        push_name(&mut before, word)?;
+        rest = words_after(joined_in(word), next);
     }
     Ok(None)
 }
 
-// An option with its value, where the command has it, it was not given before, and its value is there and not empty.
-fn judged<'a>(
+fn push_name<'a>(before: &mut Vec<&'a [u8]>, word: &'a [u8]) -> Result<(), AllocError>
+    ensures { OnOk result (map (λ name. name.now) before.new.items ≡ spec.names_with (map (λ name. name.now) before.old.items) (spec.name_in word.entry.now)) }
+{
+    if let Some(name) = name_in(word) {
+        before.push(name)?;
+    }
+    Ok(())
+}
+
+// What is wrong with the option that a word gives, behind options of these names.
+fn fault_of_option<'a>(
     form: &Form,
-    given: &[Given<'a>],
-    name: &'a str,
-    value: Option<&'a str>,
-) -> Result<Given<'a>, Fault<'a>> {
+    before: &[&[u8]],
+    word: &'a [u8],
+    next: &'a [String],
+) -> Option<Fault<'a>>
+    ensures { option_map fault_seen result ≡ spec.fault_of_option (form_seen form.now) (map (λ name. name.now) before.now) word.entry.now (map string_bytes next.entry.now) }
+{
+    let name = name_in(word);
+    let value = value_from(joined_in(word), next);
+    fault_of_named(form, before, word, name, value)
+}
+
+// The command has the option, it was not given before, and its value is there and not empty.
+fn fault_of_named<'a>(
+    form: &Form,
+    before: &[&[u8]],
+    word: &'a [u8],
+    name: Option<&'a [u8]>,
+    value: Option<&[u8]>,
+) -> Option<Fault<'a>>
+    ensures { option_map fault_seen result ≡ spec.fault_of_named (form_seen form.now) (map (λ name. name.now) before.now) word.entry.now (option_map (λ name. name.now) name.entry) (option_map (λ value. value.now) value.entry) }
+{
+    let Some(name) = name else {
+        return Some(Fault::Unexpected(word));
+    };
     if !form.has(name) {
-        return Err(Fault::NoOption(name));
-    }
-    if value_of(given, name).is_some() {
-        return Err(Fault::Twice(name));
-    }
-    match value {
-        None => Err(Fault::NoValue(name)),
-        Some("") => Err(Fault::EmptyValue(name)),
-        Some(value) => Ok(Given { name, value }),
+        Some(Fault::NoOption(name))
+    } else if is_before(name, before) {
+        Some(Fault::Twice(name))
+    } else {
+        fault_of_value(name, value)
     }
 }
 
-// The name of an option, and its value where it is joined to it: `--name`, `--name=value`.
-fn option_in(word: &str) -> Option<(&str, Option<&str>)> {
-    let option = word.strip_prefix("--")?;
-    let (name, value) = match option.split_once('=') {
-        Some((name, value)) => (name, Some(value)),
-        None => (option, None),
-    };
-    if name.is_empty() {
-        None
-    } else {
-        Some((name, value))
+fn is_before(name: &[u8], before: &[&[u8]]) -> bool
+    ensures { result ≡ spec.is_among name.now (map (λ name. name.now) before.now) }
+{
+    for it in before {
+        if *it == name {
+            return true;
+        }
+    }
+    false
+}
+
+fn fault_of_value<'a>(name: &'a [u8], value: Option<&[u8]>) -> Option<Fault<'a>>
+    ensures { option_map fault_seen result ≡ spec.fault_of_value name.entry.now (option_map (λ value. value.now) value.entry) }
+{
+    match value {
+        None => Some(Fault::NoValue(name)),
+        Some([]) => Some(Fault::EmptyValue(name)),
+        Some(_) => None,
+    }
+}
+
+// The name of the option that a word gives, `--NAME` or `--NAME=VALUE`.
+fn name_in(word: &[u8]) -> Option<&[u8]>
+    ensures { option_map (λ name. name.now) result ≡ spec.name_in word.entry.now }
+{
+    match behind(b"--".as_slice(), word) {
+        Some(text) => named(text),
+        None => None,
+    }
+}
+
+// A name is not empty, and ends before the first `=`.
+fn named(text: &[u8]) -> Option<&[u8]>
+    ensures { option_map (λ name. name.now) result ≡ spec.named text.entry.now }
+{
+    let len = name_len(text);
+    if len == 0 { None } else { Some(&text[..len]) }
+}
+
+fn name_len(text: &[u8]) -> usize
+    ensures value { result ≡ prefix_len spec.is_of_name text.now }
+    ensures within { result ≤ length text.now }
+{
+    text.iter().take_while(|byte| **byte != b'=').count()
+}
+
+// The value that is joined to the option that a word gives.
+fn joined_in(word: &[u8]) -> Option<&[u8]>
+    ensures { option_map (λ value. value.now) result ≡ spec.joined_in word.entry.now }
+{
+    match behind(b"--".as_slice(), word) {
+        Some(text) => joined(text),
+        None => None,
+    }
+}
+
+// What stands behind the first `=`.
+fn joined(text: &[u8]) -> Option<&[u8]>
+    ensures { option_map (λ value. value.now) result ≡ spec.joined text.entry.now }
+{
+    match &text[name_len(text)..] {
+        [_, value @ ..] => Some(value),
+        [] => None,
+    }
+}
+
+// The value of an option: it is joined, or it is the next word.
+fn value_from<'a>(joined: Option<&'a [u8]>, next: &'a [String]) -> Option<&'a [u8]>
+    ensures { option_map (λ value. value.now) result ≡ spec.value_from (option_map (λ value. value.now) joined.entry) (map string_bytes next.entry.now) }
+{
+    match joined {
+        Some(value) => Some(value),
+        None => next_value(next),
+    }
+}
+
+fn next_value(next: &[String]) -> Option<&[u8]>
+    ensures { option_map (λ value. value.now) result ≡ spec.next_value (map string_bytes next.entry.now) }
+{
+    match next {
+        [word, ..] if may_be_value(word.as_bytes()) => Some(word.as_bytes()),
+        _ => None,
     }
 }
 
 // Whether a word behind an option may be its value.
-fn may_be_value(word: &str) -> bool {
-    !word.starts_with('-') || word == "-"
+fn may_be_value(word: &[u8]) -> bool
+    ensures { result ≡ spec.may_be_value word.now }
+{
+    match word {
+        [b'-', _, ..] => false,
+        _ => true,
+    }
 }
 
-// The value of an option that was given.
-fn value_of<'a>(given: &[Given<'a>], name: &str) -> Option<&'a str> {
-    for option in given {
-        if option.name == name {
-            return Some(option.value);
+// The words behind an option and its value.
+fn words_after<'a>(joined: Option<&[u8]>, next: &'a [String]) -> &'a [String]
+    ensures { map string_bytes result.now ≡ spec.words_after (option_map (λ value. value.now) joined.entry) (map string_bytes next.entry.now) }
+{
+    match (joined, next) {
+        (None, [_, rest @ ..]) => rest,
+        _ => next,
+    }
+}
+
+// ---- all options of a command
+
+// The first option that a command needs and that has no value.
+fn missing<'a>(needed: &'static [&'static str], words: &[String]) -> Option<Fault<'a>>
+    ensures { option_map fault_seen result ≡ spec.missing (map (λ option. option.now) needed.entry.now) (map string_bytes words.now) }
+{
+    for option in needed {
+        if value_of(option.as_bytes(), words).is_none() {
+            return Some(Fault::Missing(option));
         }
     }
     None
 }
 
-// The first option that a command needs and that was not given.
-fn missing<'a>(form: &Form, given: &[Given<'a>]) -> Option<Fault<'a>> {
-    for name in form.needed {
-        if value_of(given, name).is_none() {
-            return Some(Fault::Missing(name));
-        }
-    }
-    None
-}
-
+#[tactic(auto, unfolding(crate::specs::Faults::seed, crate::specs::Faults::size))]
 // The first value that is no number of its range.
-fn no_number<'a>(given: &[Given<'a>]) -> Option<Fault<'a>> {
-    for range in [SEED, SIZE] {
-        if let Some(value) = value_of(given, range.option) {
-            if !range.has(value) {
-                return Some(Fault::NoNumber(range, value));
-            }
-        }
+fn no_number<'a>(words: &'a [String]) -> Option<Fault<'a>>
+    ensures { option_map fault_seen result ≡ spec.no_number (map string_bytes words.entry.now) }
+{
+    match fault_of_number(&SEED, value_of(b"seed".as_slice(), words)) {
+        Some(fault) => Some(fault),
+        None => fault_of_number(&SIZE, value_of(b"size".as_slice(), words)),
     }
-    None
+}
+
+fn fault_of_number<'a>(range: &Range, value: Option<&'a [u8]>) -> Option<Fault<'a>>
+    ensures { option_map fault_seen result ≡ spec.fault_of_number (range_seen range.now) (option_map (λ value. value.now) value.entry) }
+{
+    match value {
+        Some(value) if !range.has(value) => {
+            Some(Fault::NoNumber(range.option, range.text, value))
+        }
+        _ => None,
+    }
 }
 
 impl Range {
     // Whether a text is some digits of one of its numbers.
-    fn has(&self, text: &str) -> bool {
-        if text.len() > self.digits || !text.as_bytes().iter().all(|byte| byte.is_ascii_digit()) {
+    fn has(&self, text: &[u8]) -> bool
+        ensures { result ≡ spec.is_in (range_seen self.now) text.now }
+    {
+        if self.digits < text.len() {
             return false;
         }
-        match text.parse::<u64>() {
-            Ok(number) => self.least <= number && number <= self.most,
-            Err(_) => false,
+        match decimal(text) {
+            Some(number) => self.least <= number && number <= self.most,
+            None => false,
         }
     }
 }
 
-// The first two outputs that have one name.
-fn one_file<'a>(form: &Form, given: &[Given<'a>]) -> Option<Fault<'a>> {
-    for (place, second) in form.saved.iter().enumerate() {
-        let value = value_of(given, second)?;
-        for first in &form.saved[..place] {
-            if value_of(given, first) == Some(value) {
-                return Some(Fault::OneFile(first, second, value));
-            }
+// The number below 2^64 that decimal digits write.
+fn decimal(text: &[u8]) -> Option<u64>
+    ensures { result ≡ spec.decimal_of text.now }
+{
+    if !are_digits(text) {
+        return None;
+    }
+    match str::from_utf8(text) {
+        Ok(text) => text.parse().ok(),
+        Err(_) => None,
+    }
+}
+
+fn are_digits(text: &[u8]) -> bool
+    ensures { result ≡ list_all is_ascii_digit text.now }
+{
+    text.iter().all(|byte| byte.is_ascii_digit())
+}
+
+// The first of a command's outputs whose file an output before it names.
+fn one_file<'a>(saved: &'static [&'static str], words: &'a [String]) -> Option<Fault<'a>>
+    ensures { option_map fault_seen result ≡ spec.one_file (map (λ option. option.now) saved.entry.now) (map string_bytes words.entry.now) (map (λ option. option.now) saved.entry.now) }
+{
+    for second in saved {
+        if let Some(fault) = fault_of_output(saved, words, second) {
+            return Some(fault);
         }
     }
     None
 }
 
-// Adds the line of a fault in the words of a command of this name.
-fn put_fault(page: &mut Page, command: &str, fault: Fault<'_>) -> Result<(), AllocError> {
-    page.put_text("dft: ")?;
-    put_sentence(page, command, fault)?;
-    page.end()
-}
-
-fn put_sentence(page: &mut Page, command: &str, fault: Fault<'_>) -> Result<(), AllocError> {
-    match fault {
-        Fault::NoCommand => page.put_text("no command"),
-        Fault::NoSuchCommand(word) => put_two(page, "no such command: ", word),
-        Fault::Unexpected(word) => put_two(page, "unexpected word: ", word),
-        Fault::NoOption(name) => {
-            put_two(page, command, " has no option --")?;
-            page.put_text(name)
-        }
-        Fault::Twice(name) => put_option(page, name, " stands twice"),
-        Fault::NoValue(name) => put_option(page, name, " has no value"),
-        Fault::EmptyValue(name) => put_option(page, name, " has an empty value"),
-        Fault::Missing(name) => {
-            put_two(page, command, " needs --")?;
-            page.put_text(name)
-        }
-        Fault::NoNumber(range, value) => {
-            put_option(page, range.option, " wants a number from ")?;
-            put_two(page, range.bounds.0, " to ")?;
-            put_two(page, range.bounds.1, ": ")?;
-            page.put_text(value)
-        }
-        Fault::OneFile(first, second, name) => {
-            put_option(page, first, " and ")?;
-            put_option(page, second, " save one file: ")?;
-            page.put_text(name)
-        }
-    }
-}
-
-fn put_two(page: &mut Page, first: &str, second: &str) -> Result<(), AllocError>
-    ensures { OnOk result (page.new ≡ page.old ++ (shown first.now ++ shown second.now)) }
+// Whether another output is the first that names the file of this one.
+fn fault_of_output<'a>(
+    saved: &'static [&'static str],
+    words: &'a [String],
+    second: &'static str,
+) -> Option<Fault<'a>>
+    ensures { option_map fault_seen result ≡ spec.fault_of_output (map (λ option. option.now) saved.entry.now) (map string_bytes words.entry.now) second.now (value_of second.now (map string_bytes words.entry.now)) }
 {
-    page.put_text(first)?;
-    page.put_text(second)
-}
-
-// Adds an option and what is said of it.
-fn put_option(page: &mut Page, name: &str, text: &str) -> Result<(), AllocError>
-    ensures { OnOk result (page.new ≡ page.old ++ (codes "--" ++ (shown name.now ++ shown text.now))) }
-{
-    page.put_text("--")?;
-    put_two(page, name, text)
-}
-
-// Adds the line that says how commands are written.
-fn put_forms(page: &mut Page) -> Result<(), AllocError> {
-    page.put_text("dft: usage: dft COMMAND ..; dft --help says more")?;
-    page.end()
-}
-
-// Adds the line that says how a command is written.
-fn put_form(page: &mut Page, form: &Form) -> Result<(), AllocError> {
-    page.put_text("dft: usage: dft ")?;
-    page.put_text(form.name)?;
-    for name in form.needed {
-        page.put_text(" --")?;
-        page.put_text(name)?;
-        page.put_text(kind_of(name))?;
-    }
-    for name in form.optional {
-        page.put_text(" [--")?;
-        page.put_text(name)?;
-        page.put_text(kind_of(name))?;
-        page.put_text("]")?;
-    }
-    page.end()
-}
-
-// What an option's value is.
-fn kind_of(option: &str) -> &'static str {
-    if option == "seed" || option == "size" {
-        " NUMBER"
-    } else {
-        " FILE"
+    match value_of(second.as_bytes(), words) {
+        Some(file) => match option_of(file, words, saved) {
+            Some(first) if first != second.as_bytes() => {
+                Some(Fault::OneFile(first, second, file))
+            }
+            _ => None,
+        },
+        None => None,
     }
 }

@@ -1,5 +1,11 @@
 //! The commands and their options.
 
+ghost use Rattle.std.specs.Prelude.{◌≡◌, map, option_map};
+ghost use Rattle.dft_explain.specs.Faults as spec;
+ghost use Rattle.dft_explain.specs.CodeFaults.{form_seen};
+
+use crate::options::{COMPILE_SAVES, NOTHING, SCAN_SAVES};
+
 // A command: the options that it needs, those that may be left out, and those whose files it saves.
 #[derive(Clone, Copy)]
 pub(crate) struct Form {
@@ -9,64 +15,77 @@ pub(crate) struct Form {
     pub(crate) saved: &'static [&'static str],
 }
 
-static FORMS: [Form; 5] = [
-    Form {
-        name: "replay",
-        needed: &["netlist", "patterns"],
-        optional: &["library"],
-        saved: &[],
-    },
-    Form {
-        name: "scan",
-        needed: &["netlist", "config", "out", "report"],
-        optional: &["library"],
-        saved: &["out", "report"],
-    },
-    Form {
-        name: "compile",
-        needed: &[
-            "netlist",
-            "config",
-            "cubes",
-            "out-netlist",
-            "out-patterns",
-            "out-report",
-        ],
-        optional: &["library"],
-        saved: &["out-netlist", "out-patterns", "out-report"],
-    },
-    Form {
-        name: "certify",
-        needed: &["netlist", "config", "cubes", "report"],
-        optional: &["library"],
-        saved: &[],
-    },
-    Form {
-        name: "generate",
-        needed: &["seed", "size"],
-        optional: &[],
-        saved: &[],
-    },
+static REPLAY: [&str; 2] = ["netlist", "patterns"];
+
+static SCAN: [&str; 4] = ["netlist", "config", "out", "report"];
+
+static COMPILE: [&str; 6] = [
+    "netlist",
+    "config",
+    "cubes",
+    "out-netlist",
+    "out-patterns",
+    "out-report",
 ];
+
+static CERTIFY: [&str; 4] = ["netlist", "config", "cubes", "report"];
+
+static GENERATE: [&str; 2] = ["seed", "size"];
+
+static LIBRARY: [&str; 1] = ["library"];
 
 impl Form {
     // The command of this name.
-    pub(crate) fn named(name: &str) -> Option<&'static Form> {
-        for form in &FORMS {
-            if form.name == name {
-                return Some(form);
-            }
+    pub(crate) fn named(name: &str) -> Option<Form>
+        ensures { option_map form_seen result ≡ spec.form_of name.now }
+    {
+        if name == "replay" {
+            Some(Form::new("replay", &REPLAY, &LIBRARY, &NOTHING))
+        } else if name == "scan" {
+            Some(Form::new("scan", &SCAN, &LIBRARY, &SCAN_SAVES))
+        } else if name == "compile" {
+            Some(Form::new("compile", &COMPILE, &LIBRARY, &COMPILE_SAVES))
+        } else if name == "certify" {
+            Some(Form::new("certify", &CERTIFY, &LIBRARY, &NOTHING))
+        } else if name == "generate" {
+            Some(Form::new("generate", &GENERATE, &NOTHING, &NOTHING))
+        } else {
+            None
         }
-        None
+    }
+
+    fn new(
+        name: &'static str,
+        needed: &'static [&'static str],
+        optional: &'static [&'static str],
+        saved: &'static [&'static str],
+    ) -> Form
+        ensures { form_seen result ≡ record { name = name.now; needed = map (λ option. option.now) needed.now; optional = map (λ option. option.now) optional.now; saved = map (λ option. option.now) saved.now } }
+    {
+        Form {
+            name,
+            needed,
+            optional,
+            saved,
+        }
     }
 
     // Whether it has an option of this name.
-    pub(crate) fn has(&self, option: &str) -> bool {
-        is_among(self.needed, option) || is_among(self.optional, option)
+    pub(crate) fn has(&self, option: &[u8]) -> bool
+        ensures { result ≡ spec.has (form_seen self.now) option.now }
+    {
+        is_among(option, self.needed) || is_among(option, self.optional)
     }
 }
 
 // Whether a text is one of these.
-fn is_among(texts: &[&str], text: &str) -> bool {
-    texts.iter().any(|it| *it == text)
+fn is_among(text: &[u8], texts: &[&str]) -> bool
+    ensures { result ≡ spec.is_among text.now (map (λ it. it.now) texts.now) }
+{
+    for it in texts {
+        if it.as_bytes() == text {
+            return true;
+        }
+    }
+    false
 }

@@ -4,6 +4,8 @@
 mod asking;
 mod ending;
 mod explaining;
+mod fault;
+mod fault_lines;
 mod faults;
 mod forms;
 mod helping;
@@ -17,7 +19,7 @@ mod windows;
 pub use asking::{Request, Topic, asked};
 pub use ending::{Ending, Refusal};
 pub use explaining::explanation;
-pub use faults::fault_of_words;
+pub use fault_lines::fault_of_words;
 pub use helping::help;
 pub use options::{file_of, value_of};
 pub use page::Page;

@@ -11,14 +11,14 @@ pub(crate) static LOADED: [&str; 6] = [
 ];
 
 // The options whose files a scan and a compilation save, in the order of saves.
-static SCAN_SAVES: [&str; 2] = ["out", "report"];
+pub(crate) static SCAN_SAVES: [&str; 2] = ["out", "report"];
 
-static COMPILE_SAVES: [&str; 3] = ["out-netlist", "out-patterns", "out-report"];
+pub(crate) static COMPILE_SAVES: [&str; 3] = ["out-netlist", "out-patterns", "out-report"];
 
-static NOTHING: [&str; 0] = [];
+pub(crate) static NOTHING: [&str; 0] = [];
 
 // What stands behind these first bytes, where a text begins with them.
-fn behind<'a>(front: &[u8], text: &'a [u8]) -> Option<&'a [u8]>
+pub(crate) fn behind<'a>(front: &[u8], text: &'a [u8]) -> Option<&'a [u8]>
     ensures { option_map (λ rest. rest.now) result ≡ spec.behind front.entry.now text.entry.now }
 {
     let mut front = front;

@@ -1,9 +1,12 @@
 //! Refusals in words: what is wrong, and what to do. `docs/refusals` holds them and the tables of `docs/FORMATS.md` together.
 
-/// A refusal in words.
+ghost use Rattle.std.specs.Prelude.{◌≡◌, IfSome, option_map};
+ghost use Rattle.dft_explain.specs.Rows.{is_of_netlist, row_of};
+
+/// A refusal in words, and the row that it stands in.
 #[derive(Clone, Copy, Debug)]
 pub struct Said {
-    code: &'static str,
+    pub code: &'static str,
     pub sentence: &'static str,
     pub advice: &'static str,
 }
@@ -52,7 +55,7 @@ static SENTENCES: [Said; 63] = [
     Said {
         code: "V8",
         sentence: "a second module",
-        advice: "flatten",
+        advice: "flatten the design to one module, in yosys by flatten",
     },
     Said {
         code: "V9",
@@ -82,7 +85,7 @@ static SENTENCES: [Said; 63] = [
     Said {
         code: "N4",
         sentence: "more than 32,768 ports, 524,288 nets or 262,144 instances",
-        advice: "cut the design",
+        advice: "cut the design into blocks, and test each by itself",
     },
     Said {
         code: "N1",
@@ -97,12 +100,12 @@ static SENTENCES: [Said; 63] = [
     Said {
         code: "L6",
         sentence: "the bytes are no TOML text",
-        advice: "mend the text",
+        advice: "look for a quote or a bracket that is not closed, or a key or table that stands twice; any TOML checker tells the line",
     },
     Said {
         code: "L1",
         sentence: "a kind that is not known",
-        advice: "take a known kind; a cell that has none of them is opaque",
+        advice: "take buf, inv, and, nand, or, nor, xor, xnor, mux2, table, tie0, tie1, dff, dffr, dffs, sdff, sdffr, sdffs or lockup, and opaque where none of them fits",
     },
     Said {
         code: "L7",
@@ -112,7 +115,7 @@ static SENTENCES: [Said; 63] = [
     Said {
         code: "L2",
         sentence: "a wrong number of inputs, a pin twice, a table of another length or character",
-        advice: "name each pin once",
+        advice: "name each pin once, as many inputs as the kind has, and of a table 0 or 1 for each row of its inputs",
     },
     Said {
         code: "L3",
@@ -177,7 +180,7 @@ static SENTENCES: [Said; 63] = [
     Said {
         code: "C1",
         sentence: "the bytes are no TOML text",
-        advice: "mend the text",
+        advice: "look for a quote or a bracket that is not closed, or a key or table that stands twice; any TOML checker tells the line",
     },
     Said {
         code: "C2",
@@ -187,12 +190,12 @@ static SENTENCES: [Said; 63] = [
     Said {
         code: "C3",
         sentence: "a number, or the count of a list, is outside of its range",
-        advice: "keep the range",
+        advice: "keep the range that docs/FORMATS.md has for the key; stages, channels and chains count from 0",
     },
     Said {
         code: "C6",
         sentence: "something stands twice",
-        advice: "name it once",
+        advice: "name it once; a reset is no domain, and ports have different names",
     },
     Said {
         code: "C4",
@@ -232,7 +235,7 @@ static SENTENCES: [Said; 63] = [
     Said {
         code: "G3",
         sentence: "there are fewer scanned cells than chains",
-        advice: "fewer chains",
+        advice: "configure as many chains as there are scanned cells, the first number, or fewer",
     },
     Said {
         code: "N4 of a plan",
@@ -257,7 +260,7 @@ static SENTENCES: [Said; 63] = [
     Said {
         code: "Q1",
         sentence: "a line that is none of these in its place, or has a byte outside of 33 to 126 in a word before its comment",
-        advice: "mend the line",
+        advice: "write cube NAME CLOCK, then lines cell NAME BIT and port NAME BIT, then end",
     },
     Said {
         code: "Q2",
@@ -272,22 +275,22 @@ static SENTENCES: [Said; 63] = [
     Said {
         code: "Q4",
         sentence: "the clock is no domain of the configuration",
-        advice: "name a domain",
+        advice: "name one of the configuration's domains",
     },
     Said {
         code: "Q5",
         sentence: "a cube before has this name",
-        advice: "rename",
+        advice: "rename one of the two cubes",
     },
     Said {
         code: "Q6",
         sentence: "the cube gave this cell or port before",
-        advice: "give each once",
+        advice: "give each cell and port once in a cube",
     },
     Said {
         code: "Q7",
         sentence: "the text ends inside of a cube",
-        advice: "end the cube",
+        advice: "write end behind the last line of the cube",
     },
     Said {
         code: "Q8",
@@ -297,7 +300,7 @@ static SENTENCES: [Said; 63] = [
     Said {
         code: "Q9",
         sentence: "the first line of cube number 65,537",
-        advice: "cut the file",
+        advice: "cut the file in two",
     },
     Said {
         code: "K1",
@@ -327,7 +330,9 @@ static SENTENCES: [Said; 63] = [
 ];
 
 /// What a code says, where it is known. N4 has a row for what a netlist counts, and one for what a plan counts.
-pub fn said_of(code: &str, name: Option<&[u8]>) -> Option<&'static Said> {
+pub fn said_of(code: &str, name: Option<&[u8]>) -> Option<&'static Said>
+    ensures { IfSome result (λ said. said.now.code.now ≡ row_of code.now (option_map (λ name. name.now) name.entry)) }
+{
     if code == "N4" && !is_of_netlist(name) {
         said_at("N4 of a plan")
     } else {
@@ -335,8 +340,17 @@ pub fn said_of(code: &str, name: Option<&[u8]>) -> Option<&'static Said> {
     }
 }
 
-fn said_at(code: &str) -> Option<&'static Said> {
-    for said in &SENTENCES {
+fn said_at(code: &str) -> Option<&'static Said>
+    ensures { IfSome result (λ said. said.now.code.now ≡ code.now) }
+{
+    said_in(&SENTENCES, code)
+}
+
+// The row of this code.
+fn said_in(rows: &'static [Said], code: &str) -> Option<&'static Said>
+    ensures { IfSome result (λ said. said.now.code.now ≡ code.now) }
+{
+    for said in rows {
         if said.code == code {
             return Some(said);
         }
@@ -345,7 +359,9 @@ fn said_at(code: &str) -> Option<&'static Said> {
 }
 
 // Whether a netlist has a limit on this.
-fn is_of_netlist(name: Option<&[u8]>) -> bool {
+fn is_of_netlist(name: Option<&[u8]>) -> bool
+    ensures { result ≡ is_of_netlist (option_map (λ name. name.now) name.entry) }
+{
     match name {
         Some(name) => {
             name == b"ports".as_slice()

@@ -102,6 +102,8 @@ fn a_person_is_told_how_a_run_ended(rt: HostRuntime) -> Result<(), Fail> {
 
 const NETLIST: &str = "module m (c, d, q);\ninput c, d; output q;\nMAJ3 u (.A(c), .B(d), .C(q));\n";
 
+const MAJ3: &str = "MAJ3";
+
 const REFUSED: &str = "\
 dft: w.v:3:1: V4: a cell that the library has not: MAJ3
   MAJ3 u (.A(c), .B(d), .C(q));
@@ -109,8 +111,8 @@ dft: w.v:3:1: V4: a cell that the library has not: MAJ3
 dft: try: add the cell to the library, or map to its cells
 ";
 
-// A refusal of a cell that the library has not, at a column of a line.
-fn missing_cell<'a>(column: u32, line: Option<&'a [u8]>) -> Ending<'a> {
+// A refusal of a cell of this name that the library has not, at a column of a line.
+fn missing_cell<'a>(name: &'a [u8], column: u32, line: Option<&'a [u8]>) -> Ending<'a> {
     let (sentence, advice) = match said_of("V4", None) {
         Some(said) => (said.sentence, said.advice),
         None => ("", ""),
@@ -120,7 +122,7 @@ fn missing_cell<'a>(column: u32, line: Option<&'a [u8]>) -> Ending<'a> {
         sentence: sentence.as_bytes(),
         advice: advice.as_bytes(),
         place: Some(Place { line: 3, column }),
-        name: Some(b"MAJ3".as_slice()),
+        name: Some(name),
         first: None,
         second: None,
         line,
@@ -132,7 +134,11 @@ const SCAN_OF_W: &str = "scan --netlist w.v --config b --out c --report d";
 #[test]
 fn a_refusal_shows_its_line(rt: HostRuntime) -> Result<(), Fail> {
     let line = line_at(NETLIST.as_bytes(), 3);
-    let page = told(rt.alloc(), SCAN_OF_W, missing_cell(1, line))?;
+    let page = told(
+        rt.alloc(),
+        SCAN_OF_W,
+        missing_cell(MAJ3.as_bytes(), 1, line),
+    )?;
     assert_eq!(rt; page.as_slice(), REFUSED.as_bytes());
     Ok(())
 }
@@ -141,10 +147,64 @@ fn a_refusal_shows_its_line(rt: HostRuntime) -> Result<(), Fail> {
 fn a_long_line_is_shown_around_its_column(rt: HostRuntime) -> Result<(), Fail> {
     let mut line = Vec::new(rt.alloc());
     line.resize(1_000_000, b'\t')?;
-    let page = told(rt.alloc(), SCAN_OF_W, missing_cell(500_000, Some(&line)))?;
+    let page = told(
+        rt.alloc(),
+        SCAN_OF_W,
+        missing_cell(MAJ3.as_bytes(), 500_000, Some(&line)),
+    )?;
     let shown = line_at(page.as_slice(), 2);
     assert_eq!(rt; shown.map(|shown| shown.len()), Some(102));
     let caret = line_at(page.as_slice(), 3);
     assert_eq!(rt; caret.map(|caret| caret.len()), Some(63));
+    Ok(())
+}
+
+// Whether nothing but printed bytes, blanks and ends of lines is told.
+fn is_clear(page: &Page) -> bool {
+    page.as_slice()
+        .iter()
+        .all(|byte| *byte == b'\n' || (b' '..=b'~').contains(byte))
+}
+
+// Every byte, in turn.
+fn every_byte(alloc: Global) -> Result<Vec<u8>, AllocError> {
+    let mut bytes = Vec::new(alloc);
+    for byte in 0..=255u8 {
+        bytes.push(byte)?;
+    }
+    Ok(bytes)
+}
+
+#[test]
+fn no_byte_of_a_name_or_a_line_is_told_as_it_is(rt: HostRuntime) -> Result<(), Fail> {
+    let bytes = every_byte(rt.alloc())?;
+    for column in [1u32, 100, 257] {
+        let refused = missing_cell(&bytes, column, Some(&bytes));
+        assert!(rt;
+            is_clear(&told(rt.alloc(), SCAN_OF_W, refused)?),
+            "{column}"
+        );
+    }
+    for kind in 0..8u8 {
+        let page = told(rt.alloc(), SCAN_OF_W, ending_of(kind, &bytes))?;
+        assert!(rt; is_clear(&page), "{kind}");
+    }
+    Ok(())
+}
+
+#[test]
+fn a_line_is_shown_where_it_has_the_column(rt: HostRuntime) -> Result<(), Fail> {
+    // a column one past the end is the end's; behind that the line is another than the one that was read
+    for (column, lines) in [(1u32, 4usize), (30, 4), (31, 2)] {
+        let line = line_at(NETLIST.as_bytes(), 3);
+        assert_eq!(rt; line.map(|line| line.len()), Some(29));
+        let page = told(
+            rt.alloc(),
+            SCAN_OF_W,
+            missing_cell(MAJ3.as_bytes(), column, line),
+        )?;
+        let ends = page.as_slice().iter().filter(|byte| **byte == b'\n');
+        assert_eq!(rt; ends.count(), lines, "{column}");
+    }
     Ok(())
 }

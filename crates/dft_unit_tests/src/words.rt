@@ -212,6 +212,96 @@ fn a_fault_is_told_where_words_are_no_command(rt: HostRuntime) -> Result<(), Fai
     Ok(())
 }
 
+// Lines of words that are commands with the options that they need, and no others.
+static NEEDED: [&str; 5] = [
+    "replay --netlist=a --patterns=b",
+    "scan --netlist=a --config=b --out=c --report=d",
+    "compile --netlist=a --config=b --cubes=c --out-netlist=d --out-patterns=e --out-report=f",
+    "certify --netlist=a --config=b --cubes=c --report=d",
+    "generate --seed=1 --size=16",
+];
+
+// The options of all commands, and one that none has.
+static OPTIONS: [&str; 13] = [
+    "library",
+    "config",
+    "netlist",
+    "patterns",
+    "cubes",
+    "report",
+    "out",
+    "out-netlist",
+    "out-patterns",
+    "out-report",
+    "seed",
+    "size",
+    "no",
+];
+
+// The words with one option more.
+fn with_option(alloc: Global, words: &[String], option: &str) -> Result<Vec<String>, AllocError> {
+    let mut made = Vec::new(alloc);
+    for word in words {
+        made.push(String::from_str(alloc, word.as_str())?)?;
+    }
+    made.push(format!(in alloc; "--{option}=17")?)?;
+    Ok(made)
+}
+
+#[test]
+fn commands_have_the_options_that_are_told(rt: HostRuntime) -> Result<(), Fail> {
+    for line in &NEEDED {
+        let words = words_of(rt.alloc(), *line)?;
+        assert!(rt; command(rt.alloc(), &words)?.is_some(), "{line}");
+        for option in &OPTIONS {
+            let more = with_option(rt.alloc(), &words, *option)?;
+            assert!(rt; is_told_rightly(rt.alloc(), &more)?, "{line}: {option}");
+        }
+        for at in 0..words.len() {
+            let less = bent(rt.alloc(), &words, at, 0)?;
+            assert!(rt; is_told_rightly(rt.alloc(), &less)?, "{line}: {at}");
+        }
+    }
+    Ok(())
+}
+
+// The words with one value for the options at two places.
+fn with_one_value(
+    alloc: Global,
+    words: &[String],
+    first: usize,
+    second: usize,
+) -> Result<Vec<String>, AllocError> {
+    let mut made = Vec::new(alloc);
+    for (place, word) in words.iter().enumerate() {
+        let option = word.as_str().split_once('=');
+        match option {
+            Some((option, _)) if place == first || place == second => {
+                made.push(format!(in alloc; "{option}=x")?)?;
+            }
+            _ => made.push(String::from_str(alloc, word.as_str())?)?,
+        }
+    }
+    Ok(made)
+}
+
+#[test]
+fn outputs_of_one_name_are_told(rt: HostRuntime) -> Result<(), Fail> {
+    for line in &NEEDED {
+        let words = words_of(rt.alloc(), *line)?;
+        for first in 0..words.len() {
+            for second in 0..first {
+                let made = with_one_value(rt.alloc(), &words, first, second)?;
+                assert!(rt;
+                    is_told_rightly(rt.alloc(), &made)?,
+                    "{line}: {second} {first}"
+                );
+            }
+        }
+    }
+    Ok(())
+}
+
 // Words that ask, and for what.
 static ASKED: [(&str, Option<Request>); 8] = [
     ("--help", Some(Request::Help)),
