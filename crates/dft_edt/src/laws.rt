@@ -59,8 +59,8 @@ pub fn loads_reach_cells()
     ensures runs { LoadInRuns }
 {}
 
-/// Where the first cell of each chain is rising: after a load with masks and a clearing vector, in each shift vector an output shows the sum of the ends of the chains of its
-/// group that are not masked.
+/// Where the first cell of each chain is rising: after a load with masks and a clearing vector, in each shift vector an output shows the
+/// sum of the ends of the chains of its group that are not masked.
 pub fn unloads_reach_outputs()
     ensures masks { MasksPass }
     ensures passes { UnloadPasses }
