@@ -3,7 +3,7 @@ use Rattle.dft_equations.proofs.LoadLemmas.{IsRead, read_within, read_bit}
 use Rattle.dft_equations.proofs.making.first_bit.Goals as goal
 use Rattle.dft_equations.proofs.making.first_bit.Goals.{After-as_slice-2, After-phase_sum}
 
-read : (c : After-as_slice-2) → IsRead c.args.config.now c.args.cycles c.args.chain c.args.column c.args.responses.now c.index-responses-column.result c.index-response-from.result c.index-as_slice-chain.result
+read : (c : After-as_slice-2) → IsRead c.args.config.now c.args.cycles c.args.late c.args.chain c.args.column c.args.responses.now c.index-responses-column.result c.index-response-moment.result c.index-as_slice-chain.result
 read c =
     record {
       range = c.soundness.ensures.ring;
@@ -11,14 +11,14 @@ read c =
       chain_less = c.requires.chain;
       column_less = c.requires.column;
       response_is = rw (c.from-channels.ensures, c.ring.ensures) at c.index-responses-column.is;
-      state_is = rw (c.as_slice-response.ensures, c.from.ensures, c.from-channels.ensures, c.ring.ensures) at c.index-response-from.is;
+      state_is = rw (c.as_slice-response.ensures, c.from.ensures, c.from-channels.ensures, c.ring.ensures) at c.index-response-moment.is;
       stages_are = rw (c.as_slice.ensures, c.ring-2.ensures) at c.index-as_slice-chain.is;
     }
 
 pub phase_sum-requires : goal.phase_sum-requires
-phase_sum-requires c = rw (c.as_slice-2.ensures, c.as_slice-state.ensures) (read_within c.args.config.now c.args.cycles c.args.chain c.args.column c.args.responses.now _ _ _ (read c))
+phase_sum-requires c = rw (c.as_slice-2.ensures, c.as_slice-state.ensures) (read_within c.args.config.now c.args.cycles c.args.late c.args.chain c.args.column c.args.responses.now _ _ _ (read c))
 
-read_after : (c : After-phase_sum) → IsRead c.args.config.now c.args.cycles c.args.chain c.args.column c.args.responses.now c.index-responses-column.result c.index-response-from.result c.index-as_slice-chain.result
+read_after : (c : After-phase_sum) → IsRead c.args.config.now c.args.cycles c.args.late c.args.chain c.args.column c.args.responses.now c.index-responses-column.result c.index-response-moment.result c.index-as_slice-chain.result
 read_after c =
     record {
       range = c.soundness.ensures.ring;
@@ -26,9 +26,9 @@ read_after c =
       chain_less = c.requires.chain;
       column_less = c.requires.column;
       response_is = rw (c.from-channels.ensures, c.ring.ensures) at c.index-responses-column.is;
-      state_is = rw (c.as_slice-response.ensures, c.from.ensures, c.from-channels.ensures, c.ring.ensures) at c.index-response-from.is;
+      state_is = rw (c.as_slice-response.ensures, c.from.ensures, c.from-channels.ensures, c.ring.ensures) at c.index-response-moment.is;
       stages_are = rw (c.as_slice.ensures, c.ring-2.ensures) at c.index-as_slice-chain.is;
     }
 
 pub returns : goal.returns
-returns c = rw (c.phase_sum.ensures, c.as_slice-2.ensures, c.as_slice-state.ensures) (read_bit c.args.config.now c.args.cycles c.args.chain c.args.column c.args.responses.now _ _ _ (read_after c))
+returns c = rw (c.phase_sum.ensures, c.as_slice-2.ensures, c.as_slice-state.ensures) (read_bit c.args.config.now c.args.cycles c.args.late c.args.chain c.args.column c.args.responses.now _ _ _ (read_after c))
