@@ -1,5 +1,5 @@
 -- In style Edt a scanned netlist has all of the compression hardware.
-use Rattle.std.proofs.Common.{ℕ, zero, suc, ◌+◌, ◌-◌, ◌<◌, ◌≡◌, List, length, map, None, Some, option_map, option_and_then, slice_get, sym, subst, ap, arith, ◌∙◌}
+use Rattle.std.proofs.Common.{ℕ, zero, suc, ◌+◌, ◌-◌, ◌<◌, ◌≡◌, Bool, false, List, length, map, None, Some, option_map, option_and_then, slice_get, sym, subst, ap, arith, ◌∙◌}
 use Rattle.std.proofs.lemmas.Option.{slice_get-map, get_or_from_slice_get, slice_get_past}
 use Rattle.dft_base.proofs.ListLemmas.{get_there}
 use Rattle.dft_netlist.specs.declared.ids.NetId.{NetId}
@@ -7,9 +7,11 @@ use Rattle.dft_netlist.specs.declared.ids.InstanceId.{InstanceId}
 use Rattle.dft_netlist.specs.Netlist.{Netlist}
 use Rattle.dft_netlist.specs.Logic.{Logic, Input, logic_of}
 use Rattle.dft_config.specs.Config.{Config}
+use Rattle.dft_rules.specs.Rules.{judgements}
 use Rattle.dft_stitch.specs.Chains.{cells_of, plan_of}
-use Rattle.dft_stitch.specs.Plans.{cell_at}
+use Rattle.dft_stitch.specs.Plans.{cell_at, falling_head}
 use Rattle.dft_stitch.proofs.BlockLemmas.{chain_count}
+use Rattle.dft_stitch.proofs.OrderLemmas.{head_is}
 use Rattle.dft_parts.specs.Recipes.{net_at}
 use Rattle.dft_parts.specs.Standing.{IsClockNet}
 use Rattle.dft_edt.specs.Hardware.{EdtNets, HasPhase, HasEnd}
@@ -25,12 +27,13 @@ use Rattle.dft_scan_equivalence.proofs.MadeGood.{from_at}
 use Rattle.dft_scan_behavior.specs.Facts.{chain_nets, rows_in, ports_of, ring_start, ring_parts, ring_number, no_nets, edt_hardware, HasEdtHardware}
 use Rattle.dft_scan_behavior.proofs.ChainsFilled.{chain_filled}
 use Rattle.dft_scan_behavior.proofs.ChainsHave.{into_is, chains_have}
-use Rattle.dft_scan_behavior.proofs.Outputs.{at_chain, IsShown, shown, means}
+use Rattle.dft_scan_behavior.proofs.Lockups.{clock_of_planned, cell_clock}
+use Rattle.dft_scan_behavior.proofs.Outputs.{has_chain, at_chain, IsShown, shown, means}
 use Rattle.dft_scan_behavior.proofs.PartsThere.{ring_has, compactor_has}
 use Rattle.dft_scan_behavior.proofs.PlainChains.{chain_less, last_place}
 use Rattle.dft_scan_behavior.proofs.Planned.{IsPlanned, planned, cell_rises}
 use Rattle.dft_scan_behavior.proofs.PortsDriven.{edt_means, edt_clock_is}
-use Rattle.dft_scan_behavior.proofs.ScanInputs.{entry_joined}
+use Rattle.dft_scan_behavior.proofs.ScanInputs.{IsSumEntry, entry_joined}
 
 -- ---- lists
 
@@ -85,12 +88,15 @@ module _ (n : Netlist) (config : Config) (ready : IsReady n config) where
   phase chain cell stands =
       let s : IsPlanned Edt n config cell.0 = planned Edt n config chain zero cell ready stands in
       let it = entry_joined Edt n config chain cell s ready stands in
+      let has = has_chain chains chain zero cell stands in
+      let rises : falling_head (plan_of n config) chain ≡ false = head_is (judgements n config) chains chain has.cells (clock_of_planned Edt n config cell.0 s) has.at (cell_clock Edt n config zero cell has.cells s has.here) ∙ s.rises in
+      let latched : IsSumEntry n config false chain it.0 = subst (λ (falling : Bool). IsSumEntry n config falling chain it.0) rises it.2 in
       record {
         sum = (net_at (ring_parts n config).value.phases chain).0;
-        lockup = it.2.0;
+        lockup = latched.0;
         entry = it.0.0;
         sums = ring.phases chain (chain_less n config chain zero cell stands);
-        latch = it.2.1;
+        latch = latched.1;
         leads = into_is Edt n config chain zero cell s it.0 stands it.1;
       }
 

@@ -32,7 +32,7 @@ use Rattle.dft_scan_frame.specs.Moves.{Gap, moved}
 use Rattle.dft_scan_frame.specs.Pins.{domain_in, number_of, own_output, moved_or_none}
 use Rattle.dft_scan_frame.proofs.LiveNets.{moved_less, input_live}
 use Rattle.dft_scan_hardware.specs.Bounds.{EdtThere}
-use Rattle.dft_scan_hardware.specs.Chained.{scan_roles, a_numbered_pin, a_role_pin, a_scan_in, an_open_output, own_or_made, an_output, rows, a_crossing, crossing_in, a_step, a_chain, a_late_chain, row_at, last_net}
+use Rattle.dft_scan_hardware.specs.Chained.{scan_roles, a_numbered_pin, a_role_pin, a_scan_in, an_open_output, own_or_made, an_output, rows, a_lockup_clock, a_lockup_behind, a_crossing, crossing_in, a_step, a_chain, a_late_chain, row_at, last_net}
 use Rattle.dft_scan_hardware.specs.Scanned.{a_plain_chain, a_plain_end, plain_recipe, an_edt_chain, behind_rows, edt_recipe}
 
 -- ---- pins
@@ -149,32 +149,47 @@ domain_there n config gap domain all le some =
     let name : Text = slice_index_or config.domains domain [] in
     domain_by gap (option_map (λ (k : NetId). k.0) (input_net n name)) (length n.nets) all le some (λ net e. input_live n name (find_net n name) net refl e)
 
+-- ---- a lock-up behind a cell
+
+abbrev joined_behind : Netlist → (cells : List InstanceId) → (after : ℕ) → (net : NetId) → (Unit {0}) → Recipe (Unit {0})
+joined_behind n cells after net done = a_scan_in n (slice_get cells (after + 1)) net
+
+abbrev latched : Netlist → (clock : NetId) → (cells : List InstanceId) → (outputs : List NetId) → (after : ℕ) → (net : NetId) → Recipe (Unit {0})
+latched n clock cells outputs after net = a_lockup clock (net_at outputs after) net >>= joined_behind n cells after net
+
+pub net_refused : (n : Netlist) (cells : List InstanceId) (outputs : List NetId) (after : ℕ) (clock : NetId) (s : Making) (e : NetlistError) → IsRefusal (outcome a_net s) e → IsRefusal (outcome (a_lockup_behind n cells outputs after clock) s) e
+unfolding a_lockup_behind
+net_refused n cells outputs after clock s e h = then_refused a_net (latched n clock cells outputs after) s e h
+
+pub lockup_refused : (n : Netlist) (cells : List InstanceId) (outputs : List NetId) (after : ℕ) (clock : NetId) (s t : Making) (net : NetId) (e : NetlistError) → outcome a_net s ≡ Ok (net, t) →
+    IsRefusal (outcome (a_lockup clock (net_at outputs after) net) t) e → IsRefusal (outcome (a_lockup_behind n cells outputs after clock) s) e
+unfolding a_lockup_behind
+lockup_refused n cells outputs after clock s t net e h k =
+    subst (λ o. IsRefusal o e) (sym (then_ok a_net (latched n clock cells outputs after) s t net h)) (then_refused (a_lockup clock (net_at outputs after) net) (joined_behind n cells after net) t e k)
+
+pub lockup_made : (n : Netlist) (cells : List InstanceId) (outputs : List NetId) (after : ℕ) (clock : NetId) (s t u v : Making) (net : NetId) → outcome a_net s ≡ Ok (net, t) →
+    outcome (a_lockup clock (net_at outputs after) net) t ≡ Ok (tt, u) → outcome (a_scan_in n (slice_get cells (after + 1)) net) u ≡ Ok (tt, v) → outcome (a_lockup_behind n cells outputs after clock) s ≡ Ok (tt, v)
+unfolding a_lockup_behind
+lockup_made n cells outputs after clock s t u v net h k m =
+    then_ok a_net (latched n clock cells outputs after) s t net h ∙ then_ok (a_lockup clock (net_at outputs after) net) (joined_behind n cells after net) t u tt k ∙ m
+
 -- ---- a lock-up between domains
 
-abbrev joined_behind : Netlist → (cells : List InstanceId) → LockupPlace → (net : NetId) → (Unit {0}) → Recipe (Unit {0})
-joined_behind n cells l net done = a_scan_in n (slice_get cells (l.after + 1)) net
+-- the net of its domain's port
+abbrev pub port_of : Netlist → Config → Gap → LockupPlace → NetId
+port_of n config gap l = record { 0 = domain_in n gap config l.domain }
 
-abbrev latched : Netlist → (clock : NetId) → (cells : List InstanceId) → (outputs : List NetId) → LockupPlace → (net : NetId) → Recipe (Unit {0})
-latched n clock cells outputs l net = a_lockup clock (net_at outputs l.after) net >>= joined_behind n cells l net
-
-abbrev pub clock_of : Netlist → Config → Gap → LockupPlace → NetId
-clock_of n config gap l = record { 0 = domain_in n gap config l.domain }
-
-pub crossing_refused : (n : Netlist) (config : Config) (gap : Gap) (cells : List InstanceId) (outputs : List NetId) (l : LockupPlace) (s : Making) (e : NetlistError) → IsRefusal (outcome a_net s) e → IsRefusal (outcome (a_crossing n config gap cells outputs l) s) e
+pub crossing_refused : (n : Netlist) (config : Config) (gap : Gap) (cells : List InstanceId) (outputs : List NetId) (l : LockupPlace) (s : Making) (e : NetlistError) → IsRefusal (outcome (a_lockup_clock (port_of n config gap l) l.high) s) e →
+    IsRefusal (outcome (a_crossing n config gap cells outputs l) s) e
 unfolding a_crossing
-crossing_refused n config gap cells outputs l s e h = then_refused a_net (latched n (clock_of n config gap l) cells outputs l) s e h
+crossing_refused n config gap cells outputs l s e h = then_refused (a_lockup_clock (port_of n config gap l) l.high) (a_lockup_behind n cells outputs l.after) s e h
 
-pub lockup_refused : (n : Netlist) (config : Config) (gap : Gap) (cells : List InstanceId) (outputs : List NetId) (l : LockupPlace) (s t : Making) (net : NetId) (e : NetlistError) → outcome a_net s ≡ Ok (net, t) →
-    IsRefusal (outcome (a_lockup (clock_of n config gap l) (net_at outputs l.after) net) t) e → IsRefusal (outcome (a_crossing n config gap cells outputs l) s) e
+pub crossing_made : {X : Type 0} (n : Netlist) (config : Config) (gap : Gap) (cells : List InstanceId) (outputs : List NetId) (l : LockupPlace) (s t : Making) (clock : NetId) (result : Result X NetlistError) (new : Making) →
+    outcome (a_lockup_clock (port_of n config gap l) l.high) s ≡ Ok (clock, t) → Makes (λ _. tt) (a_lockup_behind n cells outputs l.after clock) t result new → Makes (λ _. tt) (a_crossing n config gap cells outputs l) s result new
 unfolding a_crossing
-lockup_refused n config gap cells outputs l s t net e h k =
-    subst (λ o. IsRefusal o e) (sym (then_ok a_net (latched n (clock_of n config gap l) cells outputs l) s t net h)) (then_refused (a_lockup (clock_of n config gap l) (net_at outputs l.after) net) (joined_behind n cells l net) t e k)
-
-pub crossing_made : (n : Netlist) (config : Config) (gap : Gap) (cells : List InstanceId) (outputs : List NetId) (l : LockupPlace) (s t u v : Making) (net : NetId) → outcome a_net s ≡ Ok (net, t) →
-    outcome (a_lockup (clock_of n config gap l) (net_at outputs l.after) net) t ≡ Ok (tt, u) → outcome (a_scan_in n (slice_get cells (l.after + 1)) net) u ≡ Ok (tt, v) → outcome (a_crossing n config gap cells outputs l) s ≡ Ok (tt, v)
-unfolding a_crossing
-crossing_made n config gap cells outputs l s t u v net h k m =
-    then_ok a_net (latched n (clock_of n config gap l) cells outputs l) s t net h ∙ then_ok (a_lockup (clock_of n config gap l) (net_at outputs l.after) net) (joined_behind n cells l net) t u tt k ∙ m
+crossing_made n config gap cells outputs l s t clock result new h m =
+    same_makes (λ _. tt) (a_lockup_clock (port_of n config gap l) l.high >>= a_lockup_behind n cells outputs l.after) (a_lockup_behind n cells outputs l.after clock) s t result new
+    (then_ok (a_lockup_clock (port_of n config gap l) l.high) (a_lockup_behind n cells outputs l.after) s t clock h) m
 
 differ : (a b : ℕ) (t : Bool) → (a == b) ≡ t → (a ≡ b → ⊥) → (a == b) ≡ false
 differ a b true is apart = absurd (apart (eqb-true a b is))
