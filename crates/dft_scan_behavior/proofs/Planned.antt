@@ -226,9 +226,6 @@ flop_is style n config i s = flop_cell (scanned style n config) (ports_in style 
 pub cell_edge : (style : Style) (n : Netlist) (config : Config) (i : ℕ) (s : IsPlanned style n config i) → ((logic_of (scanned style n config) (ports_in style n config)).cell i).falling ≡ s.falling
 cell_edge style n config i s = ap (λ (c : Cell). c.falling) (flop_is style n config i s) ∙ s.edge
 
-pub cell_rises : (style : Style) (n : Netlist) (config : Config) (i : ℕ) (s : IsPlanned style n config i) → ((logic_of (scanned style n config) (ports_in style n config)).cell i).falling ≡ false
-cell_rises style n config i s = cell_edge style n config i s ∙ s.rises
-
 pub clock_in : (style : Style) (n : Netlist) (config : Config) (i domain : ℕ) → IsReady n config → (c : IsClocked n config i domain) → (ports_in style n config).is_clock c.net ≡ true
 clock_in style n config i domain ready c = (ports_alike style n config).clocks c.net (root_among n config c.source c.net ready c.root) ∙ clock_is n config i domain c
 

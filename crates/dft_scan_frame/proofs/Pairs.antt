@@ -1,5 +1,5 @@
 -- What a library keeps makes a flip-flop and its scan cell a pair; and a scanned flip-flop has a scan cell.
-use Rattle.std.proofs.Common.{ℕ, ◌≡◌, Bool, true, false, List, ◌∷◌, map, Option, None, Some, refl, sym, subst, ap, arith, inl, inr, []}
+use Rattle.std.proofs.Common.{ℕ, ◌≡◌, Bool, true, false, List, ◌∷◌, map, Option, None, Some, refl, sym, subst, ap, inl, inr, []}
 use Rattle.std.specs.Prelude.{if◌then◌else◌}
 use Rattle.std.proofs.lemmas.Option.{none-some, same_Some}
 use Rattle.dft_cells.specs.declared.kind.Kind.{Kind}

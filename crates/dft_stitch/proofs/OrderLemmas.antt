@@ -1,13 +1,12 @@
 -- Along a chain no falling cell stands behind a rising one; the first cell of a chain; and what stands between two neighbours.
-use Rattle.std.proofs.Common.{◌≡◌, ℕ, zero, suc, ◌+◌, ◌*◌, ◌<◌, ◌≤◌, ◌==◌, Bool, true, false, cond, List, [], ◌∷◌, ◌++◌, length, map, flat_map, Option, None, Some, option_and_then, option_map, slice_get, slice_index_or, refl, sym, ◌∙◌, ap, subst, arith, ◌⊎◌, inl, inr}
+use Rattle.std.proofs.Common.{◌≡◌, ℕ, zero, suc, ◌+◌, ◌*◌, ◌<◌, ◌≤◌, Bool, true, false, cond, List, [], ◌∷◌, ◌++◌, length, flat_map, Option, Some, option_map, slice_get, slice_index_or, refl, sym, ◌∙◌, ap, arith, inl, inr}
 use Rattle.std.specs.List.{range_with_len}
-use Rattle.std.proofs.lemmas.Option.{none-some, same_Some, slice_get_within, slice_get-map, get_or_from_slice_get}
+use Rattle.std.proofs.lemmas.Option.{none-some, slice_get_within, slice_get-map, get_or_from_slice_get}
 use Rattle.dft_base.proofs.ListLemmas.{get_left, get_right}
 use Rattle.dft_netlist.specs.declared.ids.InstanceId.{InstanceId}
-use Rattle.dft_config.specs.Config.{Config}
 use Rattle.dft_rules.specs.declared.judged.Judged.{Judged}
 use Rattle.dft_stitch.specs.declared.places.CellClock.{CellClock}
-use Rattle.dft_stitch.specs.Chains.{begins_falling, cells_in, chains_of, clock_at, clock_of, group_of, heads_of, is_falling, scanned_cells}
+use Rattle.dft_stitch.specs.Chains.{begins_falling, cells_in, chains_of, clock_at, group_of, heads_of, is_falling, scanned_cells}
 use Rattle.dft_stitch.specs.Laws.{FallingFirst}
 use Rattle.dft_stitch.specs.Plans.{cell_at}
 use Rattle.dft_stitch.proofs.EvenLemmas.{chains_hold}

@@ -1,4 +1,3 @@
-use Rattle.std.proofs.Common.{Bool, false, true, subst, sym}
 use Rattle.std.proofs.lemmas.Result.{err_from_is_err_and}
 use Rattle.dft_scan_hardware.specs.Chained.{cells_at}
 use Rattle.dft_scan_hardware.proofs.MadeParts.{entry_refused, late_refused, late_made}
