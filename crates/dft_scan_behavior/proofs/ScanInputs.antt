@@ -219,7 +219,7 @@ sum_entry n config true chain entry ready fed = fed
 sum_entry n config false chain entry ready fed = (
   fed.0,
   lockup_means Edt n config fed.0 fed.1 (ports_of n config).edt_clock (net_at (ring_parts n config).value.phases chain) entry (ports_of n config).edt_clock.0 false ready fed.2
-  (port_shows (scanned Edt n config) (ports_in Edt n config) (ports_of n config).edt_clock.0 (edt_clock_is n config ready)) fed.3,
+      (port_shows (scanned Edt n config) (ports_in Edt n config) (ports_of n config).edt_clock.0 (edt_clock_is n config ready)) fed.3,
 )
 
 pub entry_joined : (style : Style) (n : Netlist) (config : Config) (chain : ℕ) (cell : InstanceId) (s : IsPlanned style n config cell.0) → IsReady n config → cell_at (plan_of n config).chains chain zero ≡ Some cell → IsJoined style n config cell s (IsEntry style n config chain)

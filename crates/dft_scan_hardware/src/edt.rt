@@ -135,8 +135,33 @@ fn make_edt_chain(
     ensures nets { OnOk result (length parts.old.netlist.nets ≤ length parts.new.netlist.nets) }
 {
     if chains.falling_head(chain) {
-        return make_chain(parts, design, config, chains, gap, chain, row, phase);
+        make_chain(parts, design, config, chains, gap, chain, row, phase)
+    } else {
+        make_late_chain(parts, design, config, chains, gap, ports, chain, phase, row)
     }
+}
+
+// Makes a chain behind a lock-up on edt_clock that takes its phase sum.
+fn make_late_chain(
+    parts: &mut PartsBuilder,
+    design: &Design,
+    config: &Config,
+    chains: &Chains,
+    gap: &Gap,
+    ports: &EdtPorts,
+    chain: u16,
+    phase: NetId,
+    row: &[NetId],
+) -> Result<(), NetlistError>
+    requires chain { chain < length chains.now.chains }
+    requires room { gap.now.width ≤ MAX_PORTS }
+    requires clock { ports.now.edt_clock.0 < length parts.old.netlist.nets }
+    requires phase { phase.0 < length parts.old.netlist.nets }
+    requires nets { length design.now.nets + gap.now.width ≤ length parts.old.netlist.nets }
+    requires row { AreThere parts.old.netlist row.now }
+    ensures makes { Makes (λ _. tt) (chained.a_late_chain design.now config.now gap.now chains.now.lockups chain (chained.cells_at chains.now.chains chain) row.now ports.now.edt_clock phase) parts.old result parts.new }
+    ensures nets { OnOk result (length parts.old.netlist.nets ≤ length parts.new.netlist.nets) }
+{
     let entry = parts.net()?;
     parts.lockup(ports.edt_clock, phase, entry)?;
     make_chain(parts, design, config, chains, gap, chain, row, entry)

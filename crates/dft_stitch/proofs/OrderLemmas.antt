@@ -65,8 +65,8 @@ falling_first = λ v config chain place cell next clock other some stands follow
     let whole : flat_map (λ c. c) chains ≡ cells = chains_hold cells config.chains some in
     let two = together chains chain place cell next stands follows in
     let le = sorted v domains 0 (2 * domains) two.0 (suc two.0) (group_of domains clock) (group_of domains other) cell next (omega arith)
-        (ap (λ (xs : List InstanceId). slice_get xs two.0) (sym whole) ∙ two.1) (ap (λ (xs : List InstanceId). slice_get xs (suc two.0)) (sym whole) ∙ two.2)
-        (record { clock = clock; its = is; group = refl }) (record { clock = other; its = its; group = refl }) in
+    (ap (λ (xs : List InstanceId). slice_get xs two.0) (sym whole) ∙ two.1) (ap (λ (xs : List InstanceId). slice_get xs (suc two.0)) (sym whole) ∙ two.2)
+    (record { clock = clock; its = is; group = refl }) (record { clock = other; its = its; group = refl }) in
     falls_before domains clock.falling clock other refl less falls le)
 
 -- ---- heads

@@ -74,11 +74,7 @@ fn needs_lockup(clock: CellClock, next: CellClock) -> bool
 }
 
 // The clock of the cell at a place of a chain.
-pub(crate) fn clock_at(
-    verdicts: &Verdicts,
-    cells: &[InstanceId],
-    place: usize,
-) -> Option<CellClock>
+pub(crate) fn clock_at(verdicts: &Verdicts, cells: &[InstanceId], place: usize) -> Option<CellClock>
     ensures { result ≡ spec.clock_at verdicts.now cells.now place }
 {
     match cells.get(place) {

@@ -1,4 +1,4 @@
-use Rattle.std.proofs.Common.{◌-◌, ◌+◌, ◌*◌, flat_map}
+use Rattle.std.proofs.Common.{◌-◌, ◌+◌, ◌*◌, arith, flat_map}
 use Rattle.std.specs.List.{range_with_len}
 use Rattle.dft_stitch.specs.Chains.{cells_in, scanned_cells}
 use Rattle.dft_stitch.proofs.RangeLemmas.{begun, ended, flat_on, flat_over, flat_start, grown}
@@ -16,11 +16,11 @@ loop-group-preserved c =
     let g = c.loop-group.group in
     let total = 2 * c.args.domains in
     grown c.loop-group.cells.items _ (f g) (flat_map f (range_with_len g (total - g))) (flat_map f (range_with_len (g + 1) (total - (g + 1)))) (scanned_cells c.args.verdicts.now c.args.domains)
-    c.in_ok-add_cells.ensures (flat_on f g total c.loop-group-test.true) c.loop-group.invariant
+    c.in_ok-add_cells.ensures (flat_on f g total (omega (arith, c.from-group-end.ensures, c.loop-group-test.true))) c.loop-group.invariant
 
 pub returns : goal.returns
 returns c =
     let f = cells_in c.args.verdicts.now c.args.domains in
     let g = c.loop-group.group in
     let total = 2 * c.args.domains in
-    ended c.loop-group.cells.items (flat_map f (range_with_len g (total - g))) (scanned_cells c.args.verdicts.now c.args.domains) (flat_over f g total c.loop-group-test.false) c.loop-group.invariant
+    ended c.loop-group.cells.items (flat_map f (range_with_len g (total - g))) (scanned_cells c.args.verdicts.now c.args.domains) (flat_over f g total (omega (arith, c.from-group-end.ensures, c.loop-group-test.false))) c.loop-group.invariant

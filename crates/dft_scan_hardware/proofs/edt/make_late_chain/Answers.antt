@@ -1,7 +1,7 @@
 use Rattle.std.proofs.lemmas.Result.{err_from_is_err_and}
 use Rattle.dft_scan_hardware.specs.Chained.{cells_at}
 use Rattle.dft_scan_hardware.proofs.MadeParts.{entry_refused, late_refused, late_made}
-use Rattle.dft_scan_hardware.proofs.edt.make_edt_chain.Goals as goal
+use Rattle.dft_scan_hardware.proofs.edt.make_late_chain.Goals as goal
 
 pub returns-in_err-entry-clause-makes : goal.returns-in_err-entry-clause-makes
 returns-in_err-entry-clause-makes c =

@@ -1,1 +1,0 @@
-use Rattle.dft_scan_hardware.proofs.chaining.make_clock.Goals as goal
