@@ -15,5 +15,4 @@ pub record Knows (chains : List (List InstanceId)) (places : List (Option CellPl
 
 pub record AreChains (c : Inside) : Type 0 where
   pub few : length c.chains.items ≤ 1024
-  pub heads : length c.heads.items ≡ length c.chains.items
   pub places : Knows c.chains.items c.places.items

@@ -1,4 +1,4 @@
-ghost use Rattle.std.specs.Prelude.{◌≡◌, ◌<◌, ℕ, IfNone, IfSome, None, Some, length, slice_get, slice_index_or};
+ghost use Rattle.std.specs.Prelude.{◌≡◌, ◌<◌, ℕ, false, IfNone, IfSome, None, Some, length, slice_get, slice_index_or};
 ghost use Rattle.dft_stitch.specs.Plans.{cell_at, falling_head};
 
 use crate::cells::Cells;
@@ -39,12 +39,11 @@ impl Chains {
         self.chains[usize::from(c)].as_slice()
     }
 
-    /// Whether the first cell of this chain is falling.
+    /// Whether the first cell of this chain is falling; a chain that is not there has none.
     pub fn falling_head(&self, c: u16) -> bool
-        requires { c < length self.now.chains }
         ensures { result ≡ falling_head self.now c }
     {
-        self.heads[usize::from(c)]
+        head_at(&self.heads, c)
     }
 
     /// How many chains there are.
@@ -74,6 +73,16 @@ impl Chains {
         ensures { result.now ≡ self.now.lockups }
     {
         &self.lockups
+    }
+}
+
+// What the list has for this chain, and no past its end.
+fn head_at(heads: &[bool], c: u16) -> bool
+    ensures { result ≡ slice_index_or heads.now c false }
+{
+    match heads.get(usize::from(c)) {
+        Some(head) => *head,
+        None => false,
     }
 }
 

@@ -1,12 +1,11 @@
 use Rattle.std.proofs.Common.{◌≡◌, ◌≤◌, ◌∙◌, ℕ, List, Option, ap, arith, length, subst, sym}
 use Rattle.std.specs.List.{All}
-use Rattle.std.proofs.lemmas.List.{length-map}
 use Rattle.std.proofs.lemmas.List.FromFn.{length-map-range_with_len}
 use Rattle.std.proofs.lemmas.Result.{err_from_is_err_and}
 use Rattle.dft_netlist.specs.declared.ids.InstanceId.{InstanceId}
 use Rattle.dft_rules.specs.declared.judged.Judged.{Judged}
 use Rattle.dft_rules.specs.Rules.{judged}
-use Rattle.dft_stitch.specs.Chains.{begins_falling, cells_of, chain_lengths, chains_of, cycles_of, heads_of, lockups_of, scanned_cells}
+use Rattle.dft_stitch.specs.Chains.{cells_of, chain_lengths, chains_of, cycles_of, heads_of, lockups_of, scanned_cells}
 use Rattle.dft_stitch.specs.Limits.{IsRefusal, refusal_of}
 use Rattle.dft_stitch.specs.Shown.{Knows}
 use Rattle.dft_stitch.specs.Tables.{AreBelow}
@@ -79,7 +78,6 @@ invariant_of-result c =
     let P : List (List InstanceId) → Type 0 = λ chains. Knows chains c.in_ok-places.places.items in
     record {
       few = omega (arith, ap length (rw c.chains.ensures at c.in_ok-chains.ensures), count, c.soundness.ensures.chains.1);
-      heads = ap length c.in_ok-heads.ensures ∙ length-map c.deref-2.result.now (begins_falling c.args.verdicts.now) ∙ ap length c.deref-2.ensures.value;
       places = subst P c.deref-4.ensures.value c.in_ok-places.ensures;
     }
 
