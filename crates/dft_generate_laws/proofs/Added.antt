@@ -226,7 +226,9 @@ AreLow lockups = AllByRecursion (λ l. l.high ≡ false) lockups
 
 here_low : (lockups : List LockupPlace) (chain : ℕ) → AreLow lockups → here lockups chain ≡ sum_of (λ (l : LockupPlace). if l.chain == chain then 2 else 0) lockups
 here_low [] chain low = refl
-here_low (l ∷ lockups) chain low = omega (arith, ap (λ (h : Bool). if l.chain == chain then of_lockup h else 0) low.0, here_low lockups chain low.1)
+here_low (l ∷ lockups) chain low =
+    let this : (if l.chain == chain then of_lockup l.high else 0) ≡ (if l.chain == chain then 2 else 0) = ap (λ (h : Bool). if l.chain == chain then of_lockup h else 0) low.0 in
+    omega (arith, this, here_low lockups chain low.1)
 
 all_low : (lockups : List LockupPlace) (chains : List ℕ) → AreLow lockups → sum_of (here lockups) chains ≡ sum_of (λ chain. sum_of (λ (l : LockupPlace). if l.chain == chain then 2 else 0) lockups) chains
 all_low lockups [] low = refl
