@@ -13,6 +13,12 @@ loop-cycle-init c = record {
   now = state_starts c.args.ring.now (table_of c.args.ring.now (packed_bit c.args.bits.now)) c.in_ok-state.state.items c.in_ok-state.ensures;
 }
 
+pub returns : goal.returns
+returns c =
+    let ring = c.args.ring.now in
+    let table = table_of ring (packed_bit c.args.bits.now) in
+    rw (c.in_ok-push.ensures.items, c.from_vec.ensures) (states_more ring table c.args.cycles c.loop-cycle.states.items c.loop-cycle.state.items c.loop-cycle.invariant.so_far c.loop-cycle.invariant.now)
+
 pub loop-cycle-preserved : goal.loop-cycle-preserved
 loop-cycle-preserved c =
     let before = c.loop-cycle.invariant in
