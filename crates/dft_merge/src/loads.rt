@@ -7,6 +7,7 @@ ghost use Rattle.dft_rules.specs.Refusals as rules;
 ghost use Rattle.dft_rules.specs.Rules.{judgements};
 ghost use Rattle.dft_stitch.specs.Chains.{plan_of};
 ghost use Rattle.dft_stitch.specs.Limits as limits;
+ghost use Rattle.dft_stitch.specs.Plans.{falling_head};
 ghost use Rattle.dft_equations.specs.LoadRows.{AreLoadEquations};
 ghost use Rattle.dft_lanes.specs.Rows.{bits_of, IsPacked};
 ghost use Rattle.dft_merge.specs.LoadPlan.{columns_by, rows_by};
@@ -58,7 +59,7 @@ impl<'a> Loads<'a> {
         ensures fits { limits.refusal self.now.design self.now.config ≡ None }
         ensures range { IsInRange self.now.config }
         ensures planned { self.now.plan ≡ plan_of self.now.design self.now.config }
-        ensures equations { AreLoadEquations self.now.config.ring (map length self.now.plan.chains) self.now.plan.cycles self.now.rows }
+        ensures equations { AreLoadEquations self.now.config.ring (map length self.now.plan.chains) (falling_head self.now.plan) self.now.plan.cycles self.now.rows }
         ensures rows { AreRows self.now.plan.chains self.now.rows }
     {
         self.planned.soundness();
@@ -132,7 +133,7 @@ impl<'a> Loads<'a> {
 
 // The load equations of planned chains.
 fn load_equations(alloc: Global, planned: &Planned<'_>) -> Result<Equations, AllocError>
-    ensures { IfOk result (AreLoadEquations planned.now.config.ring (map length (plan_of planned.now.design planned.now.config).chains) (plan_of planned.now.design planned.now.config).cycles) }
+    ensures { IfOk result (AreLoadEquations planned.now.config.ring (map length (plan_of planned.now.design planned.now.config).chains) (falling_head (plan_of planned.now.design planned.now.config)) (plan_of planned.now.design planned.now.config).cycles) }
 {
     planned.soundness();
     let chains = planned.chains();

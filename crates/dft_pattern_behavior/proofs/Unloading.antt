@@ -20,7 +20,7 @@ use Rattle.dft_config.specs.declared.config.RingConfig.{RingConfig}
 use Rattle.dft_config.specs.Ring.{Table, state_after, phase_sum}
 use Rattle.dft_runs.specs.Passes.{AreRounds}
 use Rattle.dft_stitch.specs.Chains.{cells_of, plan_of}
-use Rattle.dft_stitch.specs.Plans.{cell_at}
+use Rattle.dft_stitch.specs.Plans.{cell_at, falling_head}
 use Rattle.dft_stitch.proofs.BlockLemmas.{chain_count}
 use Rattle.dft_edt.specs.Hardware.{EdtNets}
 use Rattle.dft_edt.specs.Unloads.{AreMasked, end_value}
@@ -46,7 +46,7 @@ use Rattle.dft_pattern_behavior.proofs.Lists.{cut_back, any_none, rounds_there, 
 
 -- the value that a pattern captures in a cell
 abbrev pub captured_in : (n : Netlist) (config : Config) (p : Pattern) → IsPattern n config p → InstanceId → Tri
-captured_in n config p is cell = captured_value n config (plan_of n config).chains p.merged (loaded_of config.ring p.table (plan_of n config).cycles (plan_of n config).chains) is.captured.values cell.0
+captured_in n config p is cell = captured_value n config (plan_of n config).chains p.merged (loaded_of config.ring p.table (plan_of n config).cycles (falling_head (plan_of n config)) (plan_of n config).chains) is.captured.values cell.0
 
 -- the ring is clear, the hold bits are the masks, and each cell has what was captured, where that is known
 pub record HasCaptured (n : Netlist) (config : Config) (p : Pattern) (is : IsPattern n config p) (old : ℕ → Tri) : Type 0 where

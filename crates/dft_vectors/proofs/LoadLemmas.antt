@@ -9,7 +9,7 @@ use Rattle.dft_lanes.specs.Rows.{bits_of, IsPacked}
 use Rattle.dft_netlist.specs.Netlist.{Netlist}
 use Rattle.dft_config.specs.Config.{Config}
 use Rattle.dft_config.specs.Ring.{Table}
-use Rattle.dft_stitch.specs.Plans.{Plan}
+use Rattle.dft_stitch.specs.Plans.{Plan, falling_head}
 use Rattle.dft_expect.specs.Loaded.{table_of}
 use Rattle.dft_expect.specs.Masks.{by_chain}
 use Rattle.dft_expect.specs.Expected.{output_bit, expected_of}
@@ -27,7 +27,7 @@ shown_is : (config : Config) (plan : Plan) (load : Table) (before : Option Patte
 shown_is config plan load None t less = refl
 shown_is config plan load (Some p) t less =
     let groups = config.compactor.groups in
-    let bit = output_bit config.ring load p.masks (by_chain plan.chains p.response.cells) in
+    let bit = output_bit config.ring load (falling_head plan) p.masks (by_chain plan.chains p.response.cells) in
     let here : 0 + t ≡ t = omega arith in
     ap (map expect) (block_at (λ u. map (bit u) groups) (length groups) (λ u. length-map groups (bit u)) 0 plan.cycles t less ∙ ap (λ (u : ℕ). map (bit u) groups) here)
     ∙ map-map expect (bit t) groups
