@@ -1,7 +1,8 @@
 //! A planned design with the load equations of its chains.
 
-ghost use Rattle.std.specs.Prelude.{◌≡◌, ◌≤◌, None, Some, IfOk, MatchOption, is_some, length, map};
+ghost use Rattle.std.specs.Prelude.{ℕ, ◌≡◌, ◌<◌, ◌≤◌, None, Some, IfOk, MatchOption, is_some, length, map};
 ghost use Rattle.std.specs.List.{All};
+ghost use Rattle.dft_base.specs.Solutions.{bit_at};
 ghost use Rattle.dft_config.specs.Range.{IsInRange};
 ghost use Rattle.dft_rules.specs.Refusals as rules;
 ghost use Rattle.dft_rules.specs.Rules.{judgements};
@@ -138,7 +139,20 @@ fn load_equations(alloc: Global, planned: &Planned<'_>) -> Result<Equations, All
     planned.soundness();
     let chains = planned.chains();
     let lengths = lengths_of(alloc, chains)?;
-    equations(alloc, planned.config(), &lengths, chains.cycles())
+    let heads = heads_of(alloc, chains)?;
+    equations(alloc, planned.config(), &lengths, &heads, chains.cycles())
+}
+
+// Whether each chain begins with a falling cell.
+fn heads_of(alloc: Global, chains: &Chains) -> Result<Vec<bool>, AllocError>
+    ensures count { IfOk result (λ heads. length heads.items ≡ length chains.now.chains) }
+    ensures each { IfOk result (λ heads. (chain : ℕ) → chain < length chains.now.chains → bit_at heads.items chain ≡ falling_head chains.now chain) }
+{
+    let mut heads = Vec::with_capacity(alloc, usize::from(chains.count()))?;
+    for chain in 0..chains.count() {
+        heads.push(chains.falling_head(chain))?;
+    }
+    Ok(heads)
 }
 
 // How many cells each chain has.

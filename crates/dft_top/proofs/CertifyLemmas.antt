@@ -71,7 +71,7 @@ test_one report (Some error) a b x y = refusal_one (refusals.certify_refusal err
 test_one report None a b x y = x ∙ sym y
 
 rows_one : (n : Netlist) (config : Config) (a b : LoadRows) → AreRows n config a → AreRows n config b → a ≡ b
-rows_one n config a b x y = equations_one config.ring (map (λ cells. length cells) (plan_of n config).chains) (plan_of n config).cycles a b x y
+rows_one n config a b x y = equations_one config.ring (map (λ cells. length cells) (plan_of n config).chains) (falling_head (plan_of n config)) (plan_of n config).cycles a b x y
 
 -- over these load equations
 pub report_over : (n : Netlist) (config : Config) (cubes : List Cube) (report : Report) (rows : LoadRows) (o : Outcome) → AreRows n config rows → IsOutcomeOfReport n config cubes report o →

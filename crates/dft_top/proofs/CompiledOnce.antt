@@ -35,7 +35,7 @@ pub record SamePlacing (config : Config) (plan : Plan) (cubes : List Cube) (p q 
 
 pub placing_one : (config : Config) (plan : Plan) (cubes : List Cube) (p q : Placing config plan cubes) → SamePlacing config plan cubes p q
 placing_one config plan cubes p q =
-    let rows = equations_one config.ring (map (λ cells. length cells) plan.chains) plan.cycles p.rows q.rows p.equations q.equations in
+    let rows = equations_one config.ring (map (λ cells. length cells) plan.chains) (falling_head plan) plan.cycles p.rows q.rows p.equations q.equations in
     let is : PlacesAll p.rows.columns (cell_row plan.chains p.rows) config.window [] cubes q.placed q.merged =
     subst (λ (r : LoadRows). PlacesAll r.columns (cell_row plan.chains r) config.window [] cubes q.placed q.merged) (sym rows) q.is in
     let one = placement_one p.rows.columns (cell_row plan.chains p.rows) config.window cubes p.placed q.placed p.merged q.merged p.is is in

@@ -41,8 +41,8 @@ loaded_so n config plan load masks before shown is =
     (λ t less. ap (shift_with n config plan load masks t) (shown_is config plan load before t (omega (arith, less))))
 
 -- the bits of all cycles are as many as the outputs in each
-pub expected_length : (ring : RingConfig) (groups : List (List ℕ)) (load : Table) (masks : List Bool) (values : List (List Tri)) (cycles : ℕ) → length (expected_of ring groups load masks values cycles) ≡ cycles * length groups
-expected_length ring groups load masks values cycles = flat_length (λ t. map (output_bit ring load masks values t) groups) (length groups) (λ t. length-map groups (output_bit ring load masks values t)) 0 cycles
+pub expected_length : (ring : RingConfig) (groups : List (List ℕ)) (load : Table) (late : ℕ → Bool) (masks : List Bool) (values : List (List Tri)) (cycles : ℕ) → length (expected_of ring groups load late masks values cycles) ≡ cycles * length groups
+expected_length ring groups load late masks values cycles = flat_length (λ t. map (output_bit ring load late masks values t) groups) (length groups) (λ t. length-map groups (output_bit ring load late masks values t)) 0 cycles
 
 -- ---- tables of channel bits
 

@@ -27,3 +27,9 @@ equations-requires-clause-lengths c =
     subst (λ (p : Plan). All (λ (cells : List InstanceId). length cells ≤ p.cycles) p.chains) (sym c.chains-chains.ensures) (chains_short c.args.planned.now.design c.args.planned.now.config) in
     subst (λ (k : ℕ). All (λ (l : ℕ). l ≤ k) c.deref.result.now) (sym c.cycles.ensures)
     (subst (λ (ls : List ℕ). All (λ (l : ℕ). l ≤ plan.cycles) ls) (sym (c.deref.ensures.value ∙ c.in_ok-lengths.ensures)) (All-map (λ (l : ℕ). l ≤ plan.cycles) (λ (cells : List InstanceId). length cells) plan.chains short))
+
+pub equations-requires-clause-heads : goal.equations-requires-clause-heads
+equations-requires-clause-heads c =
+    let chains = c.chains-chains.result.now.chains in
+    ap length c.deref-2.ensures.value ∙ c.in_ok-heads.ensures.count ∙ sym (ap length (c.deref.ensures.value ∙ c.in_ok-lengths.ensures) ∙ length-map chains (λ (cells : List InstanceId). length cells))
+
