@@ -11,6 +11,7 @@ use Rattle.dft_abstract.specs.Cycle.{Halves, AreHalves, after_halves, after_roun
 use Rattle.dft_abstract.specs.Laws.{bits}
 use Rattle.dft_abstract.proofs.Lifts.{known_after_turn, low_after_turn}
 use Rattle.dft_config.specs.Config.{Config}
+use Rattle.dft_config.specs.declared.config.RingConfig.{RingConfig}
 use Rattle.dft_config.specs.Range.{IsInRange}
 use Rattle.dft_config.specs.Ring.{Table, step, state_after, phase_of, phase_sum}
 use Rattle.dft_config.specs.Loads.{delay, moment_of_place}

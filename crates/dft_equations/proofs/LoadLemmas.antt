@@ -29,8 +29,16 @@ pub record IsRead (config : Config) (cycles : ℕ) (late : Bool) (chain column :
 channel_less : (config : Config) (column : ℕ) → IsRingInRange config.chains config.ring → column % config.ring.channels < config.ring.channels
 channel_less config column range = mod_below column config.ring.channels (omega (arith, range.channels))
 
-cycle_less : (config : Config) (cycles column : ℕ) → IsRingInRange config.chains config.ring → column < cycles * config.ring.channels → column / config.ring.channels < cycles
+pub cycle_less : (config : Config) (cycles column : ℕ) → IsRingInRange config.chains config.ring → column < cycles * config.ring.channels → column / config.ring.channels < cycles
 cycle_less config cycles column range less = div_below column config.ring.channels cycles (omega (arith, range.channels)) less
+
+-- how many states a channel's response has
+pub response_length : (config : Config) (cycles column : ℕ) (all : List (List (List Bool))) (response : List (List Bool)) → IsRingInRange config.chains config.ring → AreImpulses config.ring (suc cycles) all
+    → response ≡ get_or all (column % config.ring.channels) response → length response ≡ suc cycles
+response_length config cycles column all response range impulses is =
+    let j = column % config.ring.channels in
+    let less : j < config.ring.channels = channel_less config column range in
+    ap length (is ∙ sym (get_or_default all j [] response (omega (arith, impulses.count, less)))) ∙ (impulses.each j less).count
 
 read_impulse : (config : Config) (cycles : ℕ) (late : Bool) (chain column : ℕ) (all : List (List (List Bool))) (response : List (List Bool)) (state : List Bool) (stages : List ℕ)
     → IsRead config cycles late chain column all response state stages → IsImpulse config.ring (column % config.ring.channels) (suc cycles) response

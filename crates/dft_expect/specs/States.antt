@@ -15,9 +15,9 @@ pub record IsState (ring : RingConfig) (table : Table) (cycle : ℕ) (state : Li
   pub bits : (stage : ℕ) → bit_at state stage ≡ state_after ring table cycle stage
 
 -- so many states: after 0 cycles, 1 cycle and so on
-pub record AreStates (ring : RingConfig) (table : Table) (count : ℕ) (states : List (List Bool)) : Type 0 where
-  pub count : length states ≡ count
-  pub each : (t : ℕ) → t < count → IsState ring table t (state_at states t)
+pub record AreStates (ring : RingConfig) (table : Table) (many : ℕ) (states : List (List Bool)) : Type 0 where
+  pub count : length states ≡ many
+  pub each : (t : ℕ) → t < many → IsState ring table t (state_at states t)
 
 -- each of these states has as many bits as the ring has stages
 abbrev pub HaveStages : RingConfig → List (List Bool) → Type 0
