@@ -307,7 +307,7 @@ module _ (n : Netlist) (config : Config) (ports : Ports) (p : Pattern) (clear : 
   pub has_captured : HasCaptured n config p is new
   has_captured =
       let long : longest_segment config ≤ length load = (let count = loads.count in omega (arith, count)) in
-      let arrive = (unloads_show n config ports ready suits).2 (bit_at p.masks) load capture (after_round l clear before c) rs r loads.sends long captures.clearing rounds round in
+      let arrive = (unloads_show n config ports ready suits).2 (bit_at p.masks) load [] capture (after_round l clear before c) rs [] r loads.sends long tt captures.clearing rounds tt round in
       record { clear = arrive.1; masked = arrive.0; cells = cell_above }
 
   pub shows_capture : ShowsCapture n config p r
