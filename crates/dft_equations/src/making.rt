@@ -32,7 +32,15 @@ pub fn equations(
     let mut chains = Vec::with_capacity(alloc, lengths.len())?;
     for chain in 0..lengths.len() {
         let cells = lengths[chain];
-        chains.push(chain_rows(alloc, config, &responses, falling[chain], chain, cells, cycles)?)?;
+        chains.push(chain_rows(
+            alloc,
+            config,
+            &responses,
+            falling[chain],
+            chain,
+            cells,
+            cycles,
+        )?)?;
     }
     Ok(Equations::new(
         u32::from(cycles) * u32::from(config.ring().channels),

@@ -61,7 +61,13 @@ fn are_at_most(lengths: &[u16], cycles: u16) -> bool
 
 // The columns of each cell's row on a line of its own, chain after chain, for loads of so many cycles through the ring of this
 // configuration.
-fn told(alloc: Global, text: &str, lengths: &[u16], falling: &[bool], cycles: u16) -> Result<String, AllocError> {
+fn told(
+    alloc: Global,
+    text: &str,
+    lengths: &[u16],
+    falling: &[bool],
+    cycles: u16,
+) -> Result<String, AllocError> {
     if text.len() > 4096 || cycles > 512 || !are_at_most(lengths, cycles) {
         return String::from_str(alloc, "too long");
     }
@@ -201,7 +207,13 @@ fn states_of_crossed_taps_are_as_by_hand(rt: HostRuntime) -> Result<(), Fail> {
 #[test]
 fn the_newest_variables_of_a_realistic_ring_fall_by_a_cycle(rt: HostRuntime) -> Result<(), Fail> {
     let alloc = rt.alloc();
-    let rows = told(alloc, REALISTIC_RING, &[5u16, 5, 5, 5, 5, 5, 5, 5], &[false; 8], 13)?;
+    let rows = told(
+        alloc,
+        REALISTIC_RING,
+        &[5u16, 5, 5, 5, 5, 5, 5, 5],
+        &[false; 8],
+        13,
+    )?;
     assert!(rt;
         newest(alloc, rows.as_str())?
             .as_str()
