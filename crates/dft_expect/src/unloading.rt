@@ -72,12 +72,8 @@ fn shown(unload: &Unload<'_>, chain: u16, cycle: usize) -> bool
     if cycle < cells {
         is_one(unload.values[unload.starts[chain] + cells - 1 - cycle])
     } else {
-        entering(
-            unload.ring,
-            unload.states,
-            chain,
-            cycle - cells + delay(late),
-        )
+        let moment = cycle - cells + delay(late);
+        entering(unload.ring, unload.states, chain, moment)
     }
 }
 
