@@ -52,8 +52,8 @@ fn push_heads(alloc: Global, line: &mut String, chains: &Chains) -> Result<(), A
 fn push_lockups(alloc: Global, line: &mut String, chains: &Chains) -> Result<(), AllocError> {
     for lockup in chains.lockups() {
         let (chain, after, domain) = (lockup.chain, lockup.after, lockup.domain);
-        let level = if lockup.high { "high " } else { "" };
-        line.push_str(&format!(in alloc; "{level}lockup {chain}.{after} on {domain} ")?)?;
+        line.push_str(if lockup.high { "high " } else { "" })?;
+        line.push_str(&format!(in alloc; "lockup {chain}.{after} on {domain} ")?)?;
     }
     let cycles = chains.cycles();
     line.push_str(&format!(in alloc; "cycles {cycles}")?)
