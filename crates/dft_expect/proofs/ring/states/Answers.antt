@@ -17,7 +17,7 @@ pub returns : goal.returns
 returns c =
     let ring = c.args.ring.now in
     let table = table_of ring (packed_bit c.args.bits.now) in
-    rw (c.in_ok-push.ensures.items, c.from_vec.ensures) (states_more ring table c.args.cycles c.loop-cycle.states.items c.loop-cycle.state.items c.loop-cycle.invariant.so_far c.loop-cycle.invariant.now)
+    rw (c.in_ok-push-2.ensures.items, c.from_vec-2.ensures) (states_more ring table c.args.cycles c.loop-cycle.states.items c.loop-cycle.state.items c.loop-cycle.invariant.so_far c.loop-cycle.invariant.now)
 
 pub loop-cycle-preserved : goal.loop-cycle-preserved
 loop-cycle-preserved c =
