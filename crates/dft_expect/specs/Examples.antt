@@ -43,5 +43,5 @@ pub record FallingPatterns : Type 0 where
   pub first_load : loads_to first_chain (false ∷ true ∷ true ∷ false ∷ false ∷ []) ≡ true ∷ true ∷ true ∷ false ∷ true ∷ []
   pub second_load : loads_to first_chain (false ∷ true ∷ false ∷ false ∷ false ∷ []) ≡ false ∷ true ∷ false ∷ true ∷ true ∷ []
   pub first_unload : shows first_chain ((One ∷ One ∷ One ∷ []) ∷ (One ∷ Zero ∷ []) ∷ []) (false ∷ true ∷ false ∷ false ∷ false ∷ [])
-      ≡ true ∷ false ∷ false ∷ true ∷ true ∷ false ∷ false ∷ false ∷ false ∷ false ∷ []
+      ≡ true ∷ false ∷ false ∷ true ∷ true ∷ false ∷ false ∷ false ∷ true ∷ false ∷ []
   pub second_unload : shows first_chain ((One ∷ Zero ∷ One ∷ []) ∷ (Zero ∷ One ∷ []) ∷ []) [] ≡ false ∷ true ∷ false ∷ false ∷ true ∷ false ∷ false ∷ false ∷ false ∷ false ∷ []

@@ -1,9 +1,10 @@
 -- At first the ring is at zero; then each state comes from the one before.
-use Rattle.std.proofs.Common.{List, Bool, ◌≡◌, ◌+◌, ◌*◌, arith, ◌∙◌, ap, length}
+use Rattle.std.proofs.Common.{ℕ, List, [], ◌∷◌, ◌++◌, Bool, ◌≡◌, ◌+◌, ◌*◌, arith, ◌∙◌, ap, length, subst}
 use Rattle.dft_base.specs.Packed.{packed_bit}
 use Rattle.dft_base.specs.Solutions.{bit_at}
 use Rattle.dft_config.specs.Ring.{step}
 use Rattle.dft_expect.specs.Loaded.{table_of}
+use Rattle.dft_expect.specs.States.{AreStates}
 use Rattle.dft_expect.proofs.RingLemmas.{state_starts, state_steps, states_more}
 use Rattle.dft_expect.proofs.ring.states.Goals as goal
 
@@ -17,7 +18,11 @@ pub returns : goal.returns
 returns c =
     let ring = c.args.ring.now in
     let table = table_of ring (packed_bit c.args.bits.now) in
-    rw (c.in_ok-push-2.ensures.items, c.from_vec-2.ensures) (states_more ring table c.args.cycles c.loop-cycle.states.items c.loop-cycle.state.items c.loop-cycle.invariant.so_far c.loop-cycle.invariant.now)
+    let states = c.loop-cycle.states.items in
+    let state = c.loop-cycle.state.items in
+    let same : c.loop-cycle.cycle ≡ c.args.cycles = omega (arith, c.loop-cycle-test.false) in
+    rw (c.in_ok-push-2.ensures.items, c.from_vec-2.ensures)
+    (subst (λ (n : ℕ). AreStates ring table (n + 1) (states ++ state ∷ [])) same (states_more ring table c.loop-cycle.cycle states state c.loop-cycle.invariant.so_far c.loop-cycle.invariant.now))
 
 pub loop-cycle-preserved : goal.loop-cycle-preserved
 loop-cycle-preserved c =
