@@ -49,6 +49,7 @@ use Rattle.dft_encode.specs.Compiled.{Placing}
 use Rattle.dft_encode.proofs.PlacingLemmas.{place_count}
 use Rattle.dft_rules.proofs.Passed.{domain_is_named}
 use Rattle.dft_stitch.proofs.ChainLimits.{limits}
+use Rattle.dft_stitch.specs.Plans.{falling_head}
 use Rattle.dft_compile.specs.Named.{AreCubesNamed}
 use Rattle.dft_compile.specs.Reports.{compile_report}
 use Rattle.dft_compile.specs.Texts.{report_text}
@@ -95,7 +96,7 @@ scanned_readable chain place None domain line c p n d is = absurd (none-some lin
 
 unscanned_readable : (name : Option Text) (verdict : Option Judged) (line : UnscannedLine) → IsNameIfAny name → unscanned_as name verdict ≡ Some line → IsUnscannedReadable line
 unscanned_readable (Some name) (Some (Unscanned rule)) line n is = subst IsUnscannedReadable (same_Some _ line is) n
-unscanned_readable (Some name) (Some (Scanned domain)) line n is = absurd (none-some line is)
+unscanned_readable (Some name) (Some (Scanned domain falling)) line n is = absurd (none-some line is)
 unscanned_readable (Some name) None line n is = absurd (none-some line is)
 unscanned_readable None verdict line n is = absurd (none-some line is)
 
@@ -225,7 +226,7 @@ module _ (n : Netlist) (config : Config) (cubes : List Cube) (range : IsInRange 
       let verdicts = judgements n config in
       let chain_count = few_chains n config range in
       let limit = limits n config fits in
-      let rows = rows_are config.ring chains (plan_of n config).cycles p.rows p.equations apart in
+      let rows = rows_are config.ring chains (falling_head (plan_of n config)) (plan_of n config).cycles p.rows p.equations apart in
       let cell_count = count_by-le-length is_scanned verdicts in
       let judged = judgement_count n config in
       record {

@@ -12,8 +12,9 @@ ghost use Rattle.dft_logic.specs.ShownTables.{shown_at, edges_of};
 ghost use Rattle.dft_logic.specs.EntryTables.{origin_at, entry_for, entry_needs, entry_at};
 ghost use Rattle.dft_cycle.specs.declared.plans.Stage.TheVariants.{Noted, Made};
 ghost use Rattle.dft_cycle.specs.Views.{PulsesAmong};
-ghost use Rattle.dft_cycle.specs.Plans.{row_of, flags_of, IsPins, IsNeedList, IsPlan, IsNoted, IsFilled, LooseAreUnknown, IsPassed};
+ghost use Rattle.dft_cycle.specs.Plans.{row_of, flags_of, IsPins, IsSketch, IsNeedList, IsPlan, IsNoted, IsFilled, LooseAreUnknown, IsPassed};
 
+use crate::phases::Phase;
 use dft_base::Tri;
 use dft_logic::{
     Circuit, Entry, Pulse, Shown, Sights, Taking, find_entries, find_origins, flag_at, has_row,
@@ -135,29 +136,34 @@ impl Plan {
     }
 }
 
+// What plans are made from: room for the flip-flop that each net shows, for what else nets show, and for entries.
+#[derive(Drop)]
+pub(crate) struct Sketch {
+    pub origins: Vec<Option<InstanceId>>,
+    pub shown: Vec<Shown>,
+    pub entries: Vec<Entry>,
+}
+
 // Settles all nets before the edges of a phase, and finds what flip-flops take. Whether all take what is still.
-fn draw(
-    circuit: &Circuit,
-    pulse: Pulse<'_>,
-    origins: &mut [Option<InstanceId>],
-    values: &mut [Tri],
-    shown: &mut [Shown],
-    entries: &mut [Entry],
-) -> bool
-    requires circuit { IsCircuit circuit.now }
-    requires origins { length origins.old ≡ length circuit.now.ops.items }
-    requires values { length values.old ≡ length circuit.now.ops.items }
-    requires shown { length shown.old ≡ length circuit.now.ops.items }
-    requires entries { length entries.old ≡ length circuit.now.flops.items }
-    ensures origins { AreOrigins (logic_at circuit.now) (level_before (pulse_at pulse.entry)) (origin_at origins.new) }
-    ensures shows { IsShownOn (logic_at circuit.now) (edges_of pulse.entry.rising (is_up pulse.entry.pulsed.now)) (λ net. true) (shown_at shown.new) }
-    ensures entries { result ≡ true → (c : ℕ) → c < length circuit.now.flops.items → entry_for (cell_at (map cell_of circuit.now.flops.items) c) (pulse_at pulse.entry) (origin_at origins.new) (shown_at shown.new) (spec.value_at values.new) ≡ Some (entry_at entries.new c) }
+fn draw(phase: Phase<'_>, sketch: &mut Sketch, values: &mut [Tri]) -> bool
+    requires circuit { IsCircuit phase.circuit.now }
+    requires sketch { IsSketch phase.circuit.now sketch.old }
+    requires values { length values.old ≡ length phase.circuit.now.ops.items }
+    ensures sketch { IsSketch phase.entry.circuit.now sketch.new }
+    ensures origins { AreOrigins (logic_at phase.entry.circuit.now) (level_before (pulse_at phase.entry.pulse)) (origin_at sketch.new.origins.items) }
+    ensures shows { IsShownOn (logic_at phase.entry.circuit.now) (edges_of phase.entry.pulse.rising (is_up phase.entry.pulse.pulsed.now)) (λ net. true) (shown_at sketch.new.shown.items) }
+    ensures entries { result ≡ true → (c : ℕ) → c < length phase.entry.circuit.now.flops.items → entry_for (cell_at (map cell_of phase.entry.circuit.now.flops.items) c) (pulse_at phase.entry.pulse) (origin_at sketch.new.origins.items) (shown_at sketch.new.shown.items) (spec.value_at values.new) ≡ Some (entry_at sketch.new.entries.items c) }
 {
-    settle_list(circuit, pulse, &circuit.order, values);
-    find_origins(circuit, pulse, origins);
-    show_all(circuit, pulse.rising, pulse.pulsed, shown);
-    let sights = Sights { origins, shown };
-    find_entries(&circuit.flops, pulse, &sights, values, entries)
+    let pulse = phase.pulse;
+    settle_list(phase.circuit, pulse, &phase.circuit.order, values);
+    find_origins(phase.circuit, pulse, &mut sketch.origins);
+    show_all(phase.circuit, pulse.rising, pulse.pulsed, &mut sketch.shown);
+    let sights = Sights {
+        origins: &sketch.origins,
+        shown: &sketch.shown,
+    };
+    let flops = &phase.circuit.flops;
+    find_entries(flops, pulse, &sights, values, &mut sketch.entries)
 }
 
 // Lists the nets that are settled for flip-flops to take what they take, at the front of a list: how many.
@@ -182,23 +188,16 @@ fn list_needs(
 
 impl Plan {
     // Notes for which pulse it is.
-    pub(crate) fn note(
-        &mut self,
-        clocks: &[NetId],
-        pins: &Pins,
-        pulse: Pulse<'_>,
-        values: &[Tri],
-        stage: Stage,
-    )
-        requires pulsed { length self.old.pulsed.items ≡ length clocks.now }
+    pub(crate) fn note(&mut self, phase: Phase<'_>, pins: &Pins, values: &[Tri], stage: Stage)
+        requires pulsed { length self.old.pulsed.items ≡ length phase.clocks.now }
         requires ports { length self.old.ports.items ≡ length pins.now.ports.items }
         requires enables { length self.old.enables.items ≡ length pins.now.enables.items }
-        ensures { IsNoted clocks.now pins.now (pulse_at pulse.entry) (spec.value_at values.now) stage self.old self.new }
+        ensures { IsNoted phase.entry.clocks.now pins.now (pulse_at phase.entry.pulse) (spec.value_at values.now) stage self.old self.new }
     {
         self.stage = stage;
-        self.rising = pulse.rising;
-        read_flags(clocks, pulse.pulsed, &mut self.pulsed);
-        read_list(&pins.ports, pulse.ports, &mut self.ports);
+        self.rising = phase.pulse.rising;
+        read_flags(phase.clocks, phase.pulse.pulsed, &mut self.pulsed);
+        read_list(&pins.ports, phase.pulse.ports, &mut self.ports);
         read_list(&pins.enables, values, &mut self.enables);
     }
 
@@ -220,77 +219,62 @@ impl Plan {
     // Makes it for a pulse, if all flip-flops take what is still.
     pub(crate) fn make(
         &mut self,
-        circuit: &Circuit,
-        clocks: &[NetId],
+        phase: Phase<'_>,
         pins: &Pins,
-        pulse: Pulse<'_>,
-        origins: &mut [Option<InstanceId>],
+        sketch: &mut Sketch,
         values: &mut [Tri],
-        shown: &mut [Shown],
-        entries: &mut [Entry],
         marked: &mut [bool],
     )
-        requires circuit { IsCircuit circuit.now }
-        requires among { PulsesAmong pulse.pulsed.now clocks.now }
-        requires ports { length pulse.ports.now ≡ length circuit.now.ops.items }
-        requires origins { length origins.old ≡ length circuit.now.ops.items }
-        requires values { length values.old ≡ length circuit.now.ops.items }
-        requires shown { length shown.old ≡ length circuit.now.ops.items }
-        requires entries { length entries.old ≡ length circuit.now.flops.items }
-        requires marked { length marked.old ≡ length circuit.now.ops.items }
+        requires circuit { IsCircuit phase.circuit.now }
+        requires among { PulsesAmong phase.pulse.pulsed.now phase.clocks.now }
+        requires ports { length phase.pulse.ports.now ≡ length phase.circuit.now.ops.items }
+        requires sketch { IsSketch phase.circuit.now sketch.old }
+        requires values { length values.old ≡ length phase.circuit.now.ops.items }
+        requires marked { length marked.old ≡ length phase.circuit.now.ops.items }
         requires clear { (k : ℕ) → is_up marked.old k ≡ false }
-        requires plan { IsPlan circuit.now clocks.now pins.now self.old }
-        ensures plan { IsPlan circuit.now clocks.now pins.now self.new }
+        requires plan { IsPlan phase.circuit.now phase.clocks.now pins.now self.old }
+        ensures plan { IsPlan phase.entry.circuit.now phase.entry.clocks.now pins.now self.new }
+        ensures sketch { IsSketch phase.entry.circuit.now sketch.new }
         ensures clear { (k : ℕ) → is_up marked.new k ≡ false }
     {
-        if draw(circuit, pulse, origins, values, shown, entries) {
-            self.fill(circuit, entries, marked);
-            self.note(clocks, pins, pulse, values, Stage::Made);
+        if draw(phase, sketch, values) {
+            self.fill(phase.circuit, &sketch.entries, marked);
+            self.note(phase, pins, values, Stage::Made);
         } else {
             self.stage = Stage::Barred;
         }
     }
 
-    // Takes a phase by it, if it is made and the phase is the one that it is for. Whether it was taken.
+    // Finds the values of flip-flops after a phase by it, if it is made and the phase is the one that it is for. Whether
+    // they were found.
     pub(crate) fn take(
         &self,
-        circuit: &Circuit,
-        clocks: &[NetId],
+        phase: Phase<'_>,
         pins: &Pins,
-        rising: bool,
-        ports: &[Tri],
-        pulsed: &[bool],
         values: &mut [Tri],
         next: &mut [Tri],
-        cells: &mut [Tri],
     ) -> bool
-        requires circuit { IsCircuit circuit.now }
-        requires pins { IsPins circuit.now pins.now }
-        requires plan { IsPlan circuit.now clocks.now pins.now self.now }
-        requires among { PulsesAmong pulsed.now clocks.now }
-        requires ports { length ports.now ≡ length circuit.now.ops.items }
-        requires values { length values.old ≡ length circuit.now.ops.items }
-        requires next { length next.old ≡ length circuit.now.flops.items }
-        requires cells { length cells.old ≡ length circuit.now.flops.items }
-        requires loose { LooseAreUnknown circuit.now (spec.value_at cells.old) }
-        ensures passed { result ≡ true → IsPassed circuit.now (record { rising = rising; ports = spec.value_at ports.now; pulsed = is_up pulsed.now; old = spec.value_at cells.old }) cells.new }
-        ensures same { result ≡ false → cells.new ≡ cells.old }
+        requires circuit { IsCircuit phase.circuit.now }
+        requires pins { IsPins phase.circuit.now pins.now }
+        requires plan { IsPlan phase.circuit.now phase.clocks.now pins.now self.now }
+        requires among { PulsesAmong phase.pulse.pulsed.now phase.clocks.now }
+        requires ports { length phase.pulse.ports.now ≡ length phase.circuit.now.ops.items }
+        requires values { length values.old ≡ length phase.circuit.now.ops.items }
+        requires next { length next.old ≡ length phase.circuit.now.flops.items }
+        requires cells { length phase.pulse.old.now ≡ length phase.circuit.now.flops.items }
+        requires loose { LooseAreUnknown phase.circuit.now (spec.value_at phase.pulse.old.now) }
+        ensures { result ≡ true → IsPassed phase.entry.circuit.now (pulse_at phase.entry.pulse) next.new }
     {
         if !self.is_made() {
             return false;
         }
-        let pulse = Pulse {
-            rising,
-            ports,
-            pulsed,
-            old: cells,
-        };
-        settle_list(circuit, pulse, &self.list[..self.count], values);
-        if !self.fits(clocks, pins, pulse, values) {
+        let list = &self.list[..self.count];
+        settle_list(phase.circuit, phase.pulse, list, values);
+        if !self.fits(phase.clocks, pins, phase.pulse, values) {
             return false;
         }
-        take_all(&circuit.flops, &self.takings, pulse, values, next);
-        cells.copy_from_slice(next);
+        let flops = &phase.circuit.flops;
+        take_all(flops, &self.takings, phase.pulse, values, next);
         true
     }
 }
