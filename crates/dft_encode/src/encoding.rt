@@ -64,7 +64,7 @@ fn patterns(finder: &Finder<'_>, written: &Design) -> Result<Encoded, AllocError
     ensures { IfOk result (IsEncoded written.now finder.now.loads.now.design finder.now.loads.now.config finder.now.loads.now.plan finder.now.merger.now.loads.rows finder.now.merger.now.patterns) }
 {
     let loads = finder.loads;
-    let mut list = VectorList::new(finder.alloc, loads.design(), loads.config(), loads.chains())?;
+    let mut list = VectorList::new(finder.alloc, loads.planned())?;
     let filled = fill_all(finder, &mut list)?;
     Ok(Encoded {
         set: finished(list, written, &filled.last)?,
