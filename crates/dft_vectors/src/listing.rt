@@ -47,8 +47,9 @@ impl<'a> VectorList<'a> {
     pub fn new(alloc: Global, planned: &'a Planned<'a>) -> Result<VectorList<'a>, AllocError>
         ensures { IfOk result (λ list. list ≡ record { design = planned.entry.now.design; config = planned.entry.now.config; plan = plan_of planned.entry.now.design planned.entry.now.config; vectors = []; count = 0 }) }
     {
+        let layout = look_up(alloc, planned)?;
         Ok(VectorList {
-            layout: look_up(alloc, planned)?,
+            layout,
             vectors: Vec::new(alloc),
             count: 0,
         })

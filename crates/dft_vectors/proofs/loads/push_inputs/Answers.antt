@@ -2,7 +2,9 @@
 use Rattle.std.proofs.Common.{◌+◌, ◌*◌, ◌-◌, ℕ, map, refl, ap, ◌∙◌}
 use Rattle.dft_base.specs.Packed.{packed_bit}
 use Rattle.dft_base.specs.Solutions.{bit_at}
+use Rattle.dft_config.specs.Config.{Config}
 use Rattle.dft_config.specs.declared.config.RingConfig.{RingConfig}
+use Rattle.dft_stitch.specs.Plans.{Plan}
 use Rattle.dft_vectors.specs.declared.added.Segment.{Segment}
 use Rattle.dft_vectors.specs.OwnPorts.{set_to}
 use Rattle.dft_vectors.specs.AddedPorts.{set_all}
@@ -21,7 +23,7 @@ returns c =
     c.in_ok-extend_from_slice.ensures.items c.in_ok-push_controls.ensures c.in_ok-push_channels.ensures c.in_ok-push_masks.ensures
     (c.deref.ensures.value ∙ c.requires.layout.own.pulsing) refl
     (ap (λ (k : ℕ). set_all c.ring.result.now.channels (λ channel. packed_bit c.args.bits.now (c.args.cycle * k + channel))) c.from-2.ensures
-    ∙ ap (λ (r : RingConfig). set_all r.channels (λ channel. packed_bit c.args.bits.now (c.args.cycle * r.channels + channel))) c.ring.ensures)
-    (ap (λ (k : ℕ). map (λ (segment : Segment). set_to (sent_in segment masks (k - (c.args.cycle + 1)))) c.deref-2.result.now) (c.from.ensures ∙ c.cycles.ensures)
+    ∙ ap (λ (r : RingConfig). set_all r.channels (λ channel. packed_bit c.args.bits.now (c.args.cycle * r.channels + channel))) (c.ring.ensures ∙ ap (λ (g : Config). g.ring) c.config.ensures))
+    (ap (λ (k : ℕ). map (λ (segment : Segment). set_to (sent_in segment masks (k - (c.args.cycle + 1)))) c.deref-2.result.now) (c.from.ensures ∙ c.cycles.ensures ∙ ap (λ (p : Plan). p.cycles) c.chains.ensures)
     ∙ ap (map (λ (segment : Segment). set_to (sent_in segment masks ((plan_in l).cycles - (c.args.cycle + 1))))) (c.deref-2.ensures.value ∙ c.requires.layout.segments)
     ∙ sent_masks config masks (plan_in l).cycles c.args.cycle)
