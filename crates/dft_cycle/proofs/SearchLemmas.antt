@@ -1,5 +1,5 @@
 -- A turn of the search for the least map, over the lists that its steps are lent.
-use Rattle.std.proofs.Common.{ℕ, List, ◌≡◌, ◌<◌, ◌∙◌, ◌&&◌, length, map, sym, subst}
+use Rattle.std.proofs.Common.{ℕ, List, ◌≡◌, ◌<◌, ◌&&◌, length, map, sym, subst}
 use Rattle.dft_base.specs.declared.tri.Tri.{Tri}
 use Rattle.dft_netlist.specs.declared.ids.NetId.{NetId}
 use Rattle.dft_netlist.specs.Runs.{takes}
