@@ -14,6 +14,9 @@ pub const GATED: &str =
 pub const ONE: &str =
     "module s (ca, d, q); input ca, d; output q; DFF f0 (.CK(ca), .D(d), .Q(n0)); DFF f1 (.CK(ca), .D(n0), .Q(n1)); DFF f2 (.CK(ca), .D(n1), .Q(n2)); DFF f3 (.CK(ca), .D(n2), .Q(q)); endmodule";
 
+pub const SINGLE: &str =
+    "module s (ca, d, q); input ca, d; output q; DFF f0 (.CK(ca), .D(d), .Q(q)); endmodule";
+
 pub const PAIR: &str =
     "module s (ca, d, q); input ca, d; output q; DFF f0 (.CK(ca), .D(d), .Q(n0)); DFF f1 (.CK(ca), .D(n0), .Q(q)); endmodule";
 

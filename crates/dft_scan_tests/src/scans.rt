@@ -2,8 +2,9 @@
 
 use crate::designs::{
     CLASHING, CLOCK_AS_DATA, GATED, LATE_CHAIN, LOCKED, ON_BOTH, ON_ONE, ONE, ONE_CHAIN, PAIR,
-    QUOTED, RESET, ROW, SCANNED, THREE_CHAINS,
+    QUOTED, RESET, ROW, SCANNED, SINGLE, THREE_CHAINS,
 };
+use crate::large::many_channels;
 use crate::replays::{LIBRARY, OWN_CELL, REPLAY, replays};
 use dft_files::{Failing, MemoryFiles};
 use dft_test_support::{Unlike, holds, patterns, prints, ran, shelf};
@@ -29,7 +30,7 @@ const REPORT: &str =
     "edt report 1\ncells 4 chains 1\nchain 0 length 4\nscanned f0 ca chain 0 place 0\nscanned f2 ca chain 0 place 1\nscanned f1 cb chain 0 place 2\nscanned f3 cb chain 0 place 3\n";
 
 // A netlist, the configuration in two parts, the printed line, and the report, or a stroke where none is saved.
-static SCANS: [(&str, &str, &str, &str, &str); 19] = [
+static SCANS: [(&str, &str, &str, &str, &str); 21] = [
     (
         ROW,
         ON_BOTH,
@@ -94,6 +95,14 @@ static SCANS: [(&str, &str, &str, &str, &str); 19] = [
     ),
     (QUOTED, ON_ONE, ONE_CHAIN, "refused G7 a\"b\n", "-"),
     (ONE, ON_ONE, LATE_CHAIN, "refused N4 cycles 4096\n", "-"),
+    (PAIR, ON_ONE, LATE_CHAIN, "refused N4 cycles 4096\n", "-"),
+    (
+        SINGLE,
+        ON_ONE,
+        LATE_CHAIN,
+        "scanned cells 1 unscanned 0 chains 1 lockups 0\n",
+        "edt report 1\ncells 1 chains 1\nchain 0 length 1\nscanned f0 ca chain 0 place 0\n",
+    ),
     ("module", "[", "", "refused C1\n", "-"),
     ("module", "", ONE_CHAIN, "refused C2 version\n", "-"),
     (
@@ -136,6 +145,15 @@ fn status_of(line: &str) -> Status {
     } else {
         Status::Refused
     }
+}
+
+// One cycle more than has 16,384 variables.
+#[test]
+fn a_load_has_no_more_variables_than_its_limit(rt: HostRuntime) -> Result<(), Fail> {
+    let config = many_channels(rt.alloc(), 512)?;
+    let line = "refused N4 variables 16384\n";
+    is_told(rt.alloc(), SINGLE, (config.as_str(), ""), line, "-")?;
+    Ok(())
 }
 
 #[test]
