@@ -131,9 +131,9 @@ pub data_apart : (n : Netlist) (config : Config) (i : ℕ) (x : Instance) (k : �
     is_some (clock_of_source n config.domains (Net k)) ≡ false
 data_apart n config i x k sound passed at takes =
     shown_or_not (is_some (clock_of_source n config.domains (Net k))) (λ shows. (
-        let never : true ≡ false = sym (any_passes_from_place (is_data_of n.library k) n.instances i x at takes) ∙ no_data n config k sound passed shows in
-        cc
-        ))
+    let never : true ≡ false = sym (any_passes_from_place (is_data_of n.library k) n.instances i x at takes) ∙ no_data n config k sound passed shows in
+    cc
+    ))
 
 -- a gate that is no buffer and no inverter reads none
 pub gate_apart : (n : Netlist) (config : Config) (net k : ℕ) (kind : Kind) (inputs : List Source) → IsNetlist n → refusal n config ≡ None → driver n net ≡ Gate kind inputs → uses_data kind ≡ true → Has (nets_of inputs) k →

@@ -1,8 +1,6 @@
 //! Netlists with flip-flops on inverted clocks that are scanned, worked by hand.
 
-use crate::designs::{
-    INVERSE_AS_DATA, INVERTED, ON_BOTH, ON_ONE, ONE_CHAIN, ONE_INVERTED,
-};
+use crate::designs::{INVERSE_AS_DATA, INVERTED, ON_BOTH, ON_ONE, ONE_CHAIN, ONE_INVERTED};
 use crate::replays::{REPLAY, replays};
 use dft_files::MemoryFiles;
 use dft_test_support::{Unlike, holds, patterns, prints, shelf};
@@ -115,7 +113,8 @@ const CLOCKS: &str = "c0, c1, c2, c3, c4, c5, c6, c7, c8, c9, c10, c11, c12, c13
 const SIXTEEN: &str =
     "version = 1\ndomains = ['c0', 'c1', 'c2', 'c3', 'c4', 'c5', 'c6', 'c7', 'c8', 'c9', 'c10', 'c11', 'c12', 'c13', 'c14', 'c15']\n";
 
-const SIXTEEN_INPUTS: &str = "c0 c1 c2 c3 c4 c5 c6 c7 c8 c9 c10 c11 c12 c13 c14 c15 d scan_enable scan_in0";
+const SIXTEEN_INPUTS: &str =
+    "c0 c1 c2 c3 c4 c5 c6 c7 c8 c9 c10 c11 c12 c13 c14 c15 d scan_enable scan_in0";
 
 // A flip-flop on each of 16 clocks and one on its inverse, all of the same input.
 fn on_all(alloc: Global) -> Result<String, AllocError> {
