@@ -2,16 +2,12 @@
 
 use crate::cases::{Case, comes_out, passes};
 use crate::saved::{ENCODED, LINE, OPPOSITE, REPLAYED, SIGNALS};
-use dft_test_support::{PAIR, Unlike, WARM, holds, shelf};
+use dft_test_support::{FIRST_FALLS, PAIR, Unlike, WARM, holds, shelf};
 use std::alloc::Global;
 use std::test::Fail;
 
-// The small whole case, where the first flip-flop of the first chain has the inverse of the clock. The variables of f0 are those
-// of cycles 0, 2 and 4, of f1 1 and 3, of f2 0 and 2, of f3 1 and 2, of f4 0 and 1.
-const FIRST_FALLS: &str =
-    "module m (clk, a, y); input clk, a; output y; NAND2 g0 (.A(a), .B(q4), .Y(d0)); DFF f0 (.CK(nclk), .D(d0), .Q(q0)); DFF f1 (.CK(clk), .D(q0), .Q(q1)); DFF f2 (.CK(clk), .D(q1), .Q(q2)); DFF f3 (.CK(clk), .D(q2), .Q(q3)); DFF f4 (.CK(clk), .D(q3), .Q(q4)); INV g1 (.A(q4), .Y(y)); INV g2 (.A(clk), .Y(nclk)); endmodule";
-
-// What is saved of it: the phase sum of the first chain stands directly before f0, and before f3 stands a lock-up.
+// What is saved of the small case with a falling head: the phase sum of the first chain stands directly before f0, and before f3
+// stands a lock-up.
 const COMPILED: &str =
     "module m (clk, a, y, scan_enable, edt_clock, edt_update, edt_in0, edt_mask0, edt_out0, edt_out1);
 input clk;
