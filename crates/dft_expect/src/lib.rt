@@ -5,6 +5,7 @@ mod capturer;
 mod laws;
 mod loading;
 mod masking;
+mod moving;
 mod pattern;
 mod policy;
 mod reading;
