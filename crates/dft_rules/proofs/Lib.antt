@@ -1,4 +1,5 @@
 pub mod RootLemmas
+pub mod ClockTables
 pub mod FindLemmas
 pub mod JudgeLemmas
 pub mod CheckLemmas
@@ -10,4 +11,5 @@ pub mod MarkLemmas
 pub mod PlaceLemmas
 pub mod WorkedRules
 pub mod Scannable
-pub mod ClocksRise
+pub mod ClockReads
+pub mod ClockedFlops
