@@ -87,7 +87,7 @@ all_some l rank chains [] state ranked = ([], tt)
 all_some l rank chains (x ∷ xs) state ranked =
     let first = some_step l rank chains x state ranked in
     let rest = all_some l rank chains xs (next_state l chains x state first.0) ranked in
-    (first.0 ∷ rest.0, first.1, rest.1)
+    (first.0 ∷ rest.0, (first.1, rest.1))
 
 -- ---- one capture
 
