@@ -105,6 +105,14 @@ cells_set_on settings risen done s old cur new before is same set = record {
         let no : (net == done) ≡ false = grind (arith, nat_tests) in
         set.each p r at net ∙ ap (λ (b : Bool). if b then moved_by s r.cells (value_at cur p net) else value_at cur p net) no ∙ before.each p r at net (omega (arith, less, ne))
 
+all_case : (settings : List Setting) (risen : List Response) (done : ℕ) (old new : Evaluation) → AreCellsSet settings risen done old new → length settings ≤ done → (p : ℕ) (r : Response) → slice_get risen p ≡ Some r → (net : ℕ) → (net < done) ⊎ (done ≤ net) → value_at new p net ≡ moved_by (setting_at settings net) r.cells (value_at old p net)
+all_case settings risen done old new set whole p r at net (inl less) = set.each p r at net less
+all_case settings risen done old new set whole p r at net (inr past) =
+    set.left p r at net past ∙ sym (ap (λ (t : Setting). moved_by t r.cells (value_at old p net)) (get_or_past settings net setting.Unknown (omega (arith, whole, past))))
+
+pub cells_all : (settings : List Setting) (risen : List Response) (done : ℕ) (old new : Evaluation) → AreCellsSet settings risen done old new → length settings ≤ done → (p : ℕ) (r : Response) → slice_get risen p ≡ Some r → (net : ℕ) → value_at new p net ≡ moved_by (setting_at settings net) r.cells (value_at old p net)
+cells_all settings risen done old new set whole p r at net = all_case settings risen done old new set whole p r at net (cases_lt net done)
+
 -- ---- what stays at a source
 
 given_as : (s : TriSources) (a b : ℕ → Tri) (net : ℕ) (m : Meaning) → a net ≡ b net → IsGiven s b net m → IsGiven s a net m

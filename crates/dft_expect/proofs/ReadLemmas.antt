@@ -1,13 +1,13 @@
 -- What is read of a cell at an edge is what it has after that, and so what a pattern captures in it.
-use Rattle.std.proofs.Common.{ℕ, suc, ◌+◌, ◌<◌, ◌≤◌, ◌⊎◌, inl, inr, Bool, true, false, ◌&&◌, ◌≡◌, List, [], ◌∷◌, ◌++◌, map, length, take, get_or, append_assoc, append-nil, cond, find, slice_get, Option, None, Some, refl, sym, subst, ap, arith, ◌∙◌}
+use Rattle.std.proofs.Common.{ℕ, zero, suc, ◌+◌, ◌<◌, ◌≤◌, ◌⊎◌, inl, inr, Bool, true, false, ◌&&◌, ◌||◌, ◌≡◌, ◌≢◌, List, [], ◌∷◌, ◌++◌, map, length, take, get_or, append_assoc, append-nil, cond, find, slice_get, slice_set, Option, None, Some, refl, sym, subst, ap, arith, ◌∙◌}
 use Rattle.std.specs.Prelude.{if◌then◌else◌, option_map, Result, Ok, Err, IfOk}
 use Rattle.std.specs.declared.alloc.AllocError.{AllocError}
 use Rattle.std.specs.List.{range_with_len}
 use Rattle.std.proofs.Math.ListN.{get_or-append}
 use Rattle.std.proofs.Math.Seq.{get_or-append_seam, take-suc}
 use Rattle.std.proofs.lemmas.Grind.{flat_map-append}
-use Rattle.std.proofs.lemmas.Bool.{cases_lt}
-use Rattle.std.proofs.lemmas.List.{length-append}
+use Rattle.std.proofs.lemmas.Bool.{cases_eq, cases_lt}
+use Rattle.std.proofs.lemmas.List.{length-append, length-set}
 use Rattle.std.proofs.lemmas.Option.{none-some, same_Some, slice_get_within, slice_get-get_or, get_or_from_slice_get}
 use Rattle.std.proofs.lemmas.List.FromFn.{map-range_with_len_more}
 use Rattle.dft_base.specs.declared.tri.Tri.{Tri}
@@ -27,6 +27,7 @@ use Rattle.dft_netlist.specs.Drivers.{Source, Connection, pins_of, source_of}
 use Rattle.dft_netlist.specs.Logic.{Cell, or_loose, pin_of, same_role}
 use Rattle.dft_netlist.specs.Runs.{takes}
 use Rattle.dft_netlist.specs.Settled.{value_from}
+use Rattle.dft_netlist.proofs.DriveLemmas.{get_set_other, get_set_same}
 use Rattle.dft_netlist.proofs.StoredLemmas.{flop_cell}
 use Rattle.dft_abstract.specs.Cycle.{tri_forced_by, tri_taken_by}
 use Rattle.dft_config.specs.Config.{Config}
@@ -39,7 +40,7 @@ use Rattle.dft_expect.specs.declared.reads.Read.{Read}
 use Rattle.dft_expect.specs.Loaded.{all_cells, loaded_values, or_unknown}
 use Rattle.dft_expect.specs.Captures.{after_edges, capture_clock, capture_vector, is_chained, original, output_bits, config_ports}
 use Rattle.dft_expect.specs.Capturing.{CanCapture, CanFall, Captures, IsRisen, Settles, cells_in, risen_values}
-use Rattle.dft_expect.specs.Reads.{AreReads, IsReadOf, clock_at, clock_of, is_at, or_unconnected, read_at, read_value, value_of_signal}
+use Rattle.dft_expect.specs.Reads.{AreReads, IsReadOf, any_falls, clock_at, clock_of, is_at, is_falling, or_unconnected, read_at, read_value, value_of_signal}
 use Rattle.dft_expect.proofs.CellNumbers.{bit_is, stands_once}
 use Rattle.dft_expect.proofs.VectorLemmas.{by_one_vector, chained, there}
 use Rattle.dft_expect.proofs.GivenLemmas.{number_modelled, stays}
@@ -229,6 +230,52 @@ pub risen_more : (n : Netlist) (config : Config) (patterns : List Pattern) (plac
     → (each : ((p : ℕ) (pattern : Pattern) (q : Response) → slice_get patterns p ≡ Some pattern → slice_get old p ≡ Some q → IsRisen n config pattern q)) → (at : slice_get patterns place ≡ Some here) → (is : IsRisen n config here r) → (more : new ≡ old ++ r ∷ [])
     → (p : ℕ) (pattern : Pattern) (q : Response) → (there : slice_get patterns p ≡ Some pattern) → (found : slice_get new p ≡ Some q) → IsRisen n config pattern q
 risen_more n config patterns place here old new r count each at is more p pattern q there found = risen_case n config patterns place here old new r count each at is more p pattern q there found (cases_lt p (length old))
+
+-- the first so many patterns are captured, and the others are as before
+pub record AreFalling (n : Netlist) (config : Config) (patterns : List Pattern) (done : ℕ) (old new : List Response) : Type 0 where
+  pub count : length new ≡ length old
+  pub each : (p : ℕ) (pattern : Pattern) (r : Response) → p < done → slice_get patterns p ≡ Some pattern → slice_get new p ≡ Some r → Captures n config pattern r
+  pub left : (p : ℕ) → done ≤ p → slice_get new p ≡ slice_get old p
+
+pub fallen_on : (n : Netlist) (config : Config) (patterns : List Pattern) (done : ℕ) (here : Pattern) (old cur : List Response) (was r : Response) → AreFalling n config patterns done old cur → slice_get patterns done ≡ Some here → slice_get cur done ≡ Some was → Captures n config here r
+    → AreFalling n config patterns (done + 1) old (slice_set cur done r)
+fallen_on n config patterns done here old cur was r before at stood is = record {
+  count = length-set cur done r ∙ before.count;
+  each = λ p pattern q below there found. one p pattern q below there found (cases_eq p done);
+  left = λ p past. get_set_other cur done p r (λ e. (let no : ⊥ = omega (arith, past, e) in no)) ∙ before.left p (omega (arith, past));
+}
+  where
+    one : (p : ℕ) (pattern : Pattern) (q : Response) → p < done + 1 → slice_get patterns p ≡ Some pattern → slice_get (slice_set cur done r) p ≡ Some q → (p ≡ done) ⊎ (p ≢ done) → Captures n config pattern q
+    one p pattern q below there found (inl e) =
+        let same : here ≡ pattern = same_Some here pattern (sym at ∙ ap (slice_get patterns) (sym e) ∙ there) in
+        let own : r ≡ q = same_Some r q (sym (get_set_same cur done was r stood) ∙ ap (slice_get (slice_set cur done r)) (sym e) ∙ found) in
+        subst (λ (x : Pattern). Captures n config x q) same (subst (λ (y : Response). Captures n config here y) own is)
+    one p pattern q below there found (inr ne) = before.each p pattern q (omega (arith, below, ne)) there (sym (get_set_other cur done p r (λ e. ne (sym e))) ∙ found)
+
+-- ---- where no cell falls
+
+falls_as : (read : Option declared.ClockRoot) (clock : ClockRoot) → shown_clock read ≡ Some clock → is_falling read ≡ clock.inverted
+falls_as None clock is = absurd (none-some clock is)
+falls_as (Some root) clock is = ap (λ (c : ClockRoot). c.inverted) (same_Some (record { port = root.port.0; inverted = root.inverted }) clock is)
+
+none_at : (reads : List Read) (number : ℕ) → any_falls reads ≡ false → is_falling (read_at reads number).clock ≡ false
+none_at [] number none = refl
+none_at (read ∷ reads) zero none = first_of (is_falling read.clock) (any_falls reads) none
+  where
+    first_of : (a b : Bool) → (a || b) ≡ false → a ≡ false
+    first_of true b h = h
+    first_of false b h = refl
+none_at (read ∷ reads) (suc number) none = none_at reads number (rest_of (is_falling read.clock) (any_falls reads) none)
+  where
+    rest_of : (a b : Bool) → (a || b) ≡ false → b ≡ false
+    rest_of true b h = absurd cc
+    rest_of false b h = h
+
+pub none_falls : (n : Netlist) (config : Config) (reads : List Read) (number : ℕ) (cell : InstanceId) → CanCapture n config → AreReads n (cells_in n config) reads → any_falls reads ≡ false → slice_get (cells_in n config) number ≡ Some cell → ((original n config).cell cell.0).falling ≡ false
+none_falls n config reads number cell can are none at =
+    let m : IsModelled n config cell.0 = number_modelled n config number cell.0 can at in
+    let read : Read = read_at reads number in
+    ap (λ (c : Cell). c.falling) (flop_cell n (config_ports n config) cell.0 _ m.flop) ∙ sym (falls_as read.clock m.clock ((are.each number cell at).clock ∙ ap (clock_of n) m.pin ∙ m.root)) ∙ none_at reads number none
 
 pub if_ok : {A : Type 0} (P : Response → Type 0) (r : Result Response AllocError) → IfOk r (λ x. A → P x) → A → IfOk r P
 if_ok P (Ok x) h a = h a

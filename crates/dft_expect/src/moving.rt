@@ -74,7 +74,7 @@ fn set_cells(evaluator: &mut Evaluator, settings: &[Setting], risen: &[Response]
     requires small { length settings.now < 2 ^ 32 }
     requires nets { length settings.now ≡ length evaluator.old.wides }
     ensures same { IsSame evaluator.old evaluator.new }
-    ensures each { (p : ℕ) (r : ResponseOf) → slice_get risen.now p ≡ Some r → (net : ℕ) → net < length settings.now → value_at evaluator.new p net ≡ moved_by (setting_at settings.now net) r.cells (value_at evaluator.old p net) }
+    ensures each { (p : ℕ) (r : ResponseOf) → slice_get risen.now p ≡ Some r → (net : ℕ) → value_at evaluator.new p net ≡ moved_by (setting_at settings.now net) r.cells (value_at evaluator.old p net) }
 {
     for net in 0..settings.len() {
         set_cell(evaluator, settings[net], NetId(net as u32), risen);
