@@ -1,19 +1,21 @@
 -- A pattern captures one domain, so its capture is one vector; and what cells of the chains are.
-use Rattle.std.proofs.Common.{ℕ, zero, suc, Bool, true, false, ◌||◌, ◌≡◌, List, [], ◌∷◌, map, append-nil, slice_get, Some, refl, sym, ap, ◌∙◌}
+use Rattle.std.proofs.Common.{ℕ, zero, suc, Bool, true, false, ◌||◌, ◌≡◌, List, [], ◌∷◌, length, map, append-nil, slice_get, Some, refl, sym, ap, ◌∙◌}
 use Rattle.std.specs.Prelude.{◌==◌, flat_map, slice_index_or}
 use Rattle.std.specs.List.{list_any}
 use Rattle.std.proofs.lemmas.Bool.{eqb-true, eq-eqb}
+use Rattle.std.proofs.lemmas.List.{length-map}
 use Rattle.std.proofs.lemmas.Map.Keys.{any_passes_from_place}
 use Rattle.std.proofs.lemmas.Option.{none-some, same_Some}
 use Rattle.dft_base.specs.declared.tri.Tri.{Tri}
 use Rattle.dft_base.specs.declared.tri.Tri.TheVariants.{Unknown}
+use Rattle.dft_netlist.specs.declared.ids.NetId.{NetId}
 use Rattle.dft_netlist.specs.declared.ids.InstanceId.{InstanceId}
 use Rattle.dft_netlist.specs.Netlist.{Netlist}
 use Rattle.dft_config.specs.Config.{Config}
 use Rattle.dft_cubes.specs.declared.cube.Merged.{Merged}
 use Rattle.dft_expect.specs.declared.response.Response.{Response}
 use Rattle.dft_expect.specs.Loaded.{all_cells, loaded_values}
-use Rattle.dft_expect.specs.Captures.{AllSettled, AreSettled, IsCapture, Settled, capture_vector, capture_vectors, last_state, next_state, original, outputs_before}
+use Rattle.dft_expect.specs.Captures.{AllSettled, AreSettled, IsCapture, Settled, capture_vector, capture_vectors, last_state, next_state, original, output_bits, outputs_before}
 
 -- ---- one vector
 
@@ -40,6 +42,12 @@ one_of n config chains merged loaded r (s ∷ t ∷ settled) are cells outputs =
 
 pub one_vector : (n : Netlist) (config : Config) (chains : List (List InstanceId)) (merged : Merged) (loaded : List Bool) (r : Response) → IsCapture n config chains merged loaded r → IsOneVector n config chains merged loaded r
 one_vector n config chains merged loaded r captured = one_of n config chains merged loaded r captured.settled captured.are captured.cells captured.outputs
+
+-- a capture has a value for each bit of the design's outputs
+pub outputs_count : (n : Netlist) (config : Config) (chains : List (List InstanceId)) (merged : Merged) (loaded : List Bool) (r : Response) → IsCapture n config chains merged loaded r → length r.outputs ≡ length (output_bits n.ports)
+outputs_count n config chains merged loaded r captured =
+    let one : IsOneVector n config chains merged loaded r = one_vector n config chains merged loaded r captured in
+    ap (λ (ts : List Tri). length ts) one.outputs ∙ length-map (output_bits n.ports) (λ (net : NetId). one.step.first net.0)
 
 -- ---- cells of the chains
 
