@@ -33,12 +33,7 @@ fn fill_all(finder: &Finder<'_>, list: &mut VectorList<'_>) -> Result<Filled, Al
     ensures { IfOk result (λ filled. HasPatterns finder.now (length finder.now.merger.now.patterns) filled list.new) }
 {
     let loads = finder.loads;
-    let mut capturer = Capturer::prepare(
-        finder.alloc,
-        loads.design(),
-        loads.config(),
-        loads.chains(),
-    )?;
+    let mut capturer = Capturer::prepare(finder.alloc, loads.planned())?;
     fill(finder, &mut capturer, list)
 }
 

@@ -1,10 +1,7 @@
 //! What patterns capture, up to 512 at a time.
 
-ghost use Rattle.std.specs.Prelude.{◌≡◌, ◌≤◌, ◌<◌, ◌^◌, None, length, IfOk};
-ghost use Rattle.dft_rules.specs.Refusals.{refusal};
-ghost use Rattle.dft_stitch.specs.Chains.{plan_of};
-ghost use Rattle.dft_expect.specs.Capturing.{AreCaptures, Captures, IsPrepared};
-ghost use Rattle.dft_expect.specs.Loaded.{all_cells};
+ghost use Rattle.std.specs.Prelude.{◌≡◌, ◌≤◌, ◌<◌, ◌^◌, length, IfOk};
+ghost use Rattle.dft_expect.specs.Capturing.{AreCaptures, Captures, IsPrepared, cells_in};
 
 use crate::moving::settle_again;
 use crate::pattern::Pattern;
@@ -17,7 +14,7 @@ use crate::unloading::starts;
 use dft_config::Config;
 use dft_evaluator::Evaluator;
 use dft_netlist::{Design, NetId};
-use dft_stitch::Chains;
+use dft_stitch::Planned;
 use std::alloc::{AllocError, Global};
 use std::marker::Model;
 use std::slice::from_ref;
@@ -48,23 +45,18 @@ impl<'a> Model for Capturer<'a> {
 }
 
 impl<'a> Capturer<'a> {
-    /// What captures in a design that the scan rules pass, with its chains. All memory but that of the answers is taken here.
-    pub fn prepare(
-        alloc: Global,
-        design: &'a Design,
-        config: &'a Config,
-        chains: &Chains,
-    ) -> Result<Capturer<'a>, AllocError>
-        requires passed { refusal design.now config.now ≡ None }
-        requires chains { chains.now ≡ plan_of design.now config.now }
-        ensures { IfOk result (λ c. c ≡ record { design = design.entry.now; config = config.entry.now }) }
+    /// What captures in a planned design. All memory but that of the answers is taken here.
+    pub fn prepare(alloc: Global, planned: &Planned<'a>) -> Result<Capturer<'a>, AllocError>
+        ensures { IfOk result (λ c. c ≡ record { design = planned.entry.now.design; config = planned.entry.now.config }) }
     {
+        planned.soundness();
+        let design = planned.design();
+        let config = planned.config();
         design.soundness();
-        config.soundness();
         let evaluator = Evaluator::prepare(alloc, design)?;
-        let reads = reads(alloc, design, chains)?;
+        let reads = reads(alloc, design, planned.chains())?;
         let outputs = outputs(alloc, design)?;
-        let settings = all_settings(alloc, design, config, chains)?;
+        let settings = all_settings(alloc, planned)?;
         let falls = any_falls(&reads);
         Ok(Capturer {
             design,
@@ -141,24 +133,19 @@ impl<'a> Capturer<'a> {
 }
 
 // What each net is set to.
-fn all_settings(
-    alloc: Global,
-    design: &Design,
-    config: &Config,
-    chains: &Chains,
-) -> Result<Vec<Setting>, AllocError>
-    requires chains { chains.now ≡ plan_of design.now config.now }
-    requires small { length (all_cells chains.now.chains) < 2 ^ 64 }
-    ensures { IfOk result (λ settings. IsPrepared design.now config.now settings.items) }
+fn all_settings(alloc: Global, planned: &Planned<'_>) -> Result<Vec<Setting>, AllocError>
+    requires { length (cells_in planned.now.design planned.now.config) < 2 ^ 64 }
+    ensures { IfOk result (λ settings. IsPrepared planned.now.design planned.now.config settings.items) }
 {
+    let design = planned.design();
+    let config = planned.config();
     let clocks = flags(alloc, design, config.domains())?;
     let resets = flags(alloc, design, config.resets())?;
-    let starts = starts(alloc, chains)?;
+    let starts = starts(alloc, planned.chains())?;
     let found = Finding {
-        design,
+        planned,
         clocks: &clocks,
         resets: &resets,
-        chains,
         starts: &starts,
     };
     settings(alloc, &found)

@@ -1,9 +1,7 @@
 //! What patterns capture, which chains are masked and what the outputs show, worked by hand.
 
-ghost use Rattle.std.specs.Prelude.{ℕ, ◌≡◌, ◌<◌, ◌≤◌, ◌*◌, true, None, Some, length, slice_get, IfOk};
-ghost use Rattle.dft_rules.specs.Refusals.{refusal};
-ghost use Rattle.dft_stitch.specs.Chains.{plan_of};
-ghost use Rattle.dft_expect.specs.Loaded.{all_cells};
+ghost use Rattle.std.specs.Prelude.{ℕ, ◌≡◌, ◌<◌, ◌≤◌, ◌*◌, true, Some, length, slice_get, IfOk};
+ghost use Rattle.dft_expect.specs.Capturing.{cells_in};
 ghost use Rattle.dft_expect.specs.declared.response.Response.{Response};
 
 use crate::lines::{Job, Texts, Told, line_for};
@@ -166,13 +164,12 @@ fn is_row(config: &Config, chains: &Chains, row: &[u64]) -> bool
 }
 
 // The bits that a row brings to the cells.
-fn load_of(alloc: Global, job: &Job<'_>, row: &[u64]) -> Result<Vec<bool>, AllocError>
-    requires passed { refusal job.now.design.now job.now.config.now ≡ None }
-    requires chains { job.now.chains.now ≡ plan_of job.now.design.now job.now.config.now }
-{
-    job.config.soundness();
-    if is_row(job.config, job.chains, row) {
-        loaded(alloc, job.config, job.chains, row)
+fn load_of(alloc: Global, job: &Job<'_>, row: &[u64]) -> Result<Vec<bool>, AllocError> {
+    let config = job.planned.config();
+    let chains = job.planned.chains();
+    config.soundness();
+    if is_row(config, chains, row) {
+        loaded(alloc, config, chains, row)
     } else {
         Ok(Vec::new(alloc))
     }
@@ -200,17 +197,17 @@ fn push_unload(
     response: &Response,
     next: &[u64],
 ) -> Result<(), AllocError>
-    requires passed { refusal job.now.design.now job.now.config.now ≡ None }
-    requires chains { job.now.chains.now ≡ plan_of job.now.design.now job.now.config.now }
-    requires cells { length response.now.cells ≡ length (all_cells job.now.chains.now.chains) }
+    requires cells { length response.now.cells ≡ length (cells_in job.now.planned.now.design job.now.planned.now.config) }
 {
-    job.config.soundness();
-    if !is_row(job.config, job.chains, next) {
+    let config = job.planned.config();
+    let chains = job.planned.chains();
+    config.soundness();
+    if !is_row(config, chains, next) {
         return line.push('?');
     }
-    let always = always_masked(alloc, job.config, job.chains.count())?;
+    let always = always_masked(alloc, config, chains.count())?;
     let always = always.as_slice();
-    if always.len() != usize::from(job.chains.count()) {
+    if always.len() != usize::from(chains.count()) {
         return line.push('?');
     }
     let policy = MaskPolicy::new(
@@ -219,12 +216,12 @@ fn push_unload(
         { unknown || always[chain as usize] },
         always,
     );
-    let masks = masks(alloc, &policy, job.chains, response)?;
+    let masks = masks(alloc, &policy, chains, response)?;
     push_bits(line, &masks)?;
-    if masks.len() != usize::from(job.chains.count()) {
+    if masks.len() != usize::from(chains.count()) {
         return line.push('?');
     }
-    let expected = expected(alloc, job.config, job.chains, response, &masks, next)?;
+    let expected = expected(alloc, config, chains, response, &masks, next)?;
     push_bits(line, &expected)
 }
 
@@ -234,22 +231,17 @@ fn responses_of(
     job: &Job<'_>,
     patterns: &[Pattern<'_>],
 ) -> Result<Vec<Response>, AllocError>
-    requires passed { refusal job.now.design.now job.now.config.now ≡ None }
-    requires chains { job.now.chains.now ≡ plan_of job.now.design.now job.now.config.now }
-    ensures { IfOk result (λ found. (place : ℕ) (r : Response) → slice_get found.items place ≡ Some r → length r.cells ≡ length (all_cells job.now.chains.now.chains)) }
+    ensures { IfOk result (λ found. (place : ℕ) (r : Response) → slice_get found.items place ≡ Some r → length r.cells ≡ length (cells_in job.now.planned.now.design job.now.planned.now.config)) }
 {
     if patterns.len() > 512 {
         return Ok(Vec::new(alloc));
     }
-    let mut capturer = Capturer::prepare(alloc, job.design, job.config, job.chains)?;
+    let mut capturer = Capturer::prepare(alloc, job.planned)?;
     capturer.capture_all(alloc, patterns)
 }
 
 // What becomes of the patterns of the cubes, loaded by these rows.
-fn captured(alloc: Global, job: &Job<'_>, rows: &[Vec<u64>]) -> Result<String, AllocError>
-    requires passed { refusal job.now.design.now job.now.config.now ≡ None }
-    requires chains { job.now.chains.now ≡ plan_of job.now.design.now job.now.config.now }
-{
+fn captured(alloc: Global, job: &Job<'_>, rows: &[Vec<u64>]) -> Result<String, AllocError> {
     let mut line = String::new(alloc);
     let merged = all_merged(alloc, job.cubes)?;
     let mut loads = Vec::new(alloc);
@@ -275,10 +267,7 @@ fn captured(alloc: Global, job: &Job<'_>, rows: &[Vec<u64>]) -> Result<String, A
 }
 
 // What the cubes capture as patterns, loaded by these rows of channel bits.
-pub(crate) fn line(alloc: Global, job: &Job<'_>, rows: &str) -> Result<String, AllocError>
-    requires passed { refusal job.now.design.now job.now.config.now ≡ None }
-    requires chains { job.now.chains.now ≡ plan_of job.now.design.now job.now.config.now }
-{
+pub(crate) fn line(alloc: Global, job: &Job<'_>, rows: &str) -> Result<String, AllocError> {
     let rows = rows_of(alloc, rows)?;
     captured(alloc, job, &rows)
 }

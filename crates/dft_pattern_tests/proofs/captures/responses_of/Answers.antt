@@ -26,10 +26,9 @@ each_whole c patterns responses are place r at = elim ((slice_get_cases patterns
 
 pub returns : goal.returns
 returns c =
-    let plan : c.args.job.now.chains.now ≡ plan_of c.args.job.now.design.now c.args.job.now.config.now = c.requires.chains in
-    let capturing : c.in_ok-capturer.capturer ≡ record { design = c.args.job.now.design.now; config = c.args.job.now.config.now } = c.in_ok-capturer.ensures in
+    let planned = c.args.job.now.planned.now in
+    let capturing : c.in_ok-capturer.capturer ≡ record { design = planned.design; config = planned.config } = c.in_ok-capturer.ensures in
     IfOk-weaker c.capture_all.result _ _
     (λ found are place r at. each_whole c.in_ok-capturer.capturer c.args.patterns.now found.items are place r at
-    ∙ ap (λ (x : Capturing). length (cells_in x.design x.config)) capturing
-    ∙ sym (ap (λ (p : Plan). length (all_cells p.chains)) plan))
+    ∙ ap (λ (x : Capturing). length (cells_in x.design x.config)) capturing)
     c.capture_all.ensures.captures
