@@ -77,12 +77,7 @@ fn edge_text(falling: bool) -> &'static [u8]
 
 // Adds a place of a chain, and the edge.
 #[tactic(auto, unfolding(crate::specs::Written::place_text))]
-fn add_place(
-    out: &mut Vec<u8>,
-    chain: u32,
-    place: u32,
-    falling: bool,
-) -> Result<(), AllocError>
+fn add_place(out: &mut Vec<u8>, chain: u32, place: u32, falling: bool) -> Result<(), AllocError>
     ensures { OnOk result (out.new.items ≡ out.old.items ++ form.place_text chain place falling) }
 {
     out.extend_from_slice(b" chain ")?;

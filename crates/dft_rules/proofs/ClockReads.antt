@@ -5,7 +5,6 @@ use Rattle.std.specs.List.{list_any, range_with_len}
 use Rattle.std.proofs.lemmas.Bool.{eq-eqb}
 use Rattle.std.proofs.lemmas.Map.Keys.{any_passes_from_place}
 use Rattle.std.proofs.lemmas.Option.{none-some}
-use Rattle.dft_base.proofs.OptionLemmas.{some_of}
 use Rattle.dft_cells.specs.declared.kind.Kind.{Kind}
 use Rattle.dft_cells.specs.declared.kind.Role.{Role}
 use Rattle.dft_cells.specs.declared.kind.Role.TheVariants as role
@@ -13,7 +12,7 @@ use Rattle.dft_netlist.specs.declared.instance.Instance.{Instance}
 use Rattle.dft_netlist.specs.declared.instance.Signal.{Signal}
 use Rattle.dft_netlist.specs.declared.instance.Signal.TheVariants as signal
 use Rattle.dft_netlist.specs.Netlist.{Netlist}
-use Rattle.dft_netlist.specs.Drivers.{Source, Net, Tied, Loose, Gate, Free, Connection, driver, source_of, inputs_of, is_input, connections_of, shape_of, nets_of}
+use Rattle.dft_netlist.specs.Drivers.{Source, Net, Gate, Free, Connection, driver, source_of, inputs_of, is_input, connections_of, nets_of}
 use Rattle.dft_netlist.specs.Orders.{Has}
 use Rattle.dft_netlist.specs.Sound.{IsNetlist}
 use Rattle.dft_netlist.specs.ClockRoots.{ClockRoot, ClockRooted, AtPort, ThroughGate, ThroughJoin, clock_root_of}
@@ -131,9 +130,9 @@ pub data_apart : (n : Netlist) (config : Config) (i : ℕ) (x : Instance) (k : �
     is_some (clock_of_source n config.domains (Net k)) ≡ false
 data_apart n config i x k sound passed at takes =
     shown_or_not (is_some (clock_of_source n config.domains (Net k))) (λ shows. (
-        let never : true ≡ false = sym (any_passes_from_place (is_data_of n.library k) n.instances i x at takes) ∙ no_data n config k sound passed shows in
-        cc
-        ))
+    let never : true ≡ false = sym (any_passes_from_place (is_data_of n.library k) n.instances i x at takes) ∙ no_data n config k sound passed shows in
+    cc
+    ))
 
 -- a gate that is no buffer and no inverter reads none
 pub gate_apart : (n : Netlist) (config : Config) (net k : ℕ) (kind : Kind) (inputs : List Source) → IsNetlist n → refusal n config ≡ None → driver n net ≡ Gate kind inputs → uses_data kind ≡ true → Has (nets_of inputs) k →

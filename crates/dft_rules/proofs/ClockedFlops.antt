@@ -13,7 +13,7 @@ use Rattle.dft_netlist.specs.Connections.{input_net}
 use Rattle.dft_netlist.specs.Drivers.{Source, kind_at, pins_of}
 use Rattle.dft_netlist.specs.Traces.{Root, Port, Constant, Other, root_of}
 use Rattle.dft_netlist.specs.ClockRoots.{ClockRoot, clock_root_of}
-use Rattle.dft_netlist.specs.Logic.{Ports, Force, Scan, Cell, pin_of, or_loose, domain_at, force_of, forcing, scan_of, modelled, modelled_of, flip_flop}
+use Rattle.dft_netlist.specs.Logic.{Ports, Force, Scan, pin_of, or_loose, domain_at, force_of, forcing, scan_of, modelled, modelled_of, flip_flop}
 use Rattle.dft_netlist.specs.Logic as logic
 use Rattle.dft_config.specs.Config.{Config}
 use Rattle.dft_rules.specs.ConfigPorts.{config_ports}

@@ -10,6 +10,7 @@ pub mod Passed
 pub mod MarkLemmas
 pub mod PlaceLemmas
 pub mod WorkedRules
+pub mod WorkedEdges
 pub mod Scannable
 pub mod ClockReads
 pub mod ClockedFlops

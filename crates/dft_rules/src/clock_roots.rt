@@ -80,7 +80,11 @@ fn turned(turns: bool, clock: Option<ClockRoot>) -> Option<ClockRoot>
     match clock {
         Some(clock) => Some(ClockRoot {
             port: clock.port,
-            inverted: if turns { !clock.inverted } else { clock.inverted },
+            inverted: if turns {
+                !clock.inverted
+            } else {
+                clock.inverted
+            },
         }),
         None => None,
     }

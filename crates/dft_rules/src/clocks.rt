@@ -40,11 +40,7 @@ pub(crate) fn check_clocks(
 }
 
 // The first marked net that shows the clock of one of these nets or its inverse.
-fn first_clock(
-    domains: &[NetId],
-    clocks: &[Option<ClockRoot>],
-    used: &[bool],
-) -> Option<NetId>
+fn first_clock(domains: &[NetId], clocks: &[Option<ClockRoot>], used: &[bool]) -> Option<NetId>
     requires few { length domains.now ≤ 16 }
     requires small { length clocks.now < 2 ^ 32 }
     requires marks { length used.now ≡ length clocks.now }

@@ -26,13 +26,8 @@ pub(crate) fn scanned_line(
 {
     let name = name_of(alloc, design, cell)?;
     let domain = domain_name(alloc, config, verdicts, cell)?;
-    Ok(scanned_as(
-        chain,
-        place,
-        is_falling(verdicts, cell),
-        name,
-        domain,
-    ))
+    let falling = is_falling(verdicts, cell);
+    Ok(scanned_as(chain, place, falling, name, domain))
 }
 
 // Whether the cell takes its bits at falls.

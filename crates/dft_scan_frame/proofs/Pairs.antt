@@ -1,5 +1,5 @@
 -- What a library keeps makes a flip-flop and its scan cell a pair.
-use Rattle.std.proofs.Common.{ℕ, ◌≡◌, Bool, true, false, List, ◌∷◌, map, Option, None, Some, refl, sym, subst, ap, inl, inr, []}
+use Rattle.std.proofs.Common.{◌≡◌, Bool, true, false, List, ◌∷◌, map, Some, refl, sym, subst, ap, inl, inr, []}
 use Rattle.std.specs.Prelude.{if◌then◌else◌}
 use Rattle.std.proofs.lemmas.Option.{none-some, same_Some}
 use Rattle.dft_cells.specs.declared.kind.Kind.{Kind}
