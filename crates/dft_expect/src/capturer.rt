@@ -89,17 +89,18 @@ impl<'a> Capturer<'a> {
             outputs: &self.outputs,
         };
         let mut responses = rise_all(alloc, &reading, patterns)?;
-        if self.falls {
-            settle_again(&mut self.evaluator, &self.settings, &responses);
-            let reading = Reading {
-                design: self.design,
-                config: self.config,
-                evaluator: &self.evaluator,
-                reads: &self.reads,
-                outputs: &self.outputs,
-            };
-            fall_all(alloc, &reading, patterns, &mut responses)?;
+        if !self.falls {
+            return Ok(responses);
         }
+        settle_again(&mut self.evaluator, &self.settings, &responses);
+        let reading = Reading {
+            design: self.design,
+            config: self.config,
+            evaluator: &self.evaluator,
+            reads: &self.reads,
+            outputs: &self.outputs,
+        };
+        fall_all(alloc, &reading, patterns, &mut responses)?;
         Ok(responses)
     }
 
@@ -117,17 +118,18 @@ impl<'a> Capturer<'a> {
             outputs: &self.outputs,
         };
         let mut response = rise(alloc, &reading, pattern, 0)?;
-        if self.falls {
-            settle_again(&mut self.evaluator, &self.settings, from_ref(&response));
-            let reading = Reading {
-                design: self.design,
-                config: self.config,
-                evaluator: &self.evaluator,
-                reads: &self.reads,
-                outputs: &self.outputs,
-            };
-            fall(alloc, &reading, pattern, 0, &mut response)?;
+        if !self.falls {
+            return Ok(response);
         }
+        settle_again(&mut self.evaluator, &self.settings, from_ref(&response));
+        let reading = Reading {
+            design: self.design,
+            config: self.config,
+            evaluator: &self.evaluator,
+            reads: &self.reads,
+            outputs: &self.outputs,
+        };
+        fall(alloc, &reading, pattern, 0, &mut response)?;
         Ok(response)
     }
 }
