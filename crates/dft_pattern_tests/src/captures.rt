@@ -113,7 +113,7 @@ static CASES: [(&str, &str, &str, &str, &str, &str); 10] = [
         RING,
         "cube k0 clk\nport a 1\nend\ncube k1 clk\nport a 0\nend\n",
         "0110 1010",
-        "?",
+        "1110 X111 X 10 11110000 | 0011 1001 X 00 11100000 | ",
     ),
     // what is joined to nothing is unknown, but for an and with 0
     (
