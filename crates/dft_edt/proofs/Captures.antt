@@ -20,7 +20,7 @@ use Rattle.dft_abstract.specs.Laws.{next_from}
 use Rattle.dft_abstract.proofs.Phases.{of_both}
 use Rattle.dft_abstract.proofs.OneDomain.{flop_old}
 use Rattle.dft_chains.specs.ScanOff.{moved_source, moved_force, moved_meaning, Places, IsWithin, IsForceWithin, IsEnabledBy, KeepsFlop}
-use Rattle.dft_edt.specs.Captures.{Covers, ContainingCovers, WideningCovers, StandsOver, StrobeLaw, AllIn, IsClockFree, IsCapture, IsCaptured, after_edge, CaptureLaw}
+use Rattle.dft_edt.specs.Captures.{Covers, ContainingCovers, WideningCovers, StandsOver, StrobeLaw, AllIn, IsClockFree, IsCapture, after_edge, CaptureLaw}
 use Rattle.dft_chains.proofs.Staying.{net_stays}
 
 -- ---- settled values of nets that are closed under what they read

@@ -1,5 +1,5 @@
 -- A placement of cubes has patterns: channel bits that the fill rule chooses, and what the design captures from them.
-use Rattle.std.proofs.Common.{ℕ, zero, suc, ◌+◌, ◌≡◌, ◌∙◌, ◌⊎◌, inl, inr, Bool, List, [], ◌∷◌, map, None, Some, refl, sym, subst, arith}
+use Rattle.std.proofs.Common.{ℕ, zero, suc, ◌+◌, ◌≡◌, ◌∙◌, ◌⊎◌, inl, inr, List, [], ◌∷◌, map, None, Some, refl, sym, subst, arith}
 use Rattle.std.specs.Prelude.{slice_get}
 use Rattle.std.proofs.lemmas.Option.{none-some, same_Some}
 use Rattle.dft_base.specs.Solutions.{bit_at}
@@ -23,7 +23,7 @@ use Rattle.dft_merge.specs.Slots.{AreLoadable, IsLoadable}
 use Rattle.dft_merge.proofs.EquationLemmas.{solves_loads}
 use Rattle.dft_merge.proofs.SlotLemmas.{loadable_joined, loadable_push, loadable_set}
 use Rattle.dft_vectors.specs.PatternData.{PatternData}
-use Rattle.dft_encode.specs.Compiled.{ArePatterns, IsPattern, Placing, merged_of}
+use Rattle.dft_encode.specs.Compiled.{IsPattern, merged_of}
 use Rattle.dft_top.specs.Laws.{PlacementsHavePatterns}
 use Rattle.dft_top.proofs.SomeChoice.{some_choice}
 

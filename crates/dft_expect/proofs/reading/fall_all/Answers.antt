@@ -1,5 +1,5 @@
 -- One pattern more.
-use Rattle.std.proofs.Common.{◌≡◌, ◌<◌, ◌∙◌, sym, Some, slice_get, length, arith}
+use Rattle.std.proofs.Common.{◌≡◌, ◌∙◌, sym, Some, slice_get, arith}
 use Rattle.dft_netlist.proofs.NotesLemmas.{item_at}
 use Rattle.dft_expect.proofs.ReadLemmas.{fallen_on}
 use Rattle.dft_expect.proofs.reading.fall_all.Goals as goal

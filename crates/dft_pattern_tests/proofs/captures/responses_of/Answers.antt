@@ -5,10 +5,9 @@ use Rattle.std.proofs.lemmas.Option.{slice_get_cases, slice_get_within}
 use Rattle.std.proofs.lemmas.Result.{IfOk-weaker}
 use Rattle.dft_netlist.specs.declared.ids.InstanceId.{InstanceId}
 use Rattle.dft_stitch.specs.Chains.{plan_of}
-use Rattle.dft_stitch.specs.Plans.{Plan}
 use Rattle.dft_expect.specs.Captures.{capture_vectors, last_state, original}
 use Rattle.dft_expect.specs.Capturing.{AreCaptures, Captures, Capturing, cells_in}
-use Rattle.dft_expect.specs.Loaded.{all_cells, loaded_values}
+use Rattle.dft_expect.specs.Loaded.{loaded_values}
 use Rattle.dft_expect.specs.declared.pattern.Pattern.{Pattern}
 use Rattle.dft_expect.specs.declared.response.Response.{Response}
 use Rattle.dft_pattern_tests.proofs.captures.responses_of.Goals as goal

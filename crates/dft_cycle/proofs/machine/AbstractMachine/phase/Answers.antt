@@ -57,7 +57,7 @@ invariant_of-self c =
       shown = i.shown;
       values = i.values;
       cells = refilled d.cells c.copy_from_slice.new.self ∙ i.cells;
-      search = record { poss = i.search.poss; held = i.search.held; next = refilled d.search.next c.take-taken.new.next ∙ i.search.next; };
+      search = record { poss = i.search.poss; held = i.search.held; next = refilled d.search.next c.take-taken.new.next ∙ i.search.next };
       marked = refilled d.marked c.take-taken.new.marked ∙ i.marked;
       clear = clear_kept d.marked c.take-taken.new.marked c.deref_mut-3.result.now c.take-taken.auto.marked c.deref_mut-3.ensures.value c.take-taken.ensures.clear;
       ready = i.ready;
@@ -87,7 +87,7 @@ invariant_of-self-else-taken c =
       shown = i.shown;
       values = i.values;
       cells = i.cells;
-      search = record { poss = i.search.poss; held = i.search.held; next = refilled d.search.next c.take-taken.new.next ∙ i.search.next; };
+      search = record { poss = i.search.poss; held = i.search.held; next = refilled d.search.next c.take-taken.new.next ∙ i.search.next };
       marked = refilled d.marked c.take-taken.new.marked ∙ i.marked;
       clear = clear_kept d.marked c.take-taken.new.marked c.deref_mut-3.result.now c.take-taken.auto.marked c.deref_mut-3.ensures.value c.take-taken.ensures.clear;
       ready = i.ready;
