@@ -107,8 +107,7 @@ some_capture n rank config chains merged loaded ordered =
     let l : Logic = original n config in
     let xs : List Vector = capture_vectors n config merged in
     let state : ℕ → Tri = loaded_values chains loaded in
-    let found = all_some l rank chains xs state (order_is_rank n (config_ports n config) rank ordered) in
-    (
+    let found = all_some l rank chains xs state (order_is_rank n (config_ports n config) rank ordered) in (
       record { cells = map (λ cell. last_state l chains xs state found.0 cell.0) (all_cells chains); outputs = flat_map (outputs_before n) found.0 },
       record { settled = found.0; are = found.1; cells = refl; outputs = refl },
     )

@@ -72,13 +72,7 @@ fn signal_value(evaluator: &Evaluator, signal: Signal, pattern: u16) -> Tri
 }
 
 // The value of a cell after an edge: its next one where it takes one, and else what it had before.
-fn cell_after(
-    evaluator: &Evaluator,
-    read: &Read,
-    edge: Edge,
-    before: Tri,
-    pattern: u16,
-) -> Tri
+fn cell_after(evaluator: &Evaluator, read: &Read, edge: Edge, before: Tri, pattern: u16) -> Tri
     requires { pattern < 512 }
     ensures { result ≡ read_value (value_at evaluator.now pattern) edge.clock edge.rising before read.now }
 {
@@ -170,7 +164,10 @@ pub(crate) fn rise(
     ensures { IfOk result (λ r. Settles reading.now.design.now reading.now.config.now pattern.now (value_at reading.now.evaluator.now place) → IsRisen reading.now.design.now reading.now.config.now pattern.now r) }
 {
     let clock = clock_of(reading.design, reading.config, pattern.merged.domain);
-    let edge = Edge { clock, rising: true };
+    let edge = Edge {
+        clock,
+        rising: true,
+    };
     let cells = cells_from_load(alloc, reading, edge, pattern.loaded, place)?;
     let outputs = values(alloc, reading.evaluator, reading.outputs, place)?;
     Ok(Response {
@@ -237,7 +234,13 @@ pub(crate) fn fall_all(
     ensures { OnOk result (AreCaptures (record { design = reading.now.design.now; config = reading.now.config.now }) patterns.now responses.new) }
 {
     for place in 0..patterns.len() {
-        fall(alloc, reading, &patterns[place], place as u16, &mut responses[place])?;
+        fall(
+            alloc,
+            reading,
+            &patterns[place],
+            place as u16,
+            &mut responses[place],
+        )?;
     }
     Ok(())
 }
