@@ -27,16 +27,16 @@ use Rattle.dft_chains.proofs.Staying.{net_stays}
 
 source_over : (rank : ℕ → ℕ) (r : ℕ) (p : Places) (free : ℕ → Bool) (a b : ℕ → Tri) → ((net : ℕ) → net < p.size → free net ≡ true → rank net < r → AboveTri (a net) (b (p.moved net))) →
     (source : Source) → AreBelow (λ k. k) p.size (nets_of (source ∷ [])) → AllIn free (nets_of (source ∷ [])) → AreBelow rank r (nets_of (source ∷ [])) → AboveTri (value_from a source) (value_from b (moved_source p.moved source))
-source_over rank r p free a b ih (Net net) inside open below = ih net inside.0 open.0 below.0
-source_over rank r p free a b ih (Tied bit) inside open below = above_self (known bit)
-source_over rank r p free a b ih (Loose i pin) inside open below = tt
+source_over rank r p free a b ih (Net net) inside among below = ih net inside.0 among.0 below.0
+source_over rank r p free a b ih (Tied bit) inside among below = above_self (known bit)
+source_over rank r p free a b ih (Loose i pin) inside among below = tt
 
 inputs_over : (rank : ℕ → ℕ) (r : ℕ) (p : Places) (free : ℕ → Bool) (a b : ℕ → Tri) → ((net : ℕ) → net < p.size → free net ≡ true → rank net < r → AboveTri (a net) (b (p.moved net))) →
     (inputs : List Source) → AreBelow (λ k. k) p.size (nets_of inputs) → AllIn free (nets_of inputs) → AreBelow rank r (nets_of inputs) → AllOver (map (value_from a) inputs) (map (value_from b) (map (moved_source p.moved) inputs))
-inputs_over rank r p free a b ih [] inside open below = tt
-inputs_over rank r p free a b ih (Net net ∷ inputs) inside open below = (ih net inside.0 open.0 below.0, inputs_over rank r p free a b ih inputs inside.1 open.1 below.1)
-inputs_over rank r p free a b ih (Tied bit ∷ inputs) inside open below = (above_self (known bit), inputs_over rank r p free a b ih inputs inside open below)
-inputs_over rank r p free a b ih (Loose i pin ∷ inputs) inside open below = (tt, inputs_over rank r p free a b ih inputs inside open below)
+inputs_over rank r p free a b ih [] inside among below = tt
+inputs_over rank r p free a b ih (Net net ∷ inputs) inside among below = (ih net inside.0 among.0 below.0, inputs_over rank r p free a b ih inputs inside.1 among.1 below.1)
+inputs_over rank r p free a b ih (Tied bit ∷ inputs) inside among below = (above_self (known bit), inputs_over rank r p free a b ih inputs inside among below)
+inputs_over rank r p free a b ih (Loose i pin ∷ inputs) inside among below = (tt, inputs_over rank r p free a b ih inputs inside among below)
 
 -- what gates and joins read is among them
 abbrev OpenIn : (free : ℕ → Bool) → Meaning → Type 0
@@ -57,14 +57,14 @@ record SourcesOver (original : Logic) (p : Places) (free : ℕ → Bool) (s t : 
 given_over : (original : Logic) (rank : ℕ → ℕ) (p : Places) (free : ℕ → Bool) (s t : TriSources) (a b : ℕ → Tri) (net : ℕ) → net < p.size → SourcesOver original p free s t → ((k : ℕ) → k < p.size → free k ≡ true → rank k < rank net → AboveTri (a k) (b (p.moved k))) →
     (m : Meaning) → AreBelow (λ k. k) p.size (reads m) → OpenIn free m → AreBelow rank (rank net) (reads m) → (m ≡ Clock → AboveTri (s.clocks net) (t.clocks (p.moved net))) → ((cell : ℕ) (inverted : Bool) → m ≡ Flop cell inverted → p.is_flop cell ≡ true) →
     ((cell domain : ℕ) (high : Bool) (source : Source) → m ≡ Lockup cell domain high source → ⊥) → AboveTri (value_given s a net m) (value_given t b (p.moved net) (moved_meaning p.moved m))
-given_over original rank p free s t a b net here over ih Input inside open below clock shown no_lockup = over.ports net here
-given_over original rank p free s t a b net here over ih Clock inside open below clock shown no_lockup = clock refl
-given_over original rank p free s t a b net here over ih (Gate kind inputs) inside open below clock shown no_lockup =
-    shared_monotone (bit_of kind) (map (value_from a) inputs) (map (value_from b) (map (moved_source p.moved) inputs)) (inputs_over rank (rank net) p free a b ih inputs inside open below)
-given_over original rank p free s t a b net here over ih (Joined source) inside open below clock shown no_lockup = source_over rank (rank net) p free a b ih source inside open below
-given_over original rank p free s t a b net here over ih (Flop cell inverted) inside open below clock shown no_lockup = pin_monotone inverted (s.flops cell) (t.flops cell) (over.flops cell (shown cell inverted refl))
-given_over original rank p free s t a b net here over ih (Lockup cell domain high source) inside open below clock shown no_lockup = absurd (no_lockup cell domain high source refl)
-given_over original rank p free s t a b net here over ih Free inside open below clock shown no_lockup = tt
+given_over original rank p free s t a b net here over ih Input inside among below clock shown no_lockup = over.ports net here
+given_over original rank p free s t a b net here over ih Clock inside among below clock shown no_lockup = clock refl
+given_over original rank p free s t a b net here over ih (Gate kind inputs) inside among below clock shown no_lockup =
+    shared_monotone (bit_of kind) (map (value_from a) inputs) (map (value_from b) (map (moved_source p.moved) inputs)) (inputs_over rank (rank net) p free a b ih inputs inside among below)
+given_over original rank p free s t a b net here over ih (Joined source) inside among below clock shown no_lockup = source_over rank (rank net) p free a b ih source inside among below
+given_over original rank p free s t a b net here over ih (Flop cell inverted) inside among below clock shown no_lockup = pin_monotone inverted (s.flops cell) (t.flops cell) (over.flops cell (shown cell inverted refl))
+given_over original rank p free s t a b net here over ih (Lockup cell domain high source) inside among below clock shown no_lockup = absurd (no_lockup cell domain high source refl)
+given_over original rank p free s t a b net here over ih Free inside among below clock shown no_lockup = tt
 
 same_over : (t u v w : Tri) → t ≡ u → v ≡ w → AboveTri u w → AboveTri t v
 same_over t u v w e f h = rw (e, f) h
@@ -73,20 +73,20 @@ abbrev ClosedIn : Logic → (free : ℕ → Bool) → Type 0
 ClosedIn l free = (net : ℕ) → free net ≡ true → OpenIn free (l.net net)
 
 values_by : (original written : Logic) (rank : ℕ → ℕ) (p : Places) (free : ℕ → Bool) (s t : TriSources) (a b : ℕ → Tri) → (ranked : IsRanked original rank) → (has : Covers original written p) → (closed : ClosedIn original free) → (over : SourcesOver original p free s t) → (settled : IsTriSettled original s a) → (its_settled : IsTriSettled written t b) →
-    (fuel net : ℕ) → (less : rank net < fuel) → (inside : net < p.size) → (open : free net ≡ true) → AboveTri (a net) (b (p.moved net))
-values_by original written rank p free s t a b ranked has closed over settled its_settled zero net less inside open = absurd (omega arith)
-values_by original written rank p free s t a b ranked has closed over settled its_settled (suc fuel) net less inside open =
+    (fuel net : ℕ) → (less : rank net < fuel) → (inside : net < p.size) → (among : free net ≡ true) → AboveTri (a net) (b (p.moved net))
+values_by original written rank p free s t a b ranked has closed over settled its_settled zero net less inside among = absurd (omega arith)
+values_by original written rank p free s t a b ranked has closed over settled its_settled (suc fuel) net less inside among =
     elim (has.nets net inside) [
       | inl is_free ↦ subst (λ t. AboveTri t (b (p.moved net))) (sym (value_at original s a net Free settled is_free)) tt
       | inr same ↦ same_over (a net) (value_given s a net (original.net net)) (b (p.moved net)) (value_given t b (p.moved net) (moved_meaning p.moved (original.net net))) (settled net)
           (value_at written t b (p.moved net) (moved_meaning p.moved (original.net net)) its_settled same)
-          (given_over original rank p free s t a b net inside over (λ k k_inside k_open below. values_by original written rank p free s t a b ranked has closed over settled its_settled fuel k (omega (arith, less, below)) k_inside k_open)
-          (original.net net) (has.closed net inside) (closed net open) (ranked.order net) (over.clocks net open) (λ cell inverted is. has.shown net cell inverted inside is) (λ cell domain high source is. has.no_lockup net cell domain high source inside is))
+          (given_over original rank p free s t a b net inside over (λ k k_inside k_among below. values_by original written rank p free s t a b ranked has closed over settled its_settled fuel k (omega (arith, less, below)) k_inside k_among)
+          (original.net net) (has.closed net inside) (closed net among) (ranked.order net) (over.clocks net among) (λ cell inverted is. has.shown net cell inverted inside is) (λ cell domain high source is. has.no_lockup net cell domain high source inside is))
     ]
 
 values_over : (original written : Logic) (rank : ℕ → ℕ) (p : Places) (free : ℕ → Bool) (s t : TriSources) (a b : ℕ → Tri) → IsRanked original rank → Covers original written p → ClosedIn original free → SourcesOver original p free s t → IsTriSettled original s a → IsTriSettled written t b →
     (net : ℕ) → net < p.size → free net ≡ true → AboveTri (a net) (b (p.moved net))
-values_over original written rank p free s t a b ranked has closed over settled its_settled net inside open = values_by original written rank p free s t a b ranked has closed over settled its_settled (suc (rank net)) net (omega arith) inside open
+values_over original written rank p free s t a b ranked has closed over settled its_settled net inside among = values_by original written rank p free s t a b ranked has closed over settled its_settled (suc (rank net)) net (omega arith) inside among
 
 -- all nets are
 abbrev all : ℕ → Bool
@@ -107,13 +107,13 @@ all_open Free = tt
 
 -- so are those that no clock reaches
 clear_open : (l : Logic) (free : ℕ → Bool) (net : ℕ) (m : Meaning) → IsClockFree l free → free net ≡ true → l.net net ≡ m → OpenIn free m
-clear_open l free net Input clear open is = tt
-clear_open l free net Clock clear open is = tt
-clear_open l free net (Gate kind inputs) clear open is = clear.gates net kind inputs open is
-clear_open l free net (Joined source) clear open is = clear.joins net source open is
-clear_open l free net (Flop cell inverted) clear open is = tt
-clear_open l free net (Lockup cell domain high source) clear open is = tt
-clear_open l free net Free clear open is = tt
+clear_open l free net Input clear among is = tt
+clear_open l free net Clock clear among is = tt
+clear_open l free net (Gate kind inputs) clear among is = clear.gates net kind inputs among is
+clear_open l free net (Joined source) clear among is = clear.joins net source among is
+clear_open l free net (Flop cell inverted) clear among is = tt
+clear_open l free net (Lockup cell domain high source) clear among is = tt
+clear_open l free net Free clear among is = tt
 
 -- ---- flip-flops
 
@@ -133,10 +133,10 @@ pub strobe_law : StrobeLaw
 strobe_law original written rank p y x its old values shows ranked has over settled its_settled net inside =
     let sources : SourcesOver original p all (strobe_sources original y its values) (strobe_sources written x old shows) = record {
       ports = over.ports;
-      clocks = λ e open is. tt;
+      clocks = λ e among is. tt;
       flops = old_over original written p y x its old has over;
     } in
-    values_over original written rank p all (strobe_sources original y its values) (strobe_sources written x old shows) values shows ranked has (λ k open. all_open (original.net k)) sources settled its_settled net inside refl
+    values_over original written rank p all (strobe_sources original y its values) (strobe_sources written x old shows) values shows ranked has (λ k among. all_open (original.net k)) sources settled its_settled net inside refl
 
 -- ---- the view of the capture domain in a phase
 
@@ -158,9 +158,9 @@ cell_after l q view c d here turn =
     ∙ ap (λ (e : ℕ). tri_forced_by (l.cell c).force q.ports (tri_taken_by (l.cell c).scan (value_from (view e)) (value_from (view e) (l.cell c).input))) here
 
 within_source : (p : Places) (free : ℕ → Bool) (a b : ℕ → Tri) → ((net : ℕ) → net < p.size → free net ≡ true → AboveTri (a net) (b (p.moved net))) → (source : Source) → IsWithin p.size source → AllIn free (nets_of (source ∷ [])) → AboveTri (value_from a source) (value_from b (moved_source p.moved source))
-within_source p free a b over (Net net) inside open = over net inside open.0
-within_source p free a b over (Tied bit) inside open = above_self (known bit)
-within_source p free a b over (Loose i pin) inside open = tt
+within_source p free a b over (Net net) inside among = over net inside among.0
+within_source p free a b over (Tied bit) inside among = above_self (known bit)
+within_source p free a b over (Loose i pin) inside among = tt
 
 -- a phase of a vector
 abbrev phase : Vector → (rising : Bool) → (before : ℕ → Tri) → Pulse
@@ -207,7 +207,7 @@ module _ (original written : Logic) (rank : ℕ → ℕ) (p : Places) (d : ℕ) 
 
   -- a flip-flop that takes its bit
   taken : (cell : ℕ) → p.is_flop cell ≡ true → (original.cell cell).domain ≡ d → takes rising (original.cell cell).falling ≡ true → AllIn free (nets_of ((original.cell cell).input ∷ [])) → AboveTri (next_from original y values cell) (after_pulse written q view cell)
-  taken cell is own edge open =
+  taken cell is own edge among =
       let kept : KeepsFlop p (original.cell cell) (written.cell cell) = has.flops cell is in
       let domain : (written.cell cell).domain ≡ e = kept.domain ∙ ap p.moved own in
       let turn : changes written q cell ≡ true = (λ i. x.pulsed (domain i) && takes rising (kept.falling i)) ∙ (λ i. capture.pulsed i && edge i) in
@@ -218,15 +218,15 @@ module _ (original written : Logic) (rank : ℕ → ℕ) (p : Places) (d : ℕ) 
       (tri_forced_by (moved_force p.moved (original.cell cell).force) x.ports (at (moved_source p.moved (original.cell cell).input)))
       (ap (λ (s : Option Scan). tri_forced_by (original.cell cell).force y.ports (tri_taken_by s (value_from values) (value_from values (original.cell cell).input))) kept.plain) new
       (forced_over p (original.cell cell).force y.ports x.ports (value_from values (original.cell cell).input) (at (moved_source p.moved (original.cell cell).input)) kept.force_within ports
-      (within_source p free values (view e) seen (original.cell cell).input kept.input_within open))
+      (within_source p free values (view e) seen (original.cell cell).input kept.input_within among))
 
   -- each flip-flop after the phase, from what it had before
   edge_by : (cell : ℕ) (b : Bool) (had : Tri) → p.is_flop cell ≡ true → (((original.cell cell).domain == d) && takes rising (original.cell cell).falling) ≡ b → AboveTri had (before cell)
       → (takes rising (original.cell cell).falling ≡ true → AllIn free (nets_of ((original.cell cell).input ∷ []))) → AboveTri (if b then next_from original y values cell else had) (after_pulse written q view cell)
-  edge_by cell true had is test above open =
+  edge_by cell true had is test above among =
       let both = of_both ((original.cell cell).domain == d) (takes rising (original.cell cell).falling) test in
-      taken cell is (eqb-true (original.cell cell).domain d both.0) both.1 (open both.1)
-  edge_by cell false had is test above open =
+      taken cell is (eqb-true (original.cell cell).domain d both.0) both.1 (among both.1)
+  edge_by cell false had is test above among =
       subst (λ t. AboveTri had t) (sym (pick_false (changes written q cell) (next_value written q view cell) (before cell) (λ ch. (
       let both = of_both (x.pulsed (written.cell cell).domain) (takes rising (written.cell cell).falling) ch in
       let own : ((original.cell cell).domain == d) ≡ true = eq-eqb (original.cell cell).domain d (alone cell is both.0) in
@@ -235,7 +235,7 @@ module _ (original written : Logic) (rank : ℕ → ℕ) (p : Places) (d : ℕ) 
       cc)))) above
 
   edge_over : (cell : ℕ) (had : ℕ → Tri) → p.is_flop cell ≡ true → AboveTri (had cell) (before cell) → (takes rising (original.cell cell).falling ≡ true → AllIn free (nets_of ((original.cell cell).input ∷ []))) → AboveTri (after_edge original y d rising values had cell) (after_pulse written q view cell)
-  edge_over cell had is above open = edge_by cell (((original.cell cell).domain == d) && takes rising (original.cell cell).falling) (had cell) is refl above open
+  edge_over cell had is above among = edge_by cell (((original.cell cell).domain == d) && takes rising (original.cell cell).falling) (had cell) is refl above among
 
 -- ---- the rise and the fall
 
@@ -273,7 +273,7 @@ forced_edge true f ports t old = again f ports t
 forced_edge false f ports t old = refl
 
 pub capture_law : CaptureLaw
-capture_law original written rank p d y x its risen old h values later free ranked has clear capture over caught halves cell is open =
+capture_law original written rank p d y x its risen old h values later free ranked has clear capture over caught halves cell is among =
     let before : ℕ → Tri = (rise_of written x old).old in
     let between : ℕ → Tri = (fall_of written x old h.rise.view).old in
     let own : (c : ℕ) → p.is_flop c ≡ true → AboveTri ((rise_of original y its).old c) (before c) = old_over original written p y x its old has over in
@@ -288,7 +288,7 @@ capture_law original written rank p d y x its risen old h values later free rank
     trans (tri_forced_by f y.ports (risen c)) (after_edge original y d true values (rise_of original y its).old c) (between c)
     (subst (λ t. AboveTri (tri_forced_by f y.ports (risen c)) t) same (forced_up f y.ports (risen c) (after_edge original y d true values its c) (caught.above c))) (up c flop)) in
     edge_over original written rank p d y x ranked has capture over.ports false between h.fall.poss h.fall.view halves.fall risen later caught.second moved free (λ k o. clear_open original free k (original.net k) clear o refl)
-    (λ k o is_clock. absurd (clear.clocks k o is_clock)) cell (after_edge original y d true values (rise_of original y its).old) is (up cell is) open
+    (λ k o is_clock. absurd (clear.clocks k o is_clock)) cell (after_edge original y d true values (rise_of original y its).old) is (up cell is) among
 
 pub containing_covers : ContainingCovers
 containing_covers original written p has = record {

@@ -294,8 +294,8 @@ module _ (n : Netlist) (config : Config) (rank : ℕ → ℕ) (order : IsOrdered
   instance_clear : (i k : ℕ) (o : Option Instance) → slice_get n.instances i ≡ o → is_flip_flop (kind_of n.library o) ≡ true → pin_of role.Din i (pins_at n.library o) ≡ Some (Net k) → is_clear n config k ≡ true
   instance_clear i k None at flop din = absurd cc
   instance_clear i k (Some x) at flop din =
-      let data : is_data_of n.library k x ≡ true = (λ j. flop_data (shape_of n.library x.cell).kind flop j && din_taken i k (connections_of n.library x) din j) in
-      clear_by (shows n config k) (data_apart n config i x k sound passed at data)
+      let taken : is_data_of n.library k x ≡ true = (λ j. flop_data (shape_of n.library x.cell).kind flop j && din_taken i k (connections_of n.library x) din j) in
+      clear_by (shows n config k) (data_apart n config i x k sound passed at taken)
 
   din_clear : (i : ℕ) (o : Option Source) → is_flip_flop (kind_at n i) ≡ true → pin_of role.Din i (pins_of n i) ≡ o → AllIn (is_clear n config) (nets_of (or_loose i o ∷ []))
   din_clear i None flop is = tt
