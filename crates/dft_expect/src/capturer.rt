@@ -6,9 +6,10 @@ ghost use Rattle.dft_stitch.specs.Chains.{plan_of};
 ghost use Rattle.dft_expect.specs.Capturing.{AreCaptures, Captures, IsPrepared};
 ghost use Rattle.dft_expect.specs.Loaded.{all_cells};
 
+use crate::moving::settle_again;
 use crate::pattern::Pattern;
-use crate::reading::{Reading, response, responses};
-use crate::reads::{Read, outputs, reads};
+use crate::reading::{Reading, fall, fall_all, rise, rise_all};
+use crate::reads::{Read, any_falls, outputs, reads};
 use crate::response::Response;
 use crate::settings::{Finding, Setting, flags, settings};
 use crate::sources::settle_all;
@@ -19,9 +20,10 @@ use dft_netlist::{Design, NetId};
 use dft_stitch::Chains;
 use std::alloc::{AllocError, Global};
 use std::marker::Model;
+use std::slice::from_ref;
 
-/// What captures the responses of a design's patterns, up to 512 in one sweep over its nets. A clause sees the design and the
-/// configuration.
+/// What captures the responses of a design's patterns, up to 512 in one sweep over its nets, or in two where cells fall. A clause
+/// sees the design and the configuration.
 #[derive(Drop)]
 pub struct Capturer<'a> {
     design: &'a Design,
@@ -30,6 +32,7 @@ pub struct Capturer<'a> {
     settings: Vec<Setting>,
     reads: Vec<Read>,
     outputs: Vec<NetId>,
+    falls: bool,
 }
 
 impl<'a> Model for Capturer<'a> {
@@ -62,6 +65,7 @@ impl<'a> Capturer<'a> {
         let reads = reads(alloc, design, chains)?;
         let outputs = outputs(alloc, design)?;
         let settings = all_settings(alloc, design, config, chains)?;
+        let falls = any_falls(&reads);
         Ok(Capturer {
             design,
             config,
@@ -69,6 +73,7 @@ impl<'a> Capturer<'a> {
             settings,
             reads,
             outputs,
+            falls,
         })
     }
 
@@ -91,7 +96,20 @@ impl<'a> Capturer<'a> {
             reads: &self.reads,
             outputs: &self.outputs,
         };
-        responses(alloc, &reading, patterns)
+        let mut responses = rise_all(alloc, &reading, patterns)?;
+        if !self.falls {
+            return Ok(responses);
+        }
+        settle_again(&mut self.evaluator, &self.settings, &responses);
+        let reading = Reading {
+            design: self.design,
+            config: self.config,
+            evaluator: &self.evaluator,
+            reads: &self.reads,
+            outputs: &self.outputs,
+        };
+        fall_all(alloc, &reading, patterns, &mut responses)?;
+        Ok(responses)
     }
 
     /// What a pattern captures.
@@ -107,7 +125,20 @@ impl<'a> Capturer<'a> {
             reads: &self.reads,
             outputs: &self.outputs,
         };
-        response(alloc, &reading, pattern, 0)
+        let mut response = rise(alloc, &reading, pattern, 0)?;
+        if !self.falls {
+            return Ok(response);
+        }
+        settle_again(&mut self.evaluator, &self.settings, from_ref(&response));
+        let reading = Reading {
+            design: self.design,
+            config: self.config,
+            evaluator: &self.evaluator,
+            reads: &self.reads,
+            outputs: &self.outputs,
+        };
+        fall(alloc, &reading, pattern, 0, &mut response)?;
+        Ok(response)
     }
 }
 

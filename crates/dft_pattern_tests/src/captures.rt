@@ -21,6 +21,14 @@ use std::test::Fail;
 const LATCHED: &str =
     "module m (clk, a, y); input clk, a; output y; LATCH g0 (.G(a), .D(q4), .Q(d0)); DFF f0 (.CK(clk), .D(d0), .Q(q0)); DFF f1 (.CK(clk), .D(q0), .Q(q1)); DFF f2 (.CK(clk), .D(q1), .Q(q2)); DFF f3 (.CK(clk), .D(q2), .Q(q3)); DFF f4 (.CK(clk), .D(q3), .Q(q4)); INV g1 (.A(q4), .Y(y)); endmodule";
 
+// The first flip-flop takes its bit at the fall, when the last one has its new value.
+const HALF: &str =
+    "module m (clk, a, y); input clk, a; output y; NAND2 g0 (.A(a), .B(q4), .Y(d0)); DFF f0 (.CK(nclk), .D(d0), .Q(q0)); DFF f1 (.CK(clk), .D(q0), .Q(q1)); DFF f2 (.CK(clk), .D(q1), .Q(q2)); DFF f3 (.CK(clk), .D(q2), .Q(q3)); DFF f4 (.CK(clk), .D(q3), .Q(q4)); INV g1 (.A(q4), .Y(y)); INV g2 (.A(clk), .Y(nclk)); endmodule";
+
+// An output shows the inverse of the clock.
+const SHOWN: &str =
+    "module m (clk, a, y, z); input clk, a; output y, z; INV b0 (.A(clk), .Y(z)); DFFR f0 (.CK(clk), .D(a), .RN(1'b1), .Q(q0), .QN(n0)); DFF f1 (.CK(clk), .D(n0), .Q(q1)); DFF f2 (.CK(clk), .D(q0), .Q(q2)); XOR2 g0 (.A(q1), .B(q2), .Y(y)); endmodule";
+
 // Its reset is tied to constant 1, and an output shows the clock.
 const TIED: &str =
     "module m (clk, a, y, z); input clk, a; output y, z; BUF b0 (.A(clk), .Y(z)); DFFR f0 (.CK(clk), .D(a), .RN(1'b1), .Q(q0), .QN(n0)); DFF f1 (.CK(clk), .D(n0), .Q(q1)); DFF f2 (.CK(clk), .D(q0), .Q(q2)); XOR2 g0 (.A(q1), .B(q2), .Y(y)); endmodule";
@@ -38,7 +46,7 @@ const ON_BOTH: &str = "version = 1\ndomains = ['ca', 'cb']\nwarm = 2\nwindow = 4
 
 // A netlist, the two parts of a configuration, the patterns as cubes, and their channel bits; then for each pattern the loaded
 // bits, the captured values of the cells and of the outputs, the mask bits, and what the outputs show cycle by cycle.
-static CASES: [(&str, &str, &str, &str, &str, &str); 7] = [
+static CASES: [(&str, &str, &str, &str, &str, &str); 10] = [
     (
         SMALL,
         ON_CLK,
@@ -81,6 +89,33 @@ static CASES: [(&str, &str, &str, &str, &str, &str); 7] = [
         "cube k0 clk\nport a 1\nend\ncube k1 clk\nport a 0\nend\n",
         "0110 1010",
         "111 101 00 00 11100001 | 001 010 10 00 10000000 | ",
+    ),
+    // and 1 where its inverse is
+    (
+        SHOWN,
+        ON_CLK,
+        RING,
+        "cube k0 clk\nport a 1\nend\ncube k1 clk\nport a 0\nend\n",
+        "0110 1010",
+        "111 101 01 00 11100001 | 001 010 11 00 10000000 | ",
+    ),
+    // a falling cell takes what rising cells have after the rise
+    (
+        HALF,
+        ON_CLK,
+        RING,
+        "cube k0 clk\ncell f2 1\ncell f3 0\nport a 1\nend\ncube k1 clk\ncell f2 0\ncell f3 1\ncell f4 1\nend\n",
+        "01100 01000",
+        "11101 11110 0 00 1001100010 | 01011 10101 0 00 0100100000 | ",
+    ),
+    // but nothing of a flip-flop that is kept out of the chains
+    (
+        HALF,
+        KEPT,
+        RING,
+        "cube k0 clk\nport a 1\nend\ncube k1 clk\nport a 0\nend\n",
+        "0110 1010",
+        "1110 X111 X 10 11110000 | 0011 1001 X 00 11100000 | ",
     ),
     // what is joined to nothing is unknown, but for an and with 0
     (
