@@ -65,63 +65,63 @@ all_by free (net ∷ nets) each = (each net (inl refl), all_by free nets (λ k h
 -- ---- what a net means
 
 clock_by : (n : Netlist) (ports : Ports) (net : ℕ) (d : drivers.Driver) → meaning_of n ports net d ≡ Clock → (d ≡ drivers.Input) × (ports.is_clock net ≡ true)
-clock_by n ports net drivers.Input e = (refl, by (ports.is_clock net) refl e)
+clock_by n ports net drivers.Input e = (refl, by_port (ports.is_clock net) refl e)
   where
-    by : (b : Bool) → ports.is_clock net ≡ b → (if b then Clock else Input) ≡ Clock → ports.is_clock net ≡ true
-    by true is h = is
-    by false is h = absurd cc
+    by_port : (b : Bool) → ports.is_clock net ≡ b → (if b then Clock else Input) ≡ Clock → ports.is_clock net ≡ true
+    by_port true is h = is
+    by_port false is h = absurd cc
 clock_by n ports net (drivers.Gate kind inputs) e = absurd cc
 clock_by n ports net (drivers.Joined source) e = absurd cc
-clock_by n ports net (drivers.Flop i inverted) e = absurd (by (flip_flop n ports i) e)
+clock_by n ports net (drivers.Flop i inverted) e = absurd (by_flip_flop (flip_flop n ports i) e)
   where
-    by : (o : Option Cell) → flop_meaning i inverted o ≡ Clock → ⊥
-    by None h = cc
-    by (Some c) h = cc
-clock_by n ports net (drivers.Lockup i) e = absurd (by _ _ e)
+    by_flip_flop : (o : Option Cell) → flop_meaning i inverted o ≡ Clock → ⊥
+    by_flip_flop None h = cc
+    by_flip_flop (Some c) h = cc
+clock_by n ports net (drivers.Lockup i) e = absurd (by_lockup _ _ e)
   where
-    by : (o : Option ClockRoot) (s : Source) → lockup_meaning i o s ≡ Clock → ⊥
-    by None s h = cc
-    by (Some d) s h = cc
+    by_lockup : (o : Option ClockRoot) (s : Source) → lockup_meaning i o s ≡ Clock → ⊥
+    by_lockup None s h = cc
+    by_lockup (Some d) s h = cc
 clock_by n ports net drivers.Free e = absurd cc
 
 gate_by : (n : Netlist) (ports : Ports) (net : ℕ) (k : Kind) (inputs : List Source) (d : drivers.Driver) → meaning_of n ports net d ≡ Gate k inputs → d ≡ drivers.Gate k inputs
-gate_by n ports net k inputs drivers.Input e = absurd (by (ports.is_clock net) e)
+gate_by n ports net k inputs drivers.Input e = absurd (by_port (ports.is_clock net) e)
   where
-    by : (b : Bool) → (if b then Clock else Input) ≡ Gate k inputs → ⊥
-    by true h = cc
-    by false h = cc
+    by_port : (b : Bool) → (if b then Clock else Input) ≡ Gate k inputs → ⊥
+    by_port true h = cc
+    by_port false h = cc
 gate_by n ports net k inputs (drivers.Gate own its) e = let same : (own ≡ k) × (its ≡ inputs) = ((cc), (cc)) in λ i. drivers.Gate (same.0 i) (same.1 i)
 gate_by n ports net k inputs (drivers.Joined source) e = absurd cc
-gate_by n ports net k inputs (drivers.Flop i inverted) e = absurd (by (flip_flop n ports i) e)
+gate_by n ports net k inputs (drivers.Flop i inverted) e = absurd (by_flip_flop (flip_flop n ports i) e)
   where
-    by : (o : Option Cell) → flop_meaning i inverted o ≡ Gate k inputs → ⊥
-    by None h = cc
-    by (Some c) h = cc
-gate_by n ports net k inputs (drivers.Lockup i) e = absurd (by _ _ e)
+    by_flip_flop : (o : Option Cell) → flop_meaning i inverted o ≡ Gate k inputs → ⊥
+    by_flip_flop None h = cc
+    by_flip_flop (Some c) h = cc
+gate_by n ports net k inputs (drivers.Lockup i) e = absurd (by_lockup _ _ e)
   where
-    by : (o : Option ClockRoot) (s : Source) → lockup_meaning i o s ≡ Gate k inputs → ⊥
-    by None s h = cc
-    by (Some d) s h = cc
+    by_lockup : (o : Option ClockRoot) (s : Source) → lockup_meaning i o s ≡ Gate k inputs → ⊥
+    by_lockup None s h = cc
+    by_lockup (Some d) s h = cc
 gate_by n ports net k inputs drivers.Free e = absurd cc
 
 join_by : (n : Netlist) (ports : Ports) (net : ℕ) (source : Source) (d : drivers.Driver) → meaning_of n ports net d ≡ Joined source → d ≡ drivers.Joined source
-join_by n ports net source drivers.Input e = absurd (by (ports.is_clock net) e)
+join_by n ports net source drivers.Input e = absurd (by_port (ports.is_clock net) e)
   where
-    by : (b : Bool) → (if b then Clock else Input) ≡ Joined source → ⊥
-    by true h = cc
-    by false h = cc
+    by_port : (b : Bool) → (if b then Clock else Input) ≡ Joined source → ⊥
+    by_port true h = cc
+    by_port false h = cc
 join_by n ports net source (drivers.Gate own its) e = absurd cc
 join_by n ports net source (drivers.Joined own) e = let same : own ≡ source = cc in ap (λ (s : Source). drivers.Joined s) same
-join_by n ports net source (drivers.Flop i inverted) e = absurd (by (flip_flop n ports i) e)
+join_by n ports net source (drivers.Flop i inverted) e = absurd (by_flip_flop (flip_flop n ports i) e)
   where
-    by : (o : Option Cell) → flop_meaning i inverted o ≡ Joined source → ⊥
-    by None h = cc
-    by (Some c) h = cc
-join_by n ports net source (drivers.Lockup i) e = absurd (by _ _ e)
+    by_flip_flop : (o : Option Cell) → flop_meaning i inverted o ≡ Joined source → ⊥
+    by_flip_flop None h = cc
+    by_flip_flop (Some c) h = cc
+join_by n ports net source (drivers.Lockup i) e = absurd (by_lockup _ _ e)
   where
-    by : (o : Option ClockRoot) (s : Source) → lockup_meaning i o s ≡ Joined source → ⊥
-    by None s h = cc
-    by (Some d) s h = cc
+    by_lockup : (o : Option ClockRoot) (s : Source) → lockup_meaning i o s ≡ Joined source → ⊥
+    by_lockup None s h = cc
+    by_lockup (Some d) s h = cc
 join_by n ports net source drivers.Free e = absurd cc
 
 -- ---- a clock port shows itself

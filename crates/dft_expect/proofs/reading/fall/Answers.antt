@@ -8,4 +8,4 @@ pub returns : goal.returns
 returns c = λ falls.
     (let reading = c.args.reading.now in
     fallen reading.design.now reading.config.now c.args.pattern.now (value_at reading.evaluator.now c.args.place) c.clock_of-clock.result reading.reads.now c.args.response.now _ c.requires.can c.requires.reads c.clock_of-clock.ensures
-    (c.from_vec.ensures ∙ c.in_ok-cells.ensures) refl falls)
+    (c.from_vec.ensures ∙ (rw c.as_slice.ensures at c.in_ok-cells.ensures)) refl falls)
