@@ -1,7 +1,6 @@
 -- What is read of a cell at an edge is what it has after that, and so what a pattern captures in it.
-use Rattle.std.proofs.Common.{ℕ, zero, suc, ◌+◌, ◌<◌, ◌≤◌, ◌⊎◌, inl, inr, Bool, true, false, ◌&&◌, ◌||◌, ◌≡◌, ◌≢◌, List, [], ◌∷◌, ◌++◌, map, length, take, get_or, append_assoc, append-nil, cond, find, slice_get, slice_set, Option, None, Some, refl, sym, subst, ap, arith, ◌∙◌}
-use Rattle.std.specs.Prelude.{if◌then◌else◌, option_map, Result, Ok, Err, IfOk}
-use Rattle.std.specs.declared.alloc.AllocError.{AllocError}
+use Rattle.std.proofs.Common.{ℕ, zero, suc, ◌+◌, ◌<◌, ◌≤◌, ◌⊎◌, inl, inr, Bool, true, false, not, ◌&&◌, ◌||◌, ◌≡◌, ◌≢◌, List, [], ◌∷◌, ◌++◌, map, length, take, get_or, append_assoc, append-nil, cond, find, slice_get, slice_set, Option, None, Some, refl, sym, subst, ap, arith, ◌∙◌}
+use Rattle.std.specs.Prelude.{if◌then◌else◌, option_map}
 use Rattle.std.specs.List.{range_with_len}
 use Rattle.std.proofs.Math.ListN.{get_or-append}
 use Rattle.std.proofs.Math.Seq.{get_or-append_seam, take-suc}
@@ -271,12 +270,12 @@ none_at (read ∷ reads) (suc number) none = none_at reads number (rest_of (is_f
     rest_of true b h = absurd cc
     rest_of false b h = h
 
+pub none_by : (falls any : Bool) → falls ≡ any → not falls ≡ true → any ≡ false
+none_by true any is no = absurd cc
+none_by false any is no = sym is
+
 pub none_falls : (n : Netlist) (config : Config) (reads : List Read) (number : ℕ) (cell : InstanceId) → CanCapture n config → AreReads n (cells_in n config) reads → any_falls reads ≡ false → slice_get (cells_in n config) number ≡ Some cell → ((original n config).cell cell.0).falling ≡ false
 none_falls n config reads number cell can are none at =
     let m : IsModelled n config cell.0 = number_modelled n config number cell.0 can at in
     let read : Read = read_at reads number in
     ap (λ (c : Cell). c.falling) (flop_cell n (config_ports n config) cell.0 _ m.flop) ∙ sym (falls_as read.clock m.clock ((are.each number cell at).clock ∙ ap (clock_of n) m.pin ∙ m.root)) ∙ none_at reads number none
-
-pub if_ok : {A : Type 0} (P : Response → Type 0) (r : Result Response AllocError) → IfOk r (λ x. A → P x) → A → IfOk r P
-if_ok P (Ok x) h a = h a
-if_ok P (Err e) h a = h
