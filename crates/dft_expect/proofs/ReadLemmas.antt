@@ -1,5 +1,5 @@
 -- What is read of a cell at an edge is what it has after that, and so what a pattern captures in it.
-use Rattle.std.proofs.Common.{ℕ, zero, suc, ◌+◌, ◌<◌, ◌≤◌, ◌⊎◌, inl, inr, Bool, true, false, not, ◌&&◌, ◌||◌, ◌≡◌, ◌≢◌, List, [], ◌∷◌, ◌++◌, map, length, take, get_or, append_assoc, append-nil, cond, find, slice_get, slice_set, Option, None, Some, refl, sym, subst, ap, arith, ◌∙◌}
+use Rattle.std.proofs.Common.{ℕ, zero, suc, ◌+◌, ◌<◌, ◌≤◌, ◌⊎◌, inl, inr, Bool, true, false, ◌&&◌, ◌||◌, ◌≡◌, ◌≢◌, List, [], ◌∷◌, ◌++◌, map, length, take, get_or, append_assoc, append-nil, cond, find, slice_get, slice_set, Option, None, Some, refl, sym, subst, ap, arith, ◌∙◌}
 use Rattle.std.specs.Prelude.{if◌then◌else◌, option_map}
 use Rattle.std.specs.List.{range_with_len}
 use Rattle.std.proofs.Math.ListN.{get_or-append}
@@ -269,10 +269,6 @@ none_at (read ∷ reads) (suc number) none = none_at reads number (rest_of (is_f
     rest_of : (a b : Bool) → (a || b) ≡ false → b ≡ false
     rest_of true b h = absurd cc
     rest_of false b h = h
-
-pub none_by : (falls any : Bool) → falls ≡ any → not falls ≡ true → any ≡ false
-none_by true any is no = absurd cc
-none_by false any is no = sym is
 
 pub none_falls : (n : Netlist) (config : Config) (reads : List Read) (number : ℕ) (cell : InstanceId) → CanCapture n config → AreReads n (cells_in n config) reads → any_falls reads ≡ false → slice_get (cells_in n config) number ≡ Some cell → ((original n config).cell cell.0).falling ≡ false
 none_falls n config reads number cell can are none at =

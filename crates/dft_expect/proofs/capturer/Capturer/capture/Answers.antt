@@ -1,7 +1,7 @@
 -- The one pattern is settled at place 0, and once more where cells fall.
-use Rattle.std.proofs.Common.{refl}
+use Rattle.std.proofs.Common.{◌∙◌, refl, sym}
 use Rattle.dft_expect.proofs.CaptureLemmas.{risen_whole}
-use Rattle.dft_expect.proofs.ReadLemmas.{none_by, none_falls}
+use Rattle.dft_expect.proofs.ReadLemmas.{none_falls}
 use Rattle.dft_expect.proofs.capturer.Capturer.capture.Goals as goal
 
 pub returns-then-not-self-clause-captures : goal.returns-then-not-self-clause-captures
@@ -11,7 +11,7 @@ returns-then-not-self-clause-captures c =
     let settled = rw c.deref.ensures.value at c.settle_all.ensures.settled in
     let first = settled self.design.now self.config.now i.can i.prepared i.evaluator 0 c.args.pattern.now refl in
     rw (← c.self.view_is) (risen_whole self.design.now self.config.now c.args.pattern.now c.in_ok-response.response i.can
-    (λ number cell at. none_falls self.design.now self.config.now self.reads.items number cell i.can i.reads (none_by self.falls _ i.falls c.if-not-self.true) at) (c.in_ok-response.ensures first))
+    (λ number cell at. none_falls self.design.now self.config.now self.reads.items number cell i.can i.reads (sym i.falls ∙ c.if-not-self.true) at) (c.in_ok-response.ensures first))
 
 pub returns-clause-captures : goal.returns-clause-captures
 returns-clause-captures c =
