@@ -1,7 +1,6 @@
 -- What is read of a cell at an edge is what it has after that, and so what a pattern captures in it.
 use Rattle.std.proofs.Common.{ℕ, zero, suc, ◌+◌, ◌<◌, ◌≤◌, ◌⊎◌, inl, inr, Bool, true, false, ◌&&◌, ◌||◌, ◌≡◌, ◌≢◌, List, [], ◌∷◌, ◌++◌, map, length, take, get_or, append_assoc, append-nil, cond, find, slice_get, slice_set, Option, None, Some, refl, sym, subst, ap, arith, ◌∙◌}
-use Rattle.std.specs.Prelude.{if◌then◌else◌, option_map, Result, Ok, Err, IfOk}
-use Rattle.std.specs.declared.alloc.AllocError.{AllocError}
+use Rattle.std.specs.Prelude.{if◌then◌else◌, option_map}
 use Rattle.std.specs.List.{range_with_len}
 use Rattle.std.proofs.Math.ListN.{get_or-append}
 use Rattle.std.proofs.Math.Seq.{get_or-append_seam, take-suc}
@@ -276,7 +275,3 @@ none_falls n config reads number cell can are none at =
     let m : IsModelled n config cell.0 = number_modelled n config number cell.0 can at in
     let read : Read = read_at reads number in
     ap (λ (c : Cell). c.falling) (flop_cell n (config_ports n config) cell.0 _ m.flop) ∙ sym (falls_as read.clock m.clock ((are.each number cell at).clock ∙ ap (clock_of n) m.pin ∙ m.root)) ∙ none_at reads number none
-
-pub if_ok : {A : Type 0} (P : Response → Type 0) (r : Result Response AllocError) → IfOk r (λ x. A → P x) → A → IfOk r P
-if_ok P (Ok x) h a = h a
-if_ok P (Err e) h a = h

@@ -51,8 +51,8 @@ clear_by : (b : Bool) → b ≡ false → not b ≡ true
 clear_by b is = ap not is
 
 not_shown : (b : Bool) → not b ≡ true → b ≡ true → ⊥
-not_shown true no yes = cc
-not_shown false no yes = cc
+not_shown true e f = cc
+not_shown false e f = cc
 
 clear_or : (b : Bool) → (b ≡ true → ⊥) → not b ≡ true
 clear_or true never = absurd (never refl)
@@ -157,7 +157,7 @@ port_shows n config net is clock =
 
 -- a clock that is passed on to a net is shown there
 passed_on : (n : Netlist) (config : Config) (rank : ℕ → ℕ) (net k : ℕ) (flip : Bool → Bool) → IsOrdered n rank → ((port : ℕ) (inverted : Bool) → ClockRooted n (Net k) port inverted → ClockRooted n (Net net) port (flip inverted)) → shows n config k ≡ true → shows n config net ≡ true
-passed_on n config rank net k flip order pass yes = by (clock_root_of n (Net k)) refl yes
+passed_on n config rank net k flip order pass here = by (clock_root_of n (Net k)) refl here
   where
     by : (o : Option ClockRoot) → clock_root_of n (Net k) ≡ o → is_some (place_of_clock n config.domains o) ≡ true → shows n config net ≡ true
     by None is h = absurd cc
@@ -185,7 +185,26 @@ data_or_turn _ = inl refl
 
 -- no gate is an opaque cell
 kind_opaque : (a : Kind) (i : ℕ) (inverted : Bool) (own inputs : List Source) → driver_of_kind a i inverted own ≡ drivers.Gate kind.Opaque inputs → ⊥
-kind_opaque _ i inverted own inputs h = cc
+kind_opaque kind.Opaque i inverted own inputs h = cc
+kind_opaque kind.Lockup i inverted own inputs h = cc
+kind_opaque kind.Dff i inverted own inputs h = cc
+kind_opaque kind.Dffr i inverted own inputs h = cc
+kind_opaque kind.Dffs i inverted own inputs h = cc
+kind_opaque kind.Sdff i inverted own inputs h = cc
+kind_opaque kind.Sdffr i inverted own inputs h = cc
+kind_opaque kind.Sdffs i inverted own inputs h = cc
+kind_opaque kind.Buf i inverted own inputs h = cc
+kind_opaque kind.Inv i inverted own inputs h = cc
+kind_opaque kind.And i inverted own inputs h = cc
+kind_opaque kind.Nand i inverted own inputs h = cc
+kind_opaque kind.Or i inverted own inputs h = cc
+kind_opaque kind.Nor i inverted own inputs h = cc
+kind_opaque kind.Xor i inverted own inputs h = cc
+kind_opaque kind.Xnor i inverted own inputs h = cc
+kind_opaque kind.Mux2 i inverted own inputs h = cc
+kind_opaque (kind.Table number) i inverted own inputs h = cc
+kind_opaque kind.Tie0 i inverted own inputs h = cc
+kind_opaque kind.Tie1 i inverted own inputs h = cc
 
 join_opaque : (o : Option Join) (inputs : List Source) → joined_by o ≡ drivers.Gate kind.Opaque inputs → ⊥
 join_opaque None inputs h = cc
@@ -269,7 +288,7 @@ module _ (n : Netlist) (config : Config) (rank : ℕ → ℕ) (order : IsOrdered
     | inl uses ↦ clear_by (shows n config k) (gate_apart n config net k a inputs sound passed is uses has)
     | inr other ↦ elim other [
       | inl opaque ↦ absurd (opaque_gate n net inputs (is ∙ ap (λ (b : Kind). drivers.Gate b inputs) opaque))
-      | inr turn ↦ clear_or (shows n config k) (λ yes. not_shown (shows n config net) clear (turn_reads net k a turn.0 inputs is turn.1 has yes))
+      | inr turn ↦ clear_or (shows n config k) (λ here. not_shown (shows n config net) clear (turn_reads net k a turn.0 inputs is turn.1 has here))
     ]
   ]
 
@@ -278,7 +297,7 @@ module _ (n : Netlist) (config : Config) (rank : ℕ → ℕ) (order : IsOrdered
 
   source_clear : (net : ℕ) (source : Source) → is_clear n config net ≡ true → driver n net ≡ drivers.Joined source → AllIn (is_clear n config) (nets_of (source ∷ []))
   source_clear net (Net k) clear is =
-      (clear_or (shows n config k) (λ yes. not_shown (shows n config net) clear (passed_on n config rank net k (λ i. i) order (λ port inverted rooted. ThroughJoin {source = Net k} is rooted) yes)), tt)
+      (clear_or (shows n config k) (λ here. not_shown (shows n config net) clear (passed_on n config rank net k (λ i. i) order (λ port inverted rooted. ThroughJoin {source = Net k} is rooted) here)), tt)
   source_clear net (Tied bit) clear is = tt
   source_clear net (Loose i pin) clear is = tt
 

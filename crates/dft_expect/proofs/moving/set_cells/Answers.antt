@@ -12,7 +12,7 @@ overflow_cast-net c = omega (arith, c.loop-net-test.true, c.requires.small)
 pub loop-net-preserved : goal.loop-net-preserved
 loop-net-preserved c =
     let before = c.loop-net.invariant in
-    cells_set_on c.args.settings.now c.args.risen.now c.loop-net.net c.index-settings-net.result c.args.evaluator.now c.loop-net.evaluator c.set_cell.new.evaluator before
+    cells_set_on c.args.settings.now c.args.risen.now c.loop-net.net _ c.args.evaluator.now c.loop-net.evaluator c.set_cell.new.evaluator before
     (get_or_default c.args.settings.now c.loop-net.net _ Unknown c.loop-net-test.true) (same_more c.args.evaluator.now c.loop-net.evaluator c.set_cell.new.evaluator before.same c.set_cell.ensures.same) c.set_cell.ensures.set
 
 pub returns-clause-each : goal.returns-clause-each
