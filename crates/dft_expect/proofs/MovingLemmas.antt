@@ -34,7 +34,7 @@ use Rattle.dft_expect.specs.declared.response.Response.{Response}
 use Rattle.dft_expect.specs.declared.settings.Setting.{Setting}
 use Rattle.dft_expect.specs.declared.settings.Setting.TheVariants as setting
 use Rattle.dft_expect.specs.Loaded.{loaded_values}
-use Rattle.dft_expect.specs.Captures.{after_edges, capture_vector, config_ports, is_chained, moves, original}
+use Rattle.dft_expect.specs.Captures.{capture_vector, config_ports, original}
 use Rattle.dft_expect.specs.Capturing.{CanCapture, IsPrepared, IsRisen, Settles, cells_in, risen_values}
 use Rattle.dft_expect.specs.Settings.{IsCellSetting, IsSetBy, moved_by, port_setting, setting_at, turned}
 use Rattle.dft_expect.specs.Sources.{IsCellSet, IsSame}

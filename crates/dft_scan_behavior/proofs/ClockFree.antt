@@ -1,12 +1,11 @@
 -- Where the scan rules pass, nets that show no clock of the configuration are settled from such nets alone, and D of each flip-flop is one.
-use Rattle.std.proofs.Common.{ℕ, zero, suc, ◌+◌, ◌≡◌, ◌⊎◌, inl, inr, Bool, true, false, not, ◌&&◌, ◌||◌, cond, List, [], ◌∷◌, length, Option, None, Some, is_some, slice_get, refl, sym, subst, ap, ◌∙◌}
+use Rattle.std.proofs.Common.{ℕ, ◌+◌, ◌≡◌, ◌⊎◌, inl, inr, Bool, true, false, not, ◌&&◌, ◌||◌, cond, List, [], ◌∷◌, length, Option, None, Some, is_some, slice_get, refl, sym, subst, ap, ◌∙◌}
 use Rattle.std.specs.Prelude.{if◌then◌else◌, option_map}
 use Rattle.std.specs.List.{list_any, position_from}
 use Rattle.std.proofs.lemmas.Bool.{eq-eqb}
 use Rattle.std.proofs.lemmas.Iterator.Adapters.{position_from-zero}
 use Rattle.std.proofs.lemmas.Option.{none-some, same_Some}
 use Rattle.dft_base.specs.Lexing.{Text}
-use Rattle.dft_base.proofs.OptionLemmas.{some_of}
 use Rattle.dft_cells.specs.declared.kind.Kind.{Kind}
 use Rattle.dft_cells.specs.declared.kind.Kind.TheVariants as kind
 use Rattle.dft_cells.specs.declared.kind.Role.{Role}
@@ -27,7 +26,7 @@ use Rattle.dft_netlist.specs.Drivers as drivers
 use Rattle.dft_netlist.specs.Orders.{Has}
 use Rattle.dft_netlist.specs.Sound.{IsNetlist}
 use Rattle.dft_netlist.specs.ClockRoots.{ClockRoot, ClockRooted, ThroughGate, ThroughJoin, turn_of, turned, clock_root_of, clock_of_driver, clock_within}
-use Rattle.dft_netlist.specs.Logic.{Logic, Ports, Meaning, Input, Clock, Gate, Joined, Cell, Force, Scan, same_role, pin_of, or_loose, flip_flop, flop_meaning, lockup_meaning, meaning_of, modelled, modelled_of, logic_of}
+use Rattle.dft_netlist.specs.Logic.{Logic, Ports, Input, Clock, Gate, Joined, Cell, Force, Scan, same_role, pin_of, or_loose, flip_flop, flop_meaning, lockup_meaning, meaning_of, modelled, modelled_of, logic_of}
 use Rattle.dft_netlist.proofs.ClockLemmas.{turn_roles}
 use Rattle.dft_netlist.proofs.ClockWalks.{clock_found, walk_finds_clock}
 use Rattle.dft_netlist.proofs.GateDrivers.{IsGate, driven, gate_drives}
