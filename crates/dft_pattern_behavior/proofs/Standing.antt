@@ -3,7 +3,6 @@ use Rattle.std.proofs.Common.{ℕ, zero, suc, ◌+◌, ◌≡◌, ◌<◌, ◌�
 use Rattle.std.specs.Prelude.{if◌then◌else◌}
 use Rattle.std.specs.List.{AllByRecursion}
 use Rattle.std.proofs.lemmas.Bool.{eqb-true}
-use Rattle.std.proofs.lemmas.Bool.Decides.{nat_tests}
 use Rattle.std.proofs.lemmas.List.{length-append}
 use Rattle.std.proofs.lemmas.Option.{none-some, same_Some}
 use Rattle.dft_base.specs.declared.tri.Tri.{Tri}
@@ -34,7 +33,7 @@ use Rattle.dft_edt.proofs.Captures.{capture_law, strobe_law}
 use Rattle.dft_cubes.specs.declared.cube.Merged.{Merged}
 use Rattle.dft_expect.specs.Loaded.{bit_of_cell, loaded_values, or_unknown}
 use Rattle.dft_expect.specs.Captures.{Settled, after_edges, bits_out, capture_vector, config_ports, next_state, original, output_bits}
-use Rattle.dft_expect.specs.Capturing.{CanCapture, cells_in}
+use Rattle.dft_expect.specs.Capturing.{cells_in}
 use Rattle.dft_expect.proofs.GivenLemmas.{number_modelled}
 use Rattle.dft_expect.proofs.VectorLemmas.{IsOneVector, chained, one_vector}
 use Rattle.dft_scan_behavior.proofs.ClockFree.{clock_free, inputs_clear, is_clear}
