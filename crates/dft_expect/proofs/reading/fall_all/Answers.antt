@@ -1,5 +1,5 @@
 -- One pattern more.
-use Rattle.std.proofs.Common.{◌≡◌, ◌∙◌, sym, Some, get_or, slice_get, arith}
+use Rattle.std.proofs.Common.{◌≡◌, ◌<◌, ◌∙◌, sym, Some, get_or, slice_get, length, arith}
 use Rattle.std.proofs.lemmas.Option.{slice_get-get_or}
 use Rattle.dft_netlist.proofs.NotesLemmas.{item_at}
 use Rattle.dft_expect.proofs.ReadLemmas.{fallen_on}
