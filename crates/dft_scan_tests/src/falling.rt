@@ -42,12 +42,12 @@ static SCANS: [(&str, &str, &str); 2] = [
 ];
 
 // Whether a netlist is scanned so, and what is saved shifts.
-fn is_scanned(
+fn is_scanned<'a>(
     alloc: Global,
-    netlist: &str,
+    netlist: &'a str,
     saved: &str,
     report: &str,
-    text: &str,
+    text: &'a str,
 ) -> Result<(), Unlike> {
     let held = [
         ("n", netlist, ""),
