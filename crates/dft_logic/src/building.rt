@@ -76,7 +76,7 @@ fn net_ops(alloc: Global, traced: Traced<'_>) -> Result<Vec<Op>, AllocError>
     ensures each { IfOk result (λ ops. (net : ℕ) → net < length traced.entry.design.now.nets → IsOpOf traced.entry.design.now (ports_by traced.entry.flags.now) net (op_at ops.items net)) }
 {
     let mut ops = Vec::new(alloc);
-    for net in 0..design.net_count() {
+    for net in 0..traced.design.net_count() {
         ops.push(net_op(alloc, traced, NetId(net))?)?;
     }
     Ok(ops)
@@ -133,7 +133,7 @@ fn flops(alloc: Global, traced: Traced<'_>) -> Result<Vec<FlipFlop>, AllocError>
     ensures { IfOk result (λ flops. AreFlops traced.entry.design.now (ports_by traced.entry.flags.now) (length traced.entry.design.now.instances) flops.items) }
 {
     let mut flops = Vec::new(alloc);
-    for number in 0..design.instances().len() {
+    for number in 0..traced.design.instances().len() {
         flops.push(instance_flop(alloc, traced, InstanceId(number as u32))?)?;
     }
     Ok(flops)
@@ -145,7 +145,7 @@ fn latches(alloc: Global, traced: Traced<'_>) -> Result<Vec<Option<Latch>>, Allo
     ensures { IfOk result (λ latches. AreLatches traced.entry.design.now (ports_by traced.entry.flags.now) (length traced.entry.design.now.instances) latches.items) }
 {
     let mut latches = Vec::new(alloc);
-    for number in 0..design.instances().len() {
+    for number in 0..traced.design.instances().len() {
         latches.push(instance_latch(alloc, traced, InstanceId(number as u32))?)?;
     }
     Ok(latches)
