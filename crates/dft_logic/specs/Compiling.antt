@@ -53,16 +53,6 @@ pub record IsTraced (t : Traced) : Type 0 where
   pub roots : AreRoots t.design.now t.roots.now
   pub clocks : AreClocks t.design.now t.clocks.now
 
--- the net of an operand is one of the first `count`
-abbrev pub IsLiveOperand : (count : ℕ) → Operand → Type 0
-IsLiveOperand count (Net net) = net.0 < count
-IsLiveOperand count (Tied bit) = Unit {0}
-IsLiveOperand count (Loose instance pin) = Unit {0}
-
-abbrev pub AreLiveWires : (count : ℕ) → List Wire → Type 0
-AreLiveWires count [] = Unit {0}
-AreLiveWires count (wire ∷ wires) = IsLiveOperand count wire.source × AreLiveWires count wires
-
 -- ---- what an instance with these pins is
 
 -- its flip-flop, where it is modelled

@@ -4,7 +4,7 @@ ghost use Rattle.std.specs.Prelude.{◌≡◌, ℕ, ◌<◌, ◌≤◌, length, 
 ghost use Rattle.dft_netlist.specs.Drivers.{kind_at, pins_of};
 ghost use Rattle.dft_netlist.specs.NetDrivers.{is_inverted as inverts, roles_at};
 ghost use Rattle.dft_logic.specs.Circuit.{op_at};
-ghost use Rattle.dft_logic.specs.Compiling.{ports_by, wired_at, wired_by, AreLiveWires, IsTraced, IsOpOf, IsFlopOf, IsLatchOf, AreFlops, AreLatches, IsCircuitOf};
+ghost use Rattle.dft_logic.specs.Compiling.{ports_by, wired_at, wired_by, IsTraced, IsOpOf, IsFlopOf, IsLatchOf, AreFlops, AreLatches, IsCircuitOf};
 
 use crate::circuit::{Circuit, FlipFlop, Latch, Op};
 use crate::compiling::{Part, Traced, flop_at, latch_of, pin_op};
@@ -18,8 +18,7 @@ use std::alloc::{AllocError, Global};
 // The pins of the instance of this number.
 fn wires_at(alloc: Global, design: &Design, number: InstanceId) -> Result<Vec<Wire>, AllocError>
     requires { number.0 < length design.now.instances }
-    ensures wired { IfOk result (λ wires. map wired_at wires.items ≡ map (wired_by number.0) (pins_of design.now number.0)) }
-    ensures live { IfOk result (λ wires. AreLiveWires (length design.now.nets) wires.items) }
+    ensures { IfOk result (λ wires. map wired_at wires.items ≡ map (wired_by number.0) (pins_of design.now number.0)) }
 {
     let instance = &design.instances()[number.0 as usize];
     let wires = wires(alloc, design.library().cells(), number, instance)?;
