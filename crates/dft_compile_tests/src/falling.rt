@@ -2,6 +2,7 @@
 
 use crate::cases::{Case, comes_out, passes};
 use crate::saved::{ENCODED, LINE, OPPOSITE, REPLAYED, SIGNALS};
+use crate::tables::{ON_BOTH, ONE_CHAIN};
 use dft_test_support::{FIRST_FALLS, PAIR, Unlike, WARM, holds, shelf};
 use std::alloc::Global;
 use std::test::Fail;
@@ -203,6 +204,30 @@ static CAPTURES: [Case; 3] = [
         replay: "pass 6 vectors 3 compared\n",
     },
 ];
+
+// Two clocks, each with a falling cell and a rising one.
+const BOTH_CLOCKS: &str =
+    "module s (ca, cb, d, q); input ca, cb, d; output q; INV u (.A(ca), .Y(ka)); not v (kb, cb); DFF f0 (.CK(ka), .D(d), .Q(n0)); DFF f1 (.CK(kb), .D(n0), .Q(n1)); DFF f2 (.CK(ca), .D(n1), .Q(n2)); DFF f3 (.CK(cb), .D(n2), .Q(q)); endmodule";
+
+// The chain is f0 f1 f2 f3, with a lock-up on ca between f0 and f1 that holds while ca is low, and one between f2 and f3 that
+// holds while ca is high. The loads are 0 1 0 0 and 1 0 1 0, and the cells capture 1 1 1 0 and 1 1 1 1.
+static TWO_CLOCKS: Case = Case {
+    netlist: BOTH_CLOCKS,
+    config: (ON_BOTH, ONE_CHAIN),
+    cubes: "cube a ca\ncell f1 1\ncell f2 0\nport d 1\nend\ncube b cb\ncell f0 1\ncell f1 0\ncell f2 1\nend\n",
+    line: "compiled cells 4 chains 1 cycles 8 patterns 2 encoded 2 unsolvable 0 skipped 0 masked 0 vectors 27\n",
+    report: (
+        "edt report 1\ncells 4 chains 1 cycles 8 variables 8\nchain 0 length 4\nscanned f0 ca chain 0 place 0 falling\nscanned f1 cb chain 0 place 1 falling\nscanned f2 ca chain 0 place 2\nscanned f3 cb chain 0 place 3\n",
+        "cube a encoded 0\ncube b encoded 1\n",
+    ),
+    replay: "pass 27 vectors 18 compared\n",
+};
+
+#[test]
+fn both_edges_of_two_clocks_are_compiled(rt: HostRuntime) -> Result<(), Fail> {
+    comes_out(rt.alloc(), &TWO_CLOCKS)?;
+    Ok(())
+}
 
 #[test]
 fn falling_cells_capture_behind_rising_ones(rt: HostRuntime) -> Result<(), Fail> {

@@ -6,10 +6,10 @@ use crate::designs::{
 };
 use crate::large::many_channels;
 use crate::replays::{LIBRARY, OWN_CELL, REPLAY, replays};
-use dft_files::{Failing, MemoryFiles};
+use dft_files::{Failing, Files, MemoryFiles, SaveError};
 use dft_test_support::{Unlike, holds, patterns, prints, ran, shelf};
 use dft_top::Status;
-use std::alloc::Global;
+use std::alloc::{AllocError, Global};
 use std::test::Fail;
 
 // Scans the netlist `n` under the configuration `c`.
@@ -101,7 +101,7 @@ static SCANS: [(&str, &str, &str, &str, &str); 21] = [
         ON_ONE,
         LATE_CHAIN,
         "scanned cells 1 unscanned 0 chains 1 lockups 0\n",
-        "edt report 1\ncells 1 chains 1\nchain 0 length 1\nscanned f0 ca chain 0 place 0\n",
+        SINGLE_REPORT,
     ),
     ("module", "[", "", "refused C1\n", "-"),
     ("module", "", ONE_CHAIN, "refused C2 version\n", "-"),
@@ -145,6 +145,40 @@ fn status_of(line: &str) -> Status {
     } else {
         Status::Refused
     }
+}
+
+// A configuration of so many bytes, blank behind its text.
+fn long_config(alloc: Global, length: usize) -> Result<Vec<u8>, AllocError> {
+    let mut config = String::from_str(alloc, ON_ONE)?;
+    config.push_str(ONE_CHAIN)?;
+    let mut text = vec![in alloc; b' '; length]?;
+    for (place, byte) in config.as_bytes().iter().enumerate() {
+        if place < text.len() {
+            text[place] = *byte;
+        }
+    }
+    Ok(text)
+}
+
+// Whether a scan under it prints this line, and has this report.
+fn long_is_told(alloc: Global, length: usize, line: &str, report: &str) -> Result<(), Unlike> {
+    let mut files = shelf(alloc, &[("n", SINGLE, "")], None)?;
+    let text = long_config(alloc, length)?;
+    if let Err(SaveError::Memory(error)) = files.save(alloc, "c", &text) {
+        return Err(error.into());
+    }
+    tells(alloc, &mut files, SCAN, line, report)
+}
+
+const SINGLE_REPORT: &str =
+    "edt report 1\ncells 1 chains 1\nchain 0 length 1\nscanned f0 ca chain 0 place 0\n";
+
+#[test]
+fn a_configuration_has_no_more_bytes_than_its_limit(rt: HostRuntime) -> Result<(), Fail> {
+    let done = "scanned cells 1 unscanned 0 chains 1 lockups 0\n";
+    long_is_told(rt.alloc(), 67_108_864, done, SINGLE_REPORT)?;
+    long_is_told(rt.alloc(), 67_108_865, "refused F1 config\n", "-")?;
+    Ok(())
 }
 
 // One cycle more than has 16,384 variables.
