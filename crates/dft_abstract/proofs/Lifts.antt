@@ -37,7 +37,7 @@ known_after_turn l rank x now t ranked low turn c b law =
 -- ---- the falls alone
 
 -- the own bit of a cell without reset or set, and else what stands above it
-own_or : Option Force → (over own : Tri) → Tri
+abbrev own_or : Option Force → (over own : Tri) → Tri
 own_or None over own = own
 own_or (Some f) over own = over
 
