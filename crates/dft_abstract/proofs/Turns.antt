@@ -4,13 +4,13 @@ use Rattle.std.specs.Prelude.{if◌then◌else◌}
 use Rattle.dft_base.specs.declared.tri.Tri.{Tri}
 use Rattle.dft_base.specs.Tri.{Above, AboveTri}
 use Rattle.dft_netlist.specs.Drivers.{Source}
-use Rattle.dft_netlist.specs.Logic.{Logic, Force}
+use Rattle.dft_netlist.specs.Logic.{Logic, Force, IsRanked}
 use Rattle.dft_netlist.specs.Settled.{value_from}
-use Rattle.dft_netlist.specs.Runs.{Now, sources_of, next_now, after, edge_step, Vector, Turn, set_step}
+use Rattle.dft_netlist.specs.Runs.{Now, sources_of, next_now, after, edge_step, Vector, Turn, IsTurn, after_turn, set_step}
 use Rattle.dft_netlist.proofs.Meanings.{completed_above}
 use Rattle.dft_netlist.proofs.Steps.{after-append, AreSteps-append}
-use Rattle.dft_abstract.specs.Cycle.{Pulse, changes, level_before, level_after, tri_forced_by, tri_taken_by, rise_of, falls_after, fall_of, strobe_sources, after_halves}
-use Rattle.dft_abstract.specs.Laws.{Stands, StandsAt, IsForced, StrobeIsAbove, TurnIsAbove}
+use Rattle.dft_abstract.specs.Cycle.{Pulse, changes, level_before, level_after, tri_forced_by, tri_taken_by, IsClosed, after_pulse, rise_of, falls_after, fall_of, strobe_sources}
+use Rattle.dft_abstract.specs.Laws.{Stands, StandsAt, IsForced, StrobeIsAbove, TurnIsAbove, after_rises, falls_from}
 use Rattle.dft_abstract.proofs.Strobe.{SourcesAbove, strobe_above}
 use Rattle.dft_abstract.proofs.Phases.{above_forced, again, phase_above, ports_stay, last_settled}
 
@@ -50,19 +50,34 @@ after_forced l p view old c =
     let at : Source → Tri = value_from (view (l.cell c).domain) in
     either_stays (changes l p c) (l.cell c).force p.ports (tri_taken_by (l.cell c).scan at (at (l.cell c).input)) (p.old c) (old c)
 
+-- after the rises of a turn the values of any closed map stand above the bits
+pub rises_stand : (l : Logic) (rank : ℕ → ℕ) (x : Vector) (old : ℕ → Tri) (now : Now) (t : Turn) (poss : ℕ → Tri) (view : ℕ → ℕ → Tri) → IsRanked l rank → Stands old now.state → IsTurn l x now t → IsClosed l (rise_of l x old) poss view →
+    StandsAt (level_after (rise_of l x old)) (fall_of l x old view).old (after_rises l x now t).state
+rises_stand l rank x old now t poss view ranked stands turn closed =
+    let p : Pulse = rise_of l x old in
+    let first : Now = at_strobe l x now t in
+    let split = AreSteps-append l first (map (edge_step true) t.rises) (map (edge_step false) t.falls) turn.steps.1 in
+    let begun : StandsAt (level_before p) p.old first.state = record { above = set_above l x old now t stands; levels = λ e. stands.low e ∙ sym (no_level (x.pulsed e)) } in
+    phase_above l rank p poss view first t.rises ranked closed (λ c. again (l.cell c).force x.ports (old c)) (λ k. refl) begun turn.steps.0 turn.rises split.0
+
+-- and after its falls, from any values above the bits after the rises that are those that resets and sets leave
+pub falls_stand : (l : Logic) (rank : ℕ → ℕ) (x : Vector) (old : ℕ → Tri) (now : Now) (t : Turn) (poss : ℕ → Tri) (view : ℕ → ℕ → Tri) → IsRanked l rank → IsTurn l x now t → IsForced l (falls_from x old) →
+    StandsAt (level_before (falls_from x old)) old (after_rises l x now t).state → IsClosed l (falls_from x old) poss view → Stands (after_pulse l (falls_from x old) view) (after_turn l x now t).state
+falls_stand l rank x old now t poss view ranked turn forced risen closed =
+    let q : Pulse = falls_from x old in
+    let first : Now = at_strobe l x now t in
+    let middle : Now = after_rises l x now t in
+    let split = AreSteps-append l first (map (edge_step true) t.rises) (map (edge_step false) t.falls) turn.steps.1 in
+    let fallen : StandsAt (level_after q) (after_pulse l q view) (after l middle (map (edge_step false) t.falls)).state =
+    phase_above l rank q poss view middle t.falls ranked closed forced (ports_stay l first true t.rises) risen (last_settled l first true t.rises turn.steps.0 split.0) turn.falls split.1 in
+    let result : Stands (after_pulse l q view) (after l middle (map (edge_step false) t.falls)).state = record { above = fallen.above; low = λ e. fallen.levels e ∙ no_level (x.pulsed e) } in
+    subst (λ (n : Now). Stands (after_pulse l q view) n.state) (sym (after-append l first (map (edge_step true) t.rises) (map (edge_step false) t.falls))) result
+
+-- the values after the rises are those that resets and sets leave
+pub rises_forced : (l : Logic) (x : Vector) (old : ℕ → Tri) (view : ℕ → ℕ → Tri) → IsForced l (fall_of l x old view)
+rises_forced l x old view = after_forced l (rise_of l x old) view (λ c. again (l.cell c).force x.ports (old c))
+
 pub turn_stands : TurnIsAbove
 turn_stands l rank x old now t halves ranked stands turn closed =
-    let p : Pulse = rise_of l x old in
-    let q : Pulse = fall_of l x old halves.rise.view in
-    let first : Now = at_strobe l x now t in
-    let middle : Now = after l first (map (edge_step true) t.rises) in
-    let split = AreSteps-append l first (map (edge_step true) t.rises) (map (edge_step false) t.falls) turn.steps.1 in
-    let forced : IsForced l p = λ c. again (l.cell c).force x.ports (old c) in
-    let begun : StandsAt (level_before p) p.old first.state = record { above = set_above l x old now t stands; levels = λ e. stands.low e ∙ sym (no_level (x.pulsed e)) } in
-    let risen : StandsAt (level_after p) q.old middle.state =
-    phase_above l rank p halves.rise.poss halves.rise.view first t.rises ranked closed.rise forced (λ k. refl) begun turn.steps.0 turn.rises split.0 in
-    let fallen : StandsAt (level_after q) (after_halves l x old halves) (after l middle (map (edge_step false) t.falls)).state =
-    phase_above l rank q halves.fall.poss halves.fall.view middle t.falls ranked closed.fall (after_forced l p halves.rise.view forced) (ports_stay l first true t.rises) risen
-    (last_settled l first true t.rises turn.steps.0 split.0) turn.falls split.1 in
-    let result : Stands (after_halves l x old halves) (after l middle (map (edge_step false) t.falls)).state = record { above = fallen.above; low = λ e. fallen.levels e ∙ no_level (x.pulsed e) } in
-    subst (λ (n : Now). Stands (after_halves l x old halves) n.state) (sym (after-append l first (map (edge_step true) t.rises) (map (edge_step false) t.falls))) result
+    falls_stand l rank x (fall_of l x old halves.rise.view).old now t halves.fall.poss halves.fall.view ranked turn (rises_forced l x old halves.rise.view)
+    (rises_stand l rank x old now t halves.rise.poss halves.rise.view ranked stands turn closed.rise) closed.fall

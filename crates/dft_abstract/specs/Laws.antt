@@ -1,13 +1,13 @@
 -- What the abstract cycle says of runs.
-use Rattle.std.specs.Prelude.{ℕ, Bool, true, false, ◌≡◌, List, map, if◌then◌else◌}
+use Rattle.std.specs.Prelude.{ℕ, Bool, true, false, ◌≡◌, List, ◌∷◌, None, map, if◌then◌else◌}
 use Rattle.dft_base.specs.declared.tri.Tri.{Tri}
 use Rattle.dft_base.specs.declared.tri.Tri.TheVariants.{Unknown}
 use Rattle.dft_base.specs.Tri.{known, Above, AboveTri, join}
 use Rattle.dft_netlist.specs.Drivers.{Source}
 use Rattle.dft_netlist.specs.Logic.{Logic, Lockup, IsRanked}
 use Rattle.dft_netlist.specs.Settled.{IsTriSettled, value_from}
-use Rattle.dft_netlist.specs.Runs.{State, Now, IsNow, after, AreSteps, Edge, edge_step, IsOrder, Vector, Turn, IsTurn, after_turn, AreLow}
-use Rattle.dft_abstract.specs.Cycle.{Pulse, changes, level_before, level_after, AreViews, next_value, IsClosed, IsLeast, after_pulse, rise_of, strobe_sources, Halves, AreHalves, AreClosed, after_halves, Round, IsRound, after_round, tri_forced_by, tri_taken_by}
+use Rattle.dft_netlist.specs.Runs.{State, Now, IsNow, after, AreSteps, Edge, edge_step, set_step, IsOrder, Vector, Turn, IsTurn, after_turn, AreLow}
+use Rattle.dft_abstract.specs.Cycle.{Pulse, changes, level_before, level_after, AreViews, next_value, IsClosed, IsLeast, after_pulse, rise_of, strobe_sources, Half, Halves, AreHalves, AreClosed, after_halves, Round, IsRound, after_round, tri_forced_by, tri_taken_by}
 
 -- what holds between vectors: each value stands above its cell's bit, and all clocks are low
 pub record Stands (old : ℕ → Tri) (s : State) : Type 0 where
@@ -98,6 +98,25 @@ abbrev pub KnownAfterTurn : Type 0
 KnownAfterTurn =
     (l : Logic) (rank : ℕ → ℕ) (x : Vector) (now : Now) (t : Turn) → IsRanked l rank → AreLow now.state → IsTurn l x now t → (c : ℕ) (b : Bool) →
     ((h : Halves) → AreHalves l x (bits now.state) h → after_halves l x (bits now.state) h c ≡ known b) →
+    (after_turn l x now t).state.flops c ≡ b
+
+-- the present after the rises of a turn
+abbrev pub after_rises : Logic → Vector → Now → Turn → Now
+after_rises l x now t = after l now (set_step x t ∷ map (edge_step true) t.rises)
+
+-- the falls of a vector from these values
+abbrev pub falls_from : Vector → (old : ℕ → Tri) → Pulse
+falls_from x old = record { rising = false; ports = x.ports; pulsed = x.pulsed; old = old }
+
+-- these values are the state's own bits in each cell without reset or set
+abbrev pub AreOwn : Logic → State → (old : ℕ → Tri) → Type 0
+AreOwn l s old = (c : ℕ) → (l.cell c).force ≡ None → old c ≡ bits s c
+
+-- a cell that all falls give a known bit, from a run's own bits after the rises, has it after every turn
+abbrev pub KnownAfterFalls : Type 0
+KnownAfterFalls =
+    (l : Logic) (rank : ℕ → ℕ) (x : Vector) (now : Now) (t : Turn) → IsRanked l rank → AreLow now.state → IsTurn l x now t → (c : ℕ) (b : Bool) →
+    ((old : ℕ → Tri) (h : Half) → AreOwn l (after_rises l x now t).state old → AreViews l (falls_from x old) h.poss h.view → after_pulse l (falls_from x old) h.view c ≡ known b) →
     (after_turn l x now t).state.flops c ≡ b
 
 -- a net that the strobe gives a known bit shows it

@@ -1,6 +1,6 @@
 //! The laws of the abstract cycle, as contracts of functions that do nothing.
 
-ghost use Rattle.dft_abstract.specs.Laws.{ClosedExists, StrobeExists, StrobeIsAbove, PhaseIsAbove, TurnIsAbove, StepIsBelow, NoneChanges, RoundIsOne, OneDomain, KnownAfterTurn, KnownAtStrobe, LowAfterTurn};
+ghost use Rattle.dft_abstract.specs.Laws.{ClosedExists, StrobeExists, StrobeIsAbove, PhaseIsAbove, TurnIsAbove, StepIsBelow, NoneChanges, RoundIsOne, OneDomain, KnownAfterTurn, KnownAfterFalls, KnownAtStrobe, LowAfterTurn};
 
 /// In every run, whatever the order of edges and the free bits, the abstract values stand above the bits.
 pub fn cycle_is_above()
@@ -27,6 +27,7 @@ pub fn one_domain()
 /// What the abstract cycle knows from a run's own bits, the run has.
 pub fn known_in_runs()
     ensures after { KnownAfterTurn }
+    ensures falls { KnownAfterFalls }
     ensures strobe { KnownAtStrobe }
     ensures low { LowAfterTurn }
 {}

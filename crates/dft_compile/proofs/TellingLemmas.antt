@@ -21,7 +21,7 @@ use Rattle.dft_rules.specs.declared.judged.Judged.TheVariants.{Scanned, Unscanne
 use Rattle.dft_rules.specs.Refusals as rules
 use Rattle.dft_rules.specs.Refusals.{is_scanned}
 use Rattle.dft_rules.specs.Rules.{judgements}
-use Rattle.dft_stitch.specs.Chains.{clock_of, domain_of, is_falling, plan_of}
+use Rattle.dft_stitch.specs.Chains.{clock_of, domain_in, is_falling, plan_of}
 use Rattle.dft_stitch.specs.Limits.{refusal}
 use Rattle.dft_cubes.specs.declared.cube.Cube.{Cube}
 use Rattle.dft_cubes.specs.declared.cube.Merged.{Merged}
@@ -106,7 +106,7 @@ module _ (n : Netlist) (config : Config) (verdicts : List (Option Judged)) (inst
   chain_readable chain place (cell ∷ cells) small few =
       each_more IsScannedReadable (scanned_line n config verdicts chain place cell) (filter_map (λ at. scanned_line n config verdicts chain at.0 at.1) (enumerate_from (place + 1) cells))
       (λ line is. scanned_readable chain place (is_falling (clock_of verdicts cell)) (name_of n cell.0) (domain_name config verdicts cell) line small (omega (arith, few)) (instance_named n.instances cell.0 instances)
-      (domain_named config.domains (domain_of verdicts cell) domains) is)
+      (domain_named config.domains (domain_in (clock_of verdicts cell)) domains) is)
       (chain_readable chain (place + 1) cells small (omega (arith, few)))
 
   chains_readable : (chain : ℕ) (chains : List (List InstanceId)) → chain + length chains ≤ 1024 → All (λ (cells : List InstanceId). length cells ≤ 65536) chains → Each IsScannedReadable (flat_map (λ at. scanned_in n config verdicts at.0 at.1) (enumerate_from chain chains))

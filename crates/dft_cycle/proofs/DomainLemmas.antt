@@ -20,7 +20,7 @@ use Rattle.dft_cycle.specs.Machine.{value_at, acted}
 use Rattle.dft_logic.specs.Circuit.{Supply, base_of, view_base, changed, IsGivenIn, GivenIn, IsReady, source_places, flag_at, meaning, op_at, cell_of, cell_at, latch_at, latch_domains, force_nets, leaf_domains, leaves_from, IsCircuit}
 use Rattle.dft_logic.specs.Tables.{list_at}
 use Rattle.dft_cycle.specs.Views.{next_at, next_by, held_by}
-use Rattle.dft_cycle.proofs.MachineRounds.{forced_twice}
+use Rattle.dft_abstract.proofs.Forces.{forced_twice}
 use Rattle.dft_cycle.proofs.NextLemmas.{by_hit, by_miss}
 use Rattle.dft_cycle.proofs.RoundLemmas.{latch_hits, latch_misses}
 use Rattle.dft_logic.proofs.Compiled.{latch_live}

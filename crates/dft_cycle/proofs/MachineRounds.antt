@@ -3,12 +3,13 @@ use Rattle.std.proofs.Common.{ℕ, Bool, true, false, List, ◌≡◌, ◌==◌,
 use Rattle.std.specs.Prelude.{if◌then◌else◌}
 use Rattle.std.proofs.lemmas.Bool.Decides.{eqb_tells}
 use Rattle.dft_base.specs.declared.tri.Tri.{Tri}
-use Rattle.dft_base.specs.declared.tri.Tri.TheVariants.{Zero, One, Unknown}
+use Rattle.dft_base.specs.declared.tri.Tri.TheVariants.{Zero, Unknown}
 use Rattle.dft_cells.specs.FlipFlops.{tri_forced}
 use Rattle.dft_netlist.specs.Logic.{Logic, Force}
 use Rattle.dft_netlist.specs.Settled.{TriSources, value_from, IsTriSettled}
 use Rattle.dft_netlist.specs.Runs.{Vector}
 use Rattle.dft_abstract.specs.Cycle.{Pulse, tri_forced_by, tri_taken_by, changes, next_value, IsLeast, after_pulse, rise_of, falls_after, fall_of, strobe_sources, Halves, after_halves, Round}
+use Rattle.dft_abstract.proofs.Forces.{by_twice}
 use Rattle.dft_cycle.specs.Machine.{Machine, value_at, logic, acted, at_strobe, pulses, pulse_from}
 use Rattle.dft_cycle.specs.MachineLaws.{IsForced, StartIsForced, SetStands, CallsAreRound}
 
@@ -20,30 +21,6 @@ same_logic m n e f = λ i. logic (record { netlist = e i; clocks = f i; inputs =
 unknown_stays : (value : Bool) → tri_forced value Unknown Unknown ≡ Unknown
 unknown_stays true = refl
 unknown_stays false = refl
-
-pub forced_twice : (value : Bool) (pin bit : Tri) → tri_forced value pin (tri_forced value pin bit) ≡ tri_forced value pin bit
-forced_twice true Zero Zero = refl
-forced_twice true Zero One = refl
-forced_twice true Zero Unknown = refl
-forced_twice true One Zero = refl
-forced_twice true One One = refl
-forced_twice true One Unknown = refl
-forced_twice true Unknown Zero = refl
-forced_twice true Unknown One = refl
-forced_twice true Unknown Unknown = refl
-forced_twice false Zero Zero = refl
-forced_twice false Zero One = refl
-forced_twice false Zero Unknown = refl
-forced_twice false One Zero = refl
-forced_twice false One One = refl
-forced_twice false One Unknown = refl
-forced_twice false Unknown Zero = refl
-forced_twice false Unknown One = refl
-forced_twice false Unknown Unknown = refl
-
-pub by_twice : (f : Option Force) (ports : ℕ → Tri) (bit : Tri) → tri_forced_by f ports (tri_forced_by f ports bit) ≡ tri_forced_by f ports bit
-by_twice None ports bit = refl
-by_twice (Some f) ports bit = forced_twice f.value (ports f.port) bit
 
 unknown_by : (f : Option Force) (ports : ℕ → Tri) → ((k : ℕ) → ports k ≡ Unknown) → Unknown ≡ tri_forced_by f ports Unknown
 unknown_by None ports all = refl

@@ -3,10 +3,10 @@ use Rattle.std.proofs.Common.{ℕ, zero, suc, Bool, true, false, ◌&&◌, List,
 use Rattle.std.specs.Prelude.{if◌then◌else◌}
 use Rattle.std.proofs.lemmas.Bool.{eq-eqb, eqb-true}
 use Rattle.dft_base.specs.declared.tri.Tri.{Tri}
-use Rattle.dft_base.specs.declared.tri.Tri.TheVariants.{Zero, One, Unknown}
+use Rattle.dft_base.specs.declared.tri.Tri.TheVariants.{Zero, Unknown}
 use Rattle.dft_base.specs.Tri.{known, AboveTri}
 use Rattle.dft_cells.specs.Gates.{bit_of}
-use Rattle.dft_cells.specs.FlipFlops.{tri_chosen, tri_forced}
+use Rattle.dft_cells.specs.FlipFlops.{tri_chosen}
 use Rattle.dft_cells.proofs.Completions.{above_self, trans, AllOver, shared_monotone, forced_monotone}
 use Rattle.dft_cells.proofs.TriLemmas.{chosen_zero}
 use Rattle.dft_netlist.specs.Drivers.{Source, Net, Tied, Loose, nets_of, AreBelow}
@@ -17,6 +17,7 @@ use Rattle.dft_netlist.proofs.SettledLemmas.{value_at}
 use Rattle.dft_netlist.proofs.Meanings.{pin_monotone}
 use Rattle.dft_abstract.specs.Cycle.{Pulse, tri_forced_by, tri_taken_by, changes, clock_value, view_sources, AreViews, next_value, after_pulse, rise_of, fall_of, strobe_sources}
 use Rattle.dft_abstract.specs.Laws.{next_from}
+use Rattle.dft_abstract.proofs.Forces.{by_twice}
 use Rattle.dft_abstract.proofs.Phases.{of_both}
 use Rattle.dft_abstract.proofs.OneDomain.{flop_old}
 use Rattle.dft_chains.specs.ScanOff.{moved_source, moved_force, moved_meaning, Places, IsWithin, IsForceWithin, IsEnabledBy, KeepsFlop}
@@ -239,37 +240,12 @@ module _ (original written : Logic) (rank : ℕ → ℕ) (p : Places) (d : ℕ) 
 
 -- ---- the rise and the fall
 
--- a reset or set that acted leaves what it left
-forced_twice : (value : Bool) (pin bit : Tri) → tri_forced value pin (tri_forced value pin bit) ≡ tri_forced value pin bit
-forced_twice true Zero Zero = refl
-forced_twice true Zero One = refl
-forced_twice true Zero Unknown = refl
-forced_twice true One Zero = refl
-forced_twice true One One = refl
-forced_twice true One Unknown = refl
-forced_twice true Unknown Zero = refl
-forced_twice true Unknown One = refl
-forced_twice true Unknown Unknown = refl
-forced_twice false Zero Zero = refl
-forced_twice false Zero One = refl
-forced_twice false Zero Unknown = refl
-forced_twice false One Zero = refl
-forced_twice false One One = refl
-forced_twice false One Unknown = refl
-forced_twice false Unknown Zero = refl
-forced_twice false Unknown One = refl
-forced_twice false Unknown Unknown = refl
-
-again : (f : Option Force) (ports : ℕ → Tri) (t : Tri) → tri_forced_by f ports (tri_forced_by f ports t) ≡ tri_forced_by f ports t
-again None ports t = refl
-again (Some f) ports t = forced_twice f.value (ports f.port) t
-
 forced_up : (f : Option Force) (ports : ℕ → Tri) (t u : Tri) → AboveTri t u → AboveTri (tri_forced_by f ports t) (tri_forced_by f ports u)
 forced_up None ports t u h = h
 forced_up (Some f) ports t u h = forced_monotone f.value (ports f.port) (ports f.port) t u (above_self (ports f.port)) h
 
 forced_edge : (b : Bool) (f : Option Force) (ports : ℕ → Tri) (t old : Tri) → tri_forced_by f ports (if b then tri_forced_by f ports t else old) ≡ (if b then tri_forced_by f ports t else tri_forced_by f ports old)
-forced_edge true f ports t old = again f ports t
+forced_edge true f ports t old = by_twice f ports t
 forced_edge false f ports t old = refl
 
 pub capture_law : CaptureLaw

@@ -12,8 +12,9 @@ use Rattle.dft_netlist.specs.Logic.{Logic, Ports, Cell, Flop, Lockup}
 use Rattle.dft_netlist.specs.Settled.{Sources, TriSources, value_from, IsTriSettled}
 use Rattle.dft_netlist.specs.Runs.{Now, Vector, next_now, set_step, set_ports, sources_of, port_bits, forced_by, takes}
 use Rattle.dft_netlist.proofs.SettledLemmas.{value_at}
-use Rattle.dft_abstract.specs.Cycle.{Pulse, tri_forced_by, tri_taken_by, view_sources, AreViews, after_pulse, rise_of, fall_of, strobe_sources, Halves, AreHalves, after_halves}
-use Rattle.dft_abstract.proofs.Halves.{rising_after, falls_rest}
+use Rattle.dft_abstract.specs.Cycle.{Pulse, tri_forced_by, tri_taken_by, changes, view_sources, AreViews, after_pulse, rise_of, fall_of, strobe_sources, Half, Halves, AreHalves, after_halves}
+use Rattle.dft_abstract.specs.Laws.{falls_from}
+use Rattle.dft_abstract.proofs.Halves.{rising_after, falls_rest, falls_change}
 use Rattle.dft_config.specs.declared.config.Tap.{Tap}
 use Rattle.dft_config.specs.declared.config.Injector.{Injector}
 use Rattle.dft_config.specs.declared.config.RingConfig.{RingConfig}
@@ -22,7 +23,7 @@ use Rattle.dft_config.specs.Range.{IsInRange}
 use Rattle.dft_config.specs.Ring.{sum_of, phase_of}
 use Rattle.dft_stitch.specs.Plans.{cell_at}
 use Rattle.dft_chains.specs.Hardware.{ChainNets}
-use Rattle.dft_chains.proofs.Shiftings.{own_net, rest_net, port_value, not_forced, rise_takes, fall_takes, link_law}
+use Rattle.dft_chains.proofs.Shiftings.{own_net, rest_net, port_value, not_forced, takes_source, rise_takes, link_law}
 use Rattle.dft_edt.specs.Feeds.{Feed, Stage, Channel, at_feed, tap_feeds, injector_feeds, feeds}
 use Rattle.dft_parts.specs.SumTrees.{tri_sum}
 use Rattle.dft_edt.specs.Hardware.{EdtNets, HasStage, HasPhase, HasRing, HeadsAre, HasHold, HasEnd, HasCompactor, before_in, group_of}
@@ -132,16 +133,29 @@ stage_after l ports config chains w hw x old halves has range shift are i less =
 
 -- ---- the first cells of chains
 
--- the nets of the stages in the falls: what the stages have after the vector
-stage_net_falls : (l : Logic) (ports : Ports) (config : Config) (chains : List (List InstanceId)) (w : ChainNets) (hw : EdtNets) (x : Vector) (old : ℕ → Tri) (halves : Halves) (d : ℕ) →
-    HasRing l ports config chains w hw → AreHalves l x old halves → (i : ℕ) → i < config.ring.stages → halves.fall.view d (hw.stage_net i) ≡ after_halves l x old halves (hw.stage i)
-stage_net_falls l ports config chains w hw x old halves d has are i less =
+-- in the falls the stages rest, and their nets show them
+pub stage_falls : (l : Logic) (ports : Ports) (config : Config) (chains : List (List InstanceId)) (w : ChainNets) (hw : EdtNets) (x : Vector) (old : ℕ → Tri) → HasRing l ports config chains w hw → (i : ℕ) → i < config.ring.stages → changes l (falls_from x old) (hw.stage i) ≡ false
+stage_falls l ports config chains w hw x old has i less =
     let h : HasStage l config.ring hw i = has.stages i less in
-    let q : Pulse = fall_of l x old halves.rise.view in
-    rest_net l q halves.fall.poss halves.fall.view d (hw.stage i) (hw.stage_net i) are.fall h.flop.net (falls_rest l q (hw.stage i) (ap (λ (c : Cell). c.falling) h.flop.cell) refl)
-    ∙ sym (flop_halves l x old halves hw.clock (hw.stage i) (hw.stage_net i) h.kept h.flop)
+    falls_rest l (falls_from x old) (hw.stage i) (ap (λ (c : Cell). c.falling) h.flop.cell) refl
 
-first_by : (l : Logic) (ports : Ports) (config : Config) (chains : List (List InstanceId)) (w : ChainNets) (hw : EdtNets) (x : Vector) (old : ℕ → Tri) (halves : Halves) (chain : ℕ) (cell : InstanceId) (falling : Bool) →
+-- a falling first cell takes its phase sum of the stages as they are then
+pub first_falls : (l : Logic) (ports : Ports) (config : Config) (chains : List (List InstanceId)) (w : ChainNets) (hw : EdtNets) (x : Vector) (old : ℕ → Tri) (half : Half) (chain : ℕ) (cell : InstanceId) →
+    (has : HasRing l ports config chains w hw) → IsInRange config → IsEdtShift ports w hw x → AreViews l (falls_from x old) half.poss half.view → cell_at chains chain zero ≡ Some cell → (l.cell cell.0).falling ≡ true → HasPhase l config.ring hw (w.into chain zero) true chain →
+    after_pulse l (falls_from x old) half.view cell.0 ≡ tri_sum (map (λ k. old (hw.stage k)) (phase_of config.ring chain))
+first_falls l ports config chains w hw x old half chain cell has range shift are stands falls h =
+    let q : Pulse = falls_from x old in
+    let poss : ℕ → Tri = half.poss in
+    let view : ℕ → ℕ → Tri = half.view in
+    let d : ℕ = (l.cell cell.0).domain in
+    let is = has.chained.cells chain zero cell stands in
+    takes_source l ports chains w x q poss view (w.into chain zero) cell.0 has.chained shift.shift refl are (falls_change l q cell.0 falls refl ∙ shift.shift.domains d is.domain) is
+    ∙ ap (value_from (view d)) h.entered
+    ∙ phase_value l config hw (w.into chain zero) true (view_sources l q poss view d) (view d) chain h (are d)
+    ∙ ap tri_sum (same_sum config.ring.stages (λ k. view d (hw.stage_net k)) (λ k. old (hw.stage k)) (phase_of config.ring chain) (phase_below config chain range)
+    (λ k less. rest_net l q poss view d (hw.stage k) (hw.stage_net k) are (has.stages k less).flop.net (stage_falls l ports config chains w hw x old has k less)))
+
+pub first_by : (l : Logic) (ports : Ports) (config : Config) (chains : List (List InstanceId)) (w : ChainNets) (hw : EdtNets) (x : Vector) (old : ℕ → Tri) (halves : Halves) (chain : ℕ) (cell : InstanceId) (falling : Bool) →
     (has : HasRing l ports config chains w hw) → IsInRange config → IsEdtShift ports w hw x → AreHalves l x old halves → cell_at chains chain zero ≡ Some cell → (l.cell cell.0).falling ≡ falling → HasPhase l config.ring hw (w.into chain zero) falling chain →
     after_halves l x old halves cell.0 ≡ tri_sum (map (λ k. (if falling then after_halves l x old halves else old) (hw.stage k)) (phase_of config.ring chain))
 first_by l ports config chains w hw x old halves chain cell false has range shift are stands rises h =
@@ -158,15 +172,10 @@ first_by l ports config chains w hw x old halves chain cell false has range shif
     ∙ ap tri_sum (same_sum config.ring.stages (λ k. view hw.clock (hw.stage_net k)) (λ k. old (hw.stage k)) (phase_of config.ring chain) (phase_below config chain range)
     (stage_net_value l ports config chains w hw x old poss view has views))
 first_by l ports config chains w hw x old halves chain cell true has range shift are stands falls h =
-    let poss : ℕ → Tri = halves.fall.poss in
-    let view : ℕ → ℕ → Tri = halves.fall.view in
-    let q : Pulse = fall_of l x old halves.rise.view in
-    let d : ℕ = (l.cell cell.0).domain in
-    fall_takes l ports chains w x old halves (w.into chain zero) cell.0 has.chained shift.shift are falls (has.chained.cells chain zero cell stands)
-    ∙ ap (value_from (view d)) h.entered
-    ∙ phase_value l config hw (w.into chain zero) true (view_sources l q poss view d) (view d) chain h (are.fall d)
-    ∙ ap tri_sum (same_sum config.ring.stages (λ k. view d (hw.stage_net k)) (λ k. after_halves l x old halves (hw.stage k)) (phase_of config.ring chain) (phase_below config chain range)
-    (stage_net_falls l ports config chains w hw x old halves d has are))
+    let risen : ℕ → Tri = (fall_of l x old halves.rise.view).old in
+    first_falls l ports config chains w hw x risen halves.fall chain cell has range shift are.fall stands falls h
+    ∙ ap tri_sum (same_sum config.ring.stages (λ k. risen (hw.stage k)) (λ k. after_halves l x old halves (hw.stage k)) (phase_of config.ring chain) (phase_below config chain range)
+    (λ k less. (let stage : HasStage l config.ring hw k = has.stages k less in sym (flop_halves l x old halves hw.clock (hw.stage k) (hw.stage_net k) stage.kept stage.flop))))
 
 first_after : (l : Logic) (ports : Ports) (config : Config) (chains : List (List InstanceId)) (w : ChainNets) (hw : EdtNets) (falling : ℕ → Bool) (x : Vector) (old : ℕ → Tri) (halves : Halves) →
     HasRing l ports config chains w hw → HeadsAre l chains falling → IsInRange config → IsEdtShift ports w hw x → AreHalves l x old halves → (chain : ℕ) (cell : InstanceId) → cell_at chains chain zero ≡ Some cell →

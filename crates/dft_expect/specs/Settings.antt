@@ -60,9 +60,14 @@ pub record AreSettings (n : Netlist) (clocks resets : List Bool) (cells : List I
 
 -- ---- what a setting is in a pattern
 
+-- a value, or its inverse
+abbrev pub turned : (inverted : Bool) → Tri → Tri
+turned true value = inverse value
+turned false value = value
+
+-- the value of a cell, by its loaded bit
 abbrev pub cell_value : (inverted : Bool) → Option Bool → Tri
-cell_value true bit = inverse (or_unknown bit)
-cell_value false bit = or_unknown bit
+cell_value inverted bit = turned inverted (or_unknown bit)
 
 -- the value that is set, by the bit that the pattern gives the net's port, and the loaded bits
 abbrev pub value_by : Setting → Option Bool → (loaded : List Bool) → Tri
@@ -87,10 +92,6 @@ port_or true None before = before
 port_or false given before = before
 
 -- ---- what a setting is once the rising cells have moved
-
-abbrev pub turned : (inverted : Bool) → Tri → Tri
-turned true value = inverse value
-turned false value = value
 
 -- a cell has its value among these, and all else is as before
 abbrev pub moved_by : Setting → (cells : List Tri) → (before : Tri) → Tri

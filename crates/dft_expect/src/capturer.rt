@@ -45,7 +45,7 @@ impl<'a> Model for Capturer<'a> {
 }
 
 impl<'a> Capturer<'a> {
-    /// What captures in a planned design. All memory but that of the answers is taken here.
+    /// What captures in a planned design. What is the same for all patterns is found here.
     pub fn prepare(alloc: Global, planned: &Planned<'a>) -> Result<Capturer<'a>, AllocError>
         ensures { IfOk result (λ c. c ≡ record { design = planned.entry.now.design; config = planned.entry.now.config }) }
     {

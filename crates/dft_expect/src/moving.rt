@@ -21,7 +21,7 @@ use dft_lanes::Wide;
 use dft_netlist::NetId;
 
 // A value, or its inverse.
-fn turned(inverted: bool, value: Tri) -> Tri
+pub(crate) fn turned(inverted: bool, value: Tri) -> Tri
     ensures { result ≡ spec.turned inverted value }
 {
     match (inverted, value) {

@@ -3,7 +3,6 @@
 ghost use Rattle.std.specs.Prelude.{◌≡◌, ℕ, ◌<◌, ◌≤◌, Some, length, map, slice_get, slice_index_or, IfOk, OnOk};
 ghost use Rattle.std.specs.List.{range_with_len};
 ghost use Rattle.dft_base.specs.declared.tri.Tri.TheVariants.{Unknown};
-ghost use Rattle.dft_netlist.specs.Runs as runs;
 ghost use Rattle.dft_evaluator.specs.Evaluations.{value_at};
 ghost use Rattle.dft_expect.specs.declared.pattern.Pattern.{Pattern as PatternOf};
 ghost use Rattle.dft_expect.specs.declared.response.Response.{Response as ResponseOf};
@@ -21,6 +20,7 @@ use crate::sources::{bit_at, or_unknown};
 use dft_base::{Listed, Tri};
 use dft_config::Config;
 use dft_evaluator::Evaluator;
+use dft_logic::takes;
 use dft_netlist::{ClockRoot, Design, NetId, Signal};
 use std::alloc::{AllocError, Global};
 
@@ -40,13 +40,6 @@ pub(crate) struct Reading<'a> {
 pub(crate) struct Edge {
     clock: Option<NetId>,
     rising: bool,
-}
-
-// Whether a flip-flop takes its bit at an edge of its clock.
-fn takes(rising: bool, falling: bool) -> bool
-    ensures { result ≡ runs.takes rising falling }
-{
-    if rising { !falling } else { falling }
 }
 
 // Whether a cell on this clock, if it is on one, takes its bit at an edge.

@@ -1,15 +1,16 @@
 //! Where a capture is read.
 
-ghost use Rattle.std.specs.Prelude.{◌≡◌, ℕ, ◌++◌, List, length, map, IfOk, IfSome, OnOk};
+ghost use Rattle.std.specs.Prelude.{◌≡◌, ◌++◌, List, map, IfOk, OnOk};
 ghost use Rattle.dft_netlist.specs.ClockSteps.{shown_clock};
-ghost use Rattle.dft_netlist.specs.Sound.{IsLive};
+ghost use Rattle.dft_netlist.specs.ClockTables.{AreClocks};
+ghost use Rattle.dft_netlist.specs.Netlist.{Netlist};
 ghost use Rattle.dft_expect.specs.Captures.{bits_out, output_bits};
 ghost use Rattle.dft_expect.specs.Loaded.{all_cells};
 ghost use Rattle.dft_expect.specs.Reads.{AreReads, IsReadOf};
 ghost use Rattle.dft_expect.specs.Reads as spec;
 
 use dft_cells::Role;
-use dft_netlist::{ClockRoot, Design, Dir, InstanceId, NetId, Port, Signal};
+use dft_netlist::{ClockRoot, Design, Dir, InstanceId, NetId, Port, Signal, clock_in};
 use dft_stitch::Chains;
 use std::alloc::{AllocError, Global};
 
@@ -21,21 +22,21 @@ pub(crate) struct Read {
 }
 
 // The clock that a pin shows.
-fn clock_of(design: &Design, pin: Option<Signal>) -> Option<ClockRoot>
-    requires { IfSome pin (IsLive (length design.now.nets)) }
-    ensures { shown_clock result ≡ spec.clock_at design.now pin }
+fn clock_of(clocks: &[Option<ClockRoot>], pin: Option<Signal>) -> Option<ClockRoot>
+    ensures { (n : Netlist) → AreClocks n clocks.now → shown_clock result ≡ spec.clock_at n pin }
 {
     match pin {
-        Some(Signal::Net(net)) => design.clock_root(net),
-        _ => None,
+        Some(signal) => clock_in(clocks, signal),
+        None => None,
     }
 }
 
-// Where the next value of a cell is read.
-fn read_of(design: &Design, cell: InstanceId) -> Read
+// Where the next value of a cell is read, by the clocks that the nets show.
+fn read_of(design: &Design, clocks: &[Option<ClockRoot>], cell: InstanceId) -> Read
+    requires { AreClocks design.now clocks.now }
     ensures { IsReadOf design.now cell.0 result }
 {
-    let clock = clock_of(design, design.signal(cell, Role::Clock));
+    let clock = clock_of(clocks, design.signal(cell, Role::Clock));
     let input = or_unconnected(design.signal(cell, Role::Din));
     Read { clock, input }
 }
@@ -51,11 +52,17 @@ fn or_unconnected(pin: Option<Signal>) -> Signal
 }
 
 // Adds where the next values of these cells are read.
-fn add_reads(reads: &mut Vec<Read>, design: &Design, cells: &[InstanceId]) -> Result<(), AllocError>
+fn add_reads(
+    reads: &mut Vec<Read>,
+    design: &Design,
+    clocks: &[Option<ClockRoot>],
+    cells: &[InstanceId],
+) -> Result<(), AllocError>
+    requires { AreClocks design.now clocks.now }
     ensures { (before : List InstanceId) → AreReads design.now before reads.old.items → OnOk result (AreReads design.now (before ++ cells.now) reads.new.items) }
 {
     for cell in cells {
-        reads.push(read_of(design, *cell))?;
+        reads.push(read_of(design, clocks, *cell))?;
     }
     Ok(())
 }
@@ -68,9 +75,10 @@ pub(crate) fn reads(
 ) -> Result<Vec<Read>, AllocError>
     ensures { IfOk result (λ reads. AreReads design.now (all_cells chains.now.chains) reads.items) }
 {
+    let clocks = design.clocks(alloc)?;
     let mut reads = Vec::new(alloc);
     for chain in 0..chains.count() {
-        add_reads(&mut reads, design, chains.chain(chain))?;
+        add_reads(&mut reads, design, &clocks, chains.chain(chain))?;
     }
     Ok(reads)
 }

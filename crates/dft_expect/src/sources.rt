@@ -13,6 +13,7 @@ ghost use Rattle.dft_expect.specs.Settings.{setting_at, value_by, is_input, port
 ghost use Rattle.dft_expect.specs.Settings as by;
 ghost use Rattle.dft_expect.specs.Sources.{IsSame, IsPortSet, ArePortsSet};
 
+use crate::moving::turned;
 use crate::pattern::Pattern;
 use crate::settings::Setting;
 use dft_base::Tri;
@@ -51,10 +52,7 @@ pub(crate) fn or_unknown(bit: Option<bool>) -> Tri
 fn cell_value(inverted: bool, bit: Option<bool>) -> Tri
     ensures { result ≡ by.cell_value inverted bit }
 {
-    match bit {
-        Some(bit) => known(bit != inverted),
-        None => Tri::Unknown,
-    }
+    turned(inverted, or_unknown(bit))
 }
 
 // What the cell of a number, or its inverse, can be in the patterns.

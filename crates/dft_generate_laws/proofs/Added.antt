@@ -30,7 +30,7 @@ use Rattle.dft_compact.specs.declared.mask_nets.MaskNets.{MaskNets}
 use Rattle.dft_compact.specs.CompactorRecipe.{a_next, a_mask, a_segment, segments, masks_at, a_gated, an_output, a_compactor}
 use Rattle.dft_scan_frame.specs.Moves.{Gap}
 use Rattle.dft_scan_frame.specs.Pins.{domain_in, own_output}
-use Rattle.dft_scan_hardware.specs.Chained.{a_numbered_pin, a_role_pin, a_scan_in, an_open_output, own_or_made, a_row, rows, cells_at, row_at, a_lockup_clock, a_lockup_behind, a_crossing, crossing_in, a_step, a_chain, a_late_chain, a_fed_chain, last_net}
+use Rattle.dft_scan_hardware.specs.Chained.{a_numbered_pin, a_role_pin, a_scan_in, an_open_output, own_or_made, a_row, rows, cells_at, row_at, a_lockup_clock, a_lockup_behind, a_crossing, crossing_in, a_step, a_chain, a_latched_chain, a_fed_chain, last_net}
 use Rattle.dft_scan_hardware.specs.Chained as chained
 use Rattle.dft_scan_hardware.specs.Scanned.{an_edt_chain, behind_rows, edt_recipe}
 use Rattle.dft_generate.specs.Configurations.{configuration}
@@ -243,11 +243,11 @@ chain_most n config gap lockups chain cells outputs entry =
     (each_most (crossing_in n config gap chain cells outputs) (λ (l : LockupPlace). if l.chain == chain then of_lockup l.high else 0) lockups (λ l. crossing_by (l.chain == chain) n config gap cells outputs l))
     (λ _. each_same (a_step n cells outputs) 0 (range_with_len 0 (length cells)) (λ place. scan_in_most n (slice_get cells (place + 1)) (net_at outputs place))))
 
-late_most : (n : Netlist) (config : Config) (gap : Gap) (lockups : List LockupPlace) (chain : ℕ) (cells : List InstanceId) (outputs : List NetId) (clock phase : NetId) → AtMost (a_late_chain n config gap lockups chain cells outputs clock phase) (2 + here lockups chain)
-unfolding a_late_chain
-late_most n config gap lockups chain cells outputs clock phase =
+latched_most : (n : Netlist) (config : Config) (gap : Gap) (lockups : List LockupPlace) (chain : ℕ) (cells : List InstanceId) (outputs : List NetId) (clock phase : NetId) → AtMost (a_latched_chain n config gap lockups chain cells outputs clock phase) (2 + here lockups chain)
+unfolding a_latched_chain
+latched_most n config gap lockups chain cells outputs clock phase =
     let most : ℕ = 0 + (here lockups chain + length (range_with_len 0 (length cells)) * 0) in
-    at_most (a_late_chain n config gap lockups chain cells outputs clock phase) (1 + (1 + most)) (2 + here lockups chain) (omega (arith, mul-zero (length (range_with_len 0 (length cells)))))
+    at_most (a_latched_chain n config gap lockups chain cells outputs clock phase) (1 + (1 + most)) (2 + here lockups chain) (omega (arith, mul-zero (length (range_with_len 0 (length cells)))))
     (bind_most a_net (λ entry. a_lockup clock phase entry >>= (λ _. a_chain n config gap lockups chain cells outputs entry)) 1 (1 + most) net_most
     (λ entry. bind_most (a_lockup clock phase entry) (λ _. a_chain n config gap lockups chain cells outputs entry) 1 most (lockup_most clock phase entry) (λ _. chain_most n config gap lockups chain cells outputs entry)))
 
@@ -255,7 +255,7 @@ fed_most : (falling : Bool) (n : Netlist) (config : Config) (gap : Gap) (lockups
 fed_most true n config gap lockups chain cells outputs clock phase =
     at_most (a_chain n config gap lockups chain cells outputs phase) (0 + (here lockups chain + length (range_with_len 0 (length cells)) * 0)) (2 + here lockups chain) (omega (arith, mul-zero (length (range_with_len 0 (length cells)))))
     (chain_most n config gap lockups chain cells outputs phase)
-fed_most false n config gap lockups chain cells outputs clock phase = late_most n config gap lockups chain cells outputs clock phase
+fed_most false n config gap lockups chain cells outputs clock phase = latched_most n config gap lockups chain cells outputs clock phase
 
 -- of all chains, where the lock-ups are low
 chains_few : (lockups : List LockupPlace) (count : ℕ) → AreLow lockups → sum_of (λ chain. 2 + here lockups chain) (range_with_len 0 count) ≤ count * 2 + length lockups * 2

@@ -23,7 +23,7 @@ use Rattle.dft_rules.specs.declared.judged.Judged.{Judged}
 use Rattle.dft_rules.specs.declared.judged.Judged.TheVariants.{Scanned, Unscanned}
 use Rattle.dft_rules.specs.Rules.{judgements}
 use Rattle.dft_stitch.specs.declared.places.CellPlace.{CellPlace}
-use Rattle.dft_stitch.specs.Chains.{cells_of, clock_of, domain_of, is_falling, plan_of}
+use Rattle.dft_stitch.specs.Chains.{cells_of, clock_of, domain_in, is_falling, plan_of}
 use Rattle.dft_stitch.specs.Plans.{Plan, falling_head}
 use Rattle.dft_cubes.specs.declared.cube.Cube.{Cube}
 use Rattle.dft_cubes.specs.declared.cube.Merged.{Merged}
@@ -191,7 +191,7 @@ module _ (size : ℕ) (words : List ℕ) (few : size ≤ 16240) (verdicts : List
       let here : List ScannedLine = scanned_in n configuration verdicts from chain in
       let rest : List ScannedLine = flat_map (λ (at : ℕ × List InstanceId). scanned_in n configuration verdicts at.0 at.1) (enumerate_from (from + 1) chains) in
       let a = lines_from (λ (place : ℕ) (cell : InstanceId). scanned_as from place (is_falling (clock_of verdicts cell)) (name_of n cell.0) (domain_name configuration verdicts cell)) scanned_line 49 16240
-      (λ place cell l lt is. scanned_short from place (is_falling (clock_of verdicts cell)) (name_of n cell.0) (domain_name configuration verdicts cell) l (omega (arith, count)) lt (instance_short size words cell.0 few) (domain_short (domain_of verdicts cell)) is)
+      (λ place cell l lt is. scanned_short from place (is_falling (clock_of verdicts cell)) (name_of n cell.0) (domain_name configuration verdicts cell) l (omega (arith, count)) lt (instance_short size words cell.0 few) (domain_short (domain_in (clock_of verdicts cell))) is)
       chain 0 (omega (arith, cells)) in
       let b = scanned_most chains (from + 1) (omega (arith, count)) (omega (arith, cells)) in
       omega (arith, a, b, ap length (flat_map-append scanned_line here rest), length-append (flat_map scanned_line here) (flat_map scanned_line rest))

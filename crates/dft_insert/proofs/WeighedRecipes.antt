@@ -33,7 +33,7 @@ use Rattle.dft_compact.specs.CompactorRecipe.{a_next, a_mask, a_segment, segment
 use Rattle.dft_scan_frame.specs.Moves.{Gap, moved}
 use Rattle.dft_scan_frame.specs.Pins.{domain_in, number_of, own_output}
 use Rattle.dft_scan_hardware.specs.Chained as chained
-use Rattle.dft_scan_hardware.specs.Chained.{scan_roles, a_numbered_pin, a_role_pin, a_scan_in, an_open_output, own_or_made, a_row, rows, a_lockup_clock, a_lockup_behind, a_crossing, crossing_in, a_step, a_chain, a_late_chain, a_fed_chain, cells_at, row_at, last_net}
+use Rattle.dft_scan_hardware.specs.Chained.{scan_roles, a_numbered_pin, a_role_pin, a_scan_in, an_open_output, own_or_made, a_row, rows, a_lockup_clock, a_lockup_behind, a_crossing, crossing_in, a_step, a_chain, a_latched_chain, a_fed_chain, cells_at, row_at, last_net}
 use Rattle.dft_scan_hardware.specs.Ports.{plain_in, plain_out}
 use Rattle.dft_scan_hardware.specs.Scanned.{a_plain_chain, a_plain_end, plain_recipe, an_edt_chain, behind_rows, edt_recipe}
 use Rattle.dft_insert.proofs.Weights.{times, times_add, sum_of, sum_add, sum_zero, sum_same, Weighs, weighs_as, weighs_pure, weighs_bind, weighs_each, none_each, none_collect, one_in_range}
@@ -300,10 +300,10 @@ module _ (test : Kind → Bool) (library : List Cell) (well : IsWellFormed libra
         (weighs_each (weight test library) library (crossing_in n config gap chain cells outputs) (λ (l : LockupPlace). if l.chain == chain then lock else 0) plan.lockups (λ l. either_has (l.chain == chain) (a_crossing n config gap cells outputs l) (crossing_has cells outputs l)))
         (λ _. none_each (weight test library) library (a_step n cells outputs) (range_with_len 0 (length cells)) (λ place. scan_in_has (slice_get cells (place + 1)) (net_at outputs place)))))
 
-    late_has : (chain : ℕ) (cells : List InstanceId) (outputs : List NetId) (clock phase : NetId) → Has (a_late_chain n config gap plan.lockups chain cells outputs clock phase) (lock + crossings chain)
-    unfolding a_late_chain
-    late_has chain cells outputs clock phase =
-        weighs_as (weight test library) library (a_late_chain n config gap plan.lockups chain cells outputs clock phase) (0 + (lock + crossings chain)) (lock + crossings chain) (omega arith)
+    latched_has : (chain : ℕ) (cells : List InstanceId) (outputs : List NetId) (clock phase : NetId) → Has (a_latched_chain n config gap plan.lockups chain cells outputs clock phase) (lock + crossings chain)
+    unfolding a_latched_chain
+    latched_has chain cells outputs clock phase =
+        weighs_as (weight test library) library (a_latched_chain n config gap plan.lockups chain cells outputs clock phase) (0 + (lock + crossings chain)) (lock + crossings chain) (omega arith)
         (weighs_bind (weight test library) library a_net (λ entry. a_lockup clock phase entry >> a_chain n config gap plan.lockups chain cells outputs entry) 0 (lock + crossings chain) net_has
         (λ entry. weighs_bind (weight test library) library (a_lockup clock phase entry) (λ _. a_chain n config gap plan.lockups chain cells outputs entry) lock (crossings chain) (lockup_has clock phase entry) (λ _. chain_has chain cells outputs entry)))
 
@@ -313,7 +313,7 @@ module _ (test : Kind → Bool) (library : List Cell) (well : IsWellFormed libra
 
     fed_has : (falling : Bool) (chain : ℕ) (cells : List InstanceId) (outputs : List NetId) (clock phase : NetId) → Has (a_fed_chain falling n config gap plan.lockups chain cells outputs clock phase) (entered falling + crossings chain)
     fed_has true chain cells outputs clock phase = weighs_as (weight test library) library (a_chain n config gap plan.lockups chain cells outputs phase) (crossings chain) (0 + crossings chain) (omega arith) (chain_has chain cells outputs phase)
-    fed_has false chain cells outputs clock phase = late_has chain cells outputs clock phase
+    fed_has false chain cells outputs clock phase = latched_has chain cells outputs clock phase
 
     -- ---- the recipes
 

@@ -8,12 +8,10 @@ use Rattle.dft_netlist.specs.declared.instance.Signal.{Signal}
 use Rattle.dft_netlist.specs.declared.instance.Signal.TheVariants as signal
 use Rattle.dft_netlist.specs.Drivers.{Connection, source_of, connections_from}
 use Rattle.dft_netlist.specs.Logic.{same_role}
-use Rattle.dft_netlist.specs.Sound.{AreLive, IsLive}
 use Rattle.dft_logic.specs.declared.circuit.Operand.{Operand}
-use Rattle.dft_logic.specs.declared.circuit.Operand.TheVariants.{Net, Tied, Loose}
 use Rattle.dft_logic.specs.declared.wires.Wire.{Wire}
 use Rattle.dft_logic.specs.Circuit.{source_at}
-use Rattle.dft_logic.specs.Compiling.{Wired, wired_at, wired_by, found_in, IsLiveOperand, AreLiveWires}
+use Rattle.dft_logic.specs.Compiling.{Wired, wired_at, wired_by, found_in}
 
 -- a pin of another role is passed over
 pub find_more : (wires : List Wire) (role : Role) (j : ℕ) (d : Wire) → j < length wires → same_role role (get_or wires j d).role ≡ false →
@@ -21,9 +19,6 @@ pub find_more : (wires : List Wire) (role : Role) (j : ℕ) (d : Wire) → j < l
 find_more wires role j d less other =
     sym (ap (λ (l : List Wire). found_in role (map wired_at l)) (drop_more wires j d less)
     ∙ ap (λ (b : Bool). if b then Some (source_at (get_or wires j d).source) else found_in role (map wired_at (drop (j + 1) wires))) other)
-
-pub live_more : (wires : List Wire) (j : ℕ) (d : Wire) (count : ℕ) → j < length wires → AreLiveWires count (drop j wires) → IsLiveOperand count (get_or wires j d).source × AreLiveWires count (drop (j + 1) wires)
-live_more wires j d count less live = let P : List Wire → Type 0 = λ l. AreLiveWires count l in subst P (drop_more wires j d less) live
 
 -- one pin more
 pub wire_more : (roles : List Role) (signals : List Signal) (j : ℕ) (r : Role) (s : Signal) → j < length roles → j < length signals → get_or roles j r ≡ r → get_or signals j s ≡ s →
@@ -42,25 +37,13 @@ wire_step so_far w whole number roles signals j r s a b rr ss is before =
     ∙ sym (ap (λ (l : List Connection). so_far ++ map (wired_by number) l) (wire_more roles signals j r s a b rr ss))
     ∙ before
 
-pub live_append : (count : ℕ) (wires : List Wire) (w : Wire) → AreLiveWires count wires → IsLiveOperand count w.source → AreLiveWires count (wires ++ w ∷ [])
-live_append count [] w all live = (live, tt)
-live_append count (x ∷ xs) w all live = (all.0, live_append count xs w all.1 live)
-
-pub live_operand : (count number pin : ℕ) (s : Signal) (o : Operand) → source_at o ≡ source_of number pin s → IsLive count s → IsLiveOperand count o
-live_operand count number pin s (Tied bit) is live = tt
-live_operand count number pin s (Loose i p) is live = tt
-live_operand count number pin (signal.Net net) (Net n) is live = (let e : n.0 ≡ net.0 = cc in omega arith)
-live_operand count number pin (signal.Constant bit) (Net n) is live = absurd cc
-live_operand count number pin signal.Unconnected (Net n) is live = absurd cc
-
 map_append : (xs : List Wire) (w : Wire) → map wired_at (xs ++ w ∷ []) ≡ map wired_at xs ++ wired_at w ∷ []
 map_append [] w = refl
 map_append (x ∷ xs) w = ap (λ (l : List Wired). wired_at x ∷ l) (map_append xs w)
 
 -- the pins so far are these wires
-pub record Wiring (roles : List Role) (pins : List Signal) (number : ℕ) (whole : List Wired) (wires : List Wire) (j : ℕ) : Type 0 where
-  pub wired : map wired_at wires ++ map (wired_by number) (connections_from j (drop j roles) (drop j pins)) ≡ whole
-  pub live : (count : ℕ) → AreLive count pins → AreLiveWires count wires
+abbrev pub Wiring : (roles : List Role) (pins : List Signal) (number : ℕ) (whole : List Wired) (wires : List Wire) (j : ℕ) → Type 0
+Wiring roles pins number whole wires j = map wired_at wires ++ map (wired_by number) (connections_from j (drop j roles) (drop j pins)) ≡ whole
 
 pub wiring_more : (roles : List Role) (pins items : List Signal) (number : ℕ) (whole : List Wired) (old new : List Wire) (j : ℕ) (role : Role) (source : Operand) (d : Signal) → items ≡ pins → (less : j < length items) → (width : length pins ≡ length roles) →
     (named : Some role ≡ slice_get roles j) → (is : source_at source ≡ source_of number j (get_or items j d)) → (grown : new ≡ old ++ record { role = role; source = source } ∷ []) → Wiring roles pins number whole old j → Wiring roles pins number whole new (j + 1)
@@ -74,12 +57,8 @@ wiring_more roles pins items number whole old new j role source d e less width n
     let wire : Wire = record { role = role; source = source } in
     let P : List Wire → Type 0 = λ l. map wired_at l ++ map (wired_by number) (connections_from (j + 1) (drop (j + 1) roles) (drop (j + 1) pins)) ≡ whole in
     let Q : List Wired → Type 0 = λ l. l ++ map (wired_by number) (connections_from (j + 1) (drop (j + 1) roles) (drop (j + 1) pins)) ≡ whole in
-    let L : ℕ → List Wire → Type 0 = λ count l. AreLiveWires count l in
     let pair : wired_at wire ≡ (role, source_of number j s) = λ i. (role, is i) in
-    record {
-      wired = subst P (sym grown) (subst Q (sym (map_append old wire)) (wire_step (map wired_at old) (wired_at wire) whole number roles pins j role s b a rr ss pair w.wired));
-      live = λ count all. subst (L count) (sym grown) (live_append count old wire (w.live count all) (live_operand count number j s source is (all j s at)));
-    }
+    subst P (sym grown) (subst Q (sym (map_append old wire)) (wire_step (map wired_at old) (wired_at wire) whole number roles pins j role s b a rr ss pair w))
 
 pub none_past : (roles : List Role) (j : ℕ) → slice_get roles j ≡ None → j < length roles → ⊥
 none_past [] j none less = omega arith
@@ -96,4 +75,4 @@ no_more number j signals = refl
 pub wiring_end : (roles : List Role) (pins : List Signal) (number : ℕ) (whole : List Wired) (wires : List Wire) (j : ℕ) → length roles ≤ j → Wiring roles pins number whole wires j → map wired_at wires ≡ whole
 wiring_end roles pins number whole wires j past w =
     let e : map (wired_by number) (connections_from j (drop j roles) (drop j pins)) ≡ [] = ap (λ (l : List Role). map (wired_by number) (connections_from j l (drop j pins))) (drop_all j roles past) ∙ no_more number j (drop j pins) in
-    sym (nil_right (map wired_at wires)) ∙ sym (ap (λ (l : List Wired). map wired_at wires ++ l) e) ∙ w.wired
+    sym (nil_right (map wired_at wires)) ∙ sym (ap (λ (l : List Wired). map wired_at wires ++ l) e) ∙ w

@@ -4,12 +4,15 @@ use Rattle.std.specs.Option.{option_or}
 use Rattle.dft_cells.specs.FlipFlops.{is_flip_flop}
 use Rattle.dft_cells.specs.declared.kind.Role.{Role}
 use Rattle.dft_cells.specs.declared.kind.Role.TheVariants as role
+use Rattle.dft_netlist.specs.ClockTables.{AreClocks}
+use Rattle.dft_netlist.specs.RootTables.{AreRoots}
 use Rattle.dft_netlist.specs.Netlist.{Netlist}
 use Rattle.dft_netlist.specs.ClockRoots.{ClockRoot}
 use Rattle.dft_netlist.specs.Drivers.{Source, Connection, source_of, is_input, kind_at, pins_of}
 use Rattle.dft_cells.specs.declared.kind.Kind.{Kind}
 use Rattle.dft_cells.specs.declared.kind.Kind.TheVariants as kind
 use Rattle.dft_netlist.specs.Logic.{Ports, Cell, Meaning, Gate, Lockup, Free, logic_of, same_role, or_loose, domain_at, forcing, scan_of, modelled, locked, is_lockup, lockup_meaning, flop_meaning}
+use Rattle.dft_logic.specs.declared.compiling.Traced.{Traced}
 use Rattle.dft_logic.specs.declared.circuit.Operand.{Operand}
 use Rattle.dft_logic.specs.declared.circuit.Operand.TheVariants.{Net, Tied, Loose}
 use Rattle.dft_logic.specs.declared.circuit.Op.{Op}
@@ -45,15 +48,10 @@ abbrev pub found_in : Role → List Wired → Option Source
 found_in r [] = None
 found_in r (w ∷ ws) = if same_role r w.0 then Some w.1 else found_in r ws
 
--- the net of an operand is one of the first `count`
-abbrev pub IsLiveOperand : (count : ℕ) → Operand → Type 0
-IsLiveOperand count (Net net) = net.0 < count
-IsLiveOperand count (Tied bit) = Unit {0}
-IsLiveOperand count (Loose instance pin) = Unit {0}
-
-abbrev pub AreLiveWires : (count : ℕ) → List Wire → Type 0
-AreLiveWires count [] = Unit {0}
-AreLiveWires count (wire ∷ wires) = IsLiveOperand count wire.source × AreLiveWires count wires
+-- the roots and the clocks are those of the design's nets
+pub record IsTraced (t : Traced) : Type 0 where
+  pub roots : AreRoots t.design.now t.roots.now
+  pub clocks : AreClocks t.design.now t.clocks.now
 
 -- ---- what an instance with these pins is
 

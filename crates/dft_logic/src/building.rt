@@ -4,10 +4,10 @@ ghost use Rattle.std.specs.Prelude.{◌≡◌, ℕ, ◌<◌, ◌≤◌, length, 
 ghost use Rattle.dft_netlist.specs.Drivers.{kind_at, pins_of};
 ghost use Rattle.dft_netlist.specs.NetDrivers.{is_inverted as inverts, roles_at};
 ghost use Rattle.dft_logic.specs.Circuit.{op_at};
-ghost use Rattle.dft_logic.specs.Compiling.{ports_by, wired_at, wired_by, AreLiveWires, IsOpOf, IsFlopOf, IsLatchOf, AreFlops, AreLatches, IsCircuitOf};
+ghost use Rattle.dft_logic.specs.Compiling.{ports_by, wired_at, wired_by, IsTraced, IsOpOf, IsFlopOf, IsLatchOf, AreFlops, AreLatches, IsCircuitOf};
 
 use crate::circuit::{Circuit, FlipFlop, Latch, Op};
-use crate::compiling::{Part, flop_at, latch_of, pin_op};
+use crate::compiling::{Part, Traced, flop_at, latch_of, pin_op};
 use crate::settling::flag_at;
 use crate::tables::{cells, followers, holders, leaves, readers, sources};
 use crate::wires::{Wire, operand, wires};
@@ -18,8 +18,7 @@ use std::alloc::{AllocError, Global};
 // The pins of the instance of this number.
 fn wires_at(alloc: Global, design: &Design, number: InstanceId) -> Result<Vec<Wire>, AllocError>
     requires { number.0 < length design.now.instances }
-    ensures wired { IfOk result (λ wires. map wired_at wires.items ≡ map (wired_by number.0) (pins_of design.now number.0)) }
-    ensures live { IfOk result (λ wires. AreLiveWires (length design.now.nets) wires.items) }
+    ensures { IfOk result (λ wires. map wired_at wires.items ≡ map (wired_by number.0) (pins_of design.now number.0)) }
 {
     let instance = &design.instances()[number.0 as usize];
     let wires = wires(alloc, design.library().cells(), number, instance)?;
@@ -38,30 +37,31 @@ fn is_inverted(design: &Design, number: InstanceId, pin: usize) -> bool
 }
 
 // What a net takes its value from.
-fn net_op(alloc: Global, design: &Design, flags: &[bool], net: NetId) -> Result<Op, AllocError>
-    requires { net.0 < length design.now.nets }
-    ensures { IfOk result (IsOpOf design.now (ports_by flags.now) net.0) }
+fn net_op(alloc: Global, traced: Traced<'_>, net: NetId) -> Result<Op, AllocError>
+    requires traced { IsTraced traced }
+    requires live { net.0 < length traced.design.now.nets }
+    ensures { IfOk result (IsOpOf traced.entry.design.now (ports_by traced.entry.flags.now) net.0) }
 {
-    design.soundness();
-    match design.driver(net) {
-        NetDriver::Input => Ok(if flag_at(flags, net.0) {
+    traced.design.soundness();
+    match traced.design.driver(net) {
+        NetDriver::Input => Ok(if flag_at(traced.flags, net.0) {
             Op::Clock
         } else {
             Op::Input
         }),
-        NetDriver::Join(number) => match design.joins().get(number as usize) {
+        NetDriver::Join(number) => match traced.design.joins().get(number as usize) {
             Some(join) => Ok(Op::Joined(operand(InstanceId(0), 0, join.source))),
             None => Ok(Op::Free),
         },
         NetDriver::Pin { instance, pin } => {
-            let wires = wires_at(alloc, design, instance)?;
+            let wires = wires_at(alloc, traced.design, instance)?;
             let part = Part {
                 number: instance,
-                kind: design.kind(instance),
+                kind: traced.design.kind(instance),
                 wires: &wires,
             };
-            let inverted = is_inverted(design, instance, pin as usize);
-            let op = pin_op(alloc, design, flags, part, inverted)?;
+            let inverted = is_inverted(traced.design, instance, pin as usize);
+            let op = pin_op(alloc, traced, part, inverted)?;
             Ok(op)
         }
         NetDriver::Nothing => Ok(Op::Free),
@@ -69,13 +69,14 @@ fn net_op(alloc: Global, design: &Design, flags: &[bool], net: NetId) -> Result<
 }
 
 // What each net takes its value from.
-fn net_ops(alloc: Global, design: &Design, flags: &[bool]) -> Result<Vec<Op>, AllocError>
-    ensures count { IfOk result (λ ops. length ops.items ≡ length design.now.nets) }
-    ensures each { IfOk result (λ ops. (net : ℕ) → net < length design.now.nets → IsOpOf design.now (ports_by flags.now) net (op_at ops.items net)) }
+fn net_ops(alloc: Global, traced: Traced<'_>) -> Result<Vec<Op>, AllocError>
+    requires { IsTraced traced }
+    ensures count { IfOk result (λ ops. length ops.items ≡ length traced.entry.design.now.nets) }
+    ensures each { IfOk result (λ ops. (net : ℕ) → net < length traced.entry.design.now.nets → IsOpOf traced.entry.design.now (ports_by traced.entry.flags.now) net (op_at ops.items net)) }
 {
     let mut ops = Vec::new(alloc);
-    for net in 0..design.net_count() {
-        ops.push(net_op(alloc, design, flags, NetId(net))?)?;
+    for net in 0..traced.design.net_count() {
+        ops.push(net_op(alloc, traced, NetId(net))?)?;
     }
     Ok(ops)
 }
@@ -83,42 +84,42 @@ fn net_ops(alloc: Global, design: &Design, flags: &[bool]) -> Result<Vec<Op>, Al
 // What an instance stores a bit in.
 fn instance_flop(
     alloc: Global,
-    design: &Design,
-    flags: &[bool],
+    traced: Traced<'_>,
     number: InstanceId,
 ) -> Result<FlipFlop, AllocError>
-    requires { number.0 < length design.now.instances }
-    ensures { IfOk result (IsFlopOf design.now (ports_by flags.now) number.0) }
+    requires traced { IsTraced traced }
+    requires live { number.0 < length traced.design.now.instances }
+    ensures { IfOk result (IsFlopOf traced.entry.design.now (ports_by traced.entry.flags.now) number.0) }
 {
-    let wires = wires_at(alloc, design, number)?;
+    let wires = wires_at(alloc, traced.design, number)?;
     let part = Part {
         number,
-        kind: design.kind(number),
+        kind: traced.design.kind(number),
         wires: &wires,
     };
-    let flop = flop_at(design, flags, part);
+    let flop = flop_at(traced, part);
     Ok(flop)
 }
 
 // The lock-up of an instance, if it is one.
 fn instance_latch(
     alloc: Global,
-    design: &Design,
-    flags: &[bool],
+    traced: Traced<'_>,
     number: InstanceId,
 ) -> Result<Option<Latch>, AllocError>
-    requires { number.0 < length design.now.instances }
-    ensures { IfOk result (IsLatchOf design.now (ports_by flags.now) number.0) }
+    requires traced { IsTraced traced }
+    requires live { number.0 < length traced.design.now.instances }
+    ensures { IfOk result (IsLatchOf traced.entry.design.now (ports_by traced.entry.flags.now) number.0) }
 {
-    let wires = wires_at(alloc, design, number)?;
+    let wires = wires_at(alloc, traced.design, number)?;
     let part = Part {
         number,
-        kind: design.kind(number),
+        kind: traced.design.kind(number),
         wires: &wires,
     };
     match part.kind {
         Kind::Lockup => {
-            let latch = latch_of(design, flags, part);
+            let latch = latch_of(traced, part);
             Ok(latch)
         }
         _ => Ok(None),
@@ -126,23 +127,25 @@ fn instance_latch(
 }
 
 // What all instances store their bits in.
-fn flops(alloc: Global, design: &Design, flags: &[bool]) -> Result<Vec<FlipFlop>, AllocError>
-    ensures { IfOk result (λ flops. AreFlops design.now (ports_by flags.now) (length design.now.instances) flops.items) }
+fn flops(alloc: Global, traced: Traced<'_>) -> Result<Vec<FlipFlop>, AllocError>
+    requires { IsTraced traced }
+    ensures { IfOk result (λ flops. AreFlops traced.entry.design.now (ports_by traced.entry.flags.now) (length traced.entry.design.now.instances) flops.items) }
 {
     let mut flops = Vec::new(alloc);
-    for number in 0..design.instances().len() {
-        flops.push(instance_flop(alloc, design, flags, InstanceId(number as u32))?)?;
+    for number in 0..traced.design.instances().len() {
+        flops.push(instance_flop(alloc, traced, InstanceId(number as u32))?)?;
     }
     Ok(flops)
 }
 
 // The lock-ups of all instances.
-fn latches(alloc: Global, design: &Design, flags: &[bool]) -> Result<Vec<Option<Latch>>, AllocError>
-    ensures { IfOk result (λ latches. AreLatches design.now (ports_by flags.now) (length design.now.instances) latches.items) }
+fn latches(alloc: Global, traced: Traced<'_>) -> Result<Vec<Option<Latch>>, AllocError>
+    requires { IsTraced traced }
+    ensures { IfOk result (λ latches. AreLatches traced.entry.design.now (ports_by traced.entry.flags.now) (length traced.entry.design.now.instances) latches.items) }
 {
     let mut latches = Vec::new(alloc);
-    for number in 0..design.instances().len() {
-        latches.push(instance_latch(alloc, design, flags, InstanceId(number as u32))?)?;
+    for number in 0..traced.design.instances().len() {
+        latches.push(instance_latch(alloc, traced, InstanceId(number as u32))?)?;
     }
     Ok(latches)
 }
@@ -152,9 +155,17 @@ pub fn compile(alloc: Global, design: &Design, flags: &[bool]) -> Result<Circuit
     ensures { IfOk result (IsCircuitOf design.now (ports_by flags.now)) }
 {
     let order = Vec::from_slice(alloc, design.order())?;
-    let ops = net_ops(alloc, design, flags)?;
-    let flops = flops(alloc, design, flags)?;
-    let latches = latches(alloc, design, flags)?;
+    let roots = design.roots(alloc)?;
+    let clocks = design.clocks(alloc)?;
+    let traced = Traced {
+        design,
+        flags,
+        roots: &roots,
+        clocks: &clocks,
+    };
+    let ops = net_ops(alloc, traced)?;
+    let flops = flops(alloc, traced)?;
+    let latches = latches(alloc, traced)?;
     design.soundness();
     let nets = ops.len();
     let readers = readers(alloc, &ops)?;

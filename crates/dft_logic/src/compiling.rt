@@ -10,34 +10,43 @@ ghost use Rattle.dft_netlist.specs.Logic.{is_lockup};
 ghost use Rattle.dft_netlist.specs.Roots.{shown_root};
 ghost use Rattle.dft_netlist.specs.Traces as traces;
 ghost use Rattle.dft_logic.specs.Circuit.{source_at, cell_of, scan_at, force_at, latch_of as latched, meaning};
-ghost use Rattle.dft_logic.specs.Compiling.{ports_by, wired_at, found_in, IsLiveOperand, AreLiveWires, modelled_in, lockup_in, stored_in, latch_in, meaning_in};
+ghost use Rattle.dft_logic.specs.Compiling.{ports_by, wired_at, found_in, IsTraced, modelled_in, lockup_in, stored_in, latch_in, meaning_in};
 
 use crate::circuit::{Acting, FlipFlop, Latch, Op, Operand, ScanPins};
 use crate::settling::flag_at;
 use crate::wires::{Wire, find, gate_inputs};
 use dft_cells::{Kind, Role};
-use dft_netlist::{ClockRoot, Design, InstanceId, NetId, Root};
+use dft_netlist::{ClockRoot, Design, InstanceId, NetId, Root, Signal, clock_in, root_in};
 use std::alloc::{AllocError, Global};
 
+// A design whose clocks are flagged, with the roots and the clocks of its nets.
+#[derive(Clone, Copy)]
+pub(crate) struct Traced<'a> {
+    pub design: &'a Design,
+    pub flags: &'a [bool],
+    pub roots: &'a [Root],
+    pub clocks: &'a [Option<ClockRoot>],
+}
+
 // Where a walk back from an operand leads.
-fn root_of(design: &Design, source: Operand) -> Root
-    requires { IsLiveOperand (length design.now.nets) source }
-    ensures { shown_root result ≡ traces.root_of design.now (source_at source) }
+fn root_of(traced: Traced<'_>, source: Operand) -> Root
+    requires { IsTraced traced }
+    ensures { shown_root result ≡ traces.root_of traced.entry.design.now (source_at source) }
 {
     match source {
-        Operand::Net(net) => design.trace(net),
+        Operand::Net(net) => root_in(traced.roots, Signal::Net(net)),
         Operand::Tied(bit) => Root::Constant(bit),
         Operand::Loose(_, _) => Root::Other,
     }
 }
 
 // The clock that an operand shows.
-fn clock_of(design: &Design, source: Operand) -> Option<ClockRoot>
-    requires { IsLiveOperand (length design.now.nets) source }
-    ensures { shown_clock result ≡ clocks.clock_root_of design.now (source_at source) }
+fn clock_of(traced: Traced<'_>, source: Operand) -> Option<ClockRoot>
+    requires { IsTraced traced }
+    ensures { shown_clock result ≡ clocks.clock_root_of traced.entry.design.now (source_at source) }
 {
     match source {
-        Operand::Net(net) => design.clock_root(net),
+        Operand::Net(net) => clock_in(traced.clocks, Signal::Net(net)),
         Operand::Tied(_) | Operand::Loose(_, _) => None,
     }
 }
@@ -57,12 +66,12 @@ fn clock_port(flags: &[bool], root: Option<ClockRoot>) -> Option<ClockRoot>
 }
 
 // The clock port that the clock pin of an instance with these pins shows, itself or inverted.
-fn domain_of(design: &Design, flags: &[bool], wires: &[Wire]) -> Option<ClockRoot>
-    requires { AreLiveWires (length design.now.nets) wires.now }
-    ensures { shown_clock result ≡ logics.domain_at design.now (ports_by flags.now) (found_in role.Clock (map wired_at wires.now)) }
+fn domain_of(traced: Traced<'_>, wires: &[Wire]) -> Option<ClockRoot>
+    requires { IsTraced traced }
+    ensures { shown_clock result ≡ logics.domain_at traced.entry.design.now (ports_by traced.entry.flags.now) (found_in role.Clock (map wired_at wires.now)) }
 {
     match find(wires, Role::Clock) {
-        Some(source) => clock_port(flags, clock_of(design, source)),
+        Some(source) => clock_port(traced.flags, clock_of(traced, source)),
         None => None,
     }
 }
@@ -84,14 +93,14 @@ fn force_of(flags: &[bool], value: bool, root: Root) -> Option<Option<Acting>>
 }
 
 // The reset or set of a flip-flop with these pins.
-fn forcing(design: &Design, flags: &[bool], wires: &[Wire]) -> Option<Option<Acting>>
-    requires { AreLiveWires (length design.now.nets) wires.now }
-    ensures { option_map force_at result ≡ logics.forcing design.now (ports_by flags.now) (found_in role.Reset (map wired_at wires.now)) (found_in role.Preset (map wired_at wires.now)) }
+fn forcing(traced: Traced<'_>, wires: &[Wire]) -> Option<Option<Acting>>
+    requires { IsTraced traced }
+    ensures { option_map force_at result ≡ logics.forcing traced.entry.design.now (ports_by traced.entry.flags.now) (found_in role.Reset (map wired_at wires.now)) (found_in role.Preset (map wired_at wires.now)) }
 {
     match find(wires, Role::Reset) {
-        Some(reset) => force_of(flags, false, root_of(design, reset)),
+        Some(reset) => force_of(traced.flags, false, root_of(traced, reset)),
         None => match find(wires, Role::Preset) {
-            Some(preset) => force_of(flags, true, root_of(design, preset)),
+            Some(preset) => force_of(traced.flags, true, root_of(traced, preset)),
             None => Some(None),
         },
     }
@@ -139,12 +148,12 @@ fn is_flip_flop(kind: Kind) -> bool
 }
 
 // The flip-flop with these pins, if it is modelled.
-fn modelled(design: &Design, flags: &[bool], part: Part<'_>) -> Option<FlipFlop>
-    requires { AreLiveWires (length design.now.nets) part.wires.now }
-    ensures { option_map cell_of result ≡ modelled_in design.now (ports_by flags.now) part.entry.number.0 (map wired_at part.entry.wires.now) }
+fn modelled(traced: Traced<'_>, part: Part<'_>) -> Option<FlipFlop>
+    requires { IsTraced traced }
+    ensures { option_map cell_of result ≡ modelled_in traced.entry.design.now (ports_by traced.entry.flags.now) part.entry.number.0 (map wired_at part.entry.wires.now) }
 {
-    match domain_of(design, flags, part.wires) {
-        Some(clock) => match forcing(design, flags, part.wires) {
+    match domain_of(traced, part.wires) {
+        Some(clock) => match forcing(traced, part.wires) {
             Some(force) => Some(FlipFlop {
                 domain: clock.port,
                 falling: clock.inverted,
@@ -159,11 +168,11 @@ fn modelled(design: &Design, flags: &[bool], part: Part<'_>) -> Option<FlipFlop>
 }
 
 // The lock-up with these pins, if its clock shows a clock port.
-pub(crate) fn latch_of(design: &Design, flags: &[bool], part: Part<'_>) -> Option<Latch>
-    requires { AreLiveWires (length design.now.nets) part.wires.now }
-    ensures { latched result ≡ latch_in design.now (ports_by flags.now) part.entry.number.0 (map wired_at part.entry.wires.now) }
+pub(crate) fn latch_of(traced: Traced<'_>, part: Part<'_>) -> Option<Latch>
+    requires { IsTraced traced }
+    ensures { latched result ≡ latch_in traced.entry.design.now (ports_by traced.entry.flags.now) part.entry.number.0 (map wired_at part.entry.wires.now) }
 {
-    match domain_of(design, flags, part.wires) {
+    match domain_of(traced, part.wires) {
         Some(clock) => Some(Latch {
             domain: clock.port,
             input: data_in(part),
@@ -173,12 +182,12 @@ pub(crate) fn latch_of(design: &Design, flags: &[bool], part: Part<'_>) -> Optio
 }
 
 // The flip-flop that an instance is, if it is a modelled one.
-fn flip_flop(design: &Design, flags: &[bool], part: Part<'_>) -> Option<FlipFlop>
-    requires { AreLiveWires (length design.now.nets) part.wires.now }
-    ensures { option_map cell_of result ≡ (if takes_clock part.entry.kind then modelled_in design.now (ports_by flags.now) part.entry.number.0 (map wired_at part.entry.wires.now) else None) }
+fn flip_flop(traced: Traced<'_>, part: Part<'_>) -> Option<FlipFlop>
+    requires { IsTraced traced }
+    ensures { option_map cell_of result ≡ (if takes_clock part.entry.kind then modelled_in traced.entry.design.now (ports_by traced.entry.flags.now) part.entry.number.0 (map wired_at part.entry.wires.now) else None) }
 {
     if is_flip_flop(part.kind) {
-        modelled(design, flags, part)
+        modelled(traced, part)
     } else {
         None
     }
@@ -186,11 +195,11 @@ fn flip_flop(design: &Design, flags: &[bool], part: Part<'_>) -> Option<FlipFlop
 
 // The lock-up with these pins as what stores a bit, if its clock shows a clock port. A high one takes its bit at the
 // fall of that clock.
-fn locked(design: &Design, flags: &[bool], part: Part<'_>) -> Option<FlipFlop>
-    requires { AreLiveWires (length design.now.nets) part.wires.now }
-    ensures { option_map cell_of result ≡ lockup_in design.now (ports_by flags.now) part.entry.number.0 (map wired_at part.entry.wires.now) }
+fn locked(traced: Traced<'_>, part: Part<'_>) -> Option<FlipFlop>
+    requires { IsTraced traced }
+    ensures { option_map cell_of result ≡ lockup_in traced.entry.design.now (ports_by traced.entry.flags.now) part.entry.number.0 (map wired_at part.entry.wires.now) }
 {
-    match domain_of(design, flags, part.wires) {
+    match domain_of(traced, part.wires) {
         Some(clock) => {
             let high = clock.inverted;
             Some(FlipFlop {
@@ -206,33 +215,33 @@ fn locked(design: &Design, flags: &[bool], part: Part<'_>) -> Option<FlipFlop>
 }
 
 // The lock-up that an instance is, if it is one on a clock port.
-fn lock_up(design: &Design, flags: &[bool], part: Part<'_>) -> Option<FlipFlop>
-    requires { AreLiveWires (length design.now.nets) part.wires.now }
-    ensures { option_map cell_of result ≡ (if is_lockup part.entry.kind then lockup_in design.now (ports_by flags.now) part.entry.number.0 (map wired_at part.entry.wires.now) else None) }
+fn lock_up(traced: Traced<'_>, part: Part<'_>) -> Option<FlipFlop>
+    requires { IsTraced traced }
+    ensures { option_map cell_of result ≡ (if is_lockup part.entry.kind then lockup_in traced.entry.design.now (ports_by traced.entry.flags.now) part.entry.number.0 (map wired_at part.entry.wires.now) else None) }
 {
     match part.kind {
-        Kind::Lockup => locked(design, flags, part),
+        Kind::Lockup => locked(traced, part),
         _ => None,
     }
 }
 
 // What an instance stores a bit in, if it stores one.
-fn stored(design: &Design, flags: &[bool], part: Part<'_>) -> Option<FlipFlop>
-    requires { AreLiveWires (length design.now.nets) part.wires.now }
-    ensures { option_map cell_of result ≡ stored_in design.now (ports_by flags.now) part.entry.number.0 part.entry.kind (map wired_at part.entry.wires.now) }
+fn stored(traced: Traced<'_>, part: Part<'_>) -> Option<FlipFlop>
+    requires { IsTraced traced }
+    ensures { option_map cell_of result ≡ stored_in traced.entry.design.now (ports_by traced.entry.flags.now) part.entry.number.0 part.entry.kind (map wired_at part.entry.wires.now) }
 {
-    match flip_flop(design, flags, part) {
+    match flip_flop(traced, part) {
         Some(flop) => Some(flop),
-        None => lock_up(design, flags, part),
+        None => lock_up(traced, part),
     }
 }
 
 // What an instance stores a bit in; one that no net shows where it stores none.
-pub(crate) fn flop_at(design: &Design, flags: &[bool], part: Part<'_>) -> FlipFlop
-    requires { AreLiveWires (length design.now.nets) part.wires.now }
-    ensures { cell_of result ≡ logics.cell_or_none part.entry.number.0 (stored_in design.now (ports_by flags.now) part.entry.number.0 part.entry.kind (map wired_at part.entry.wires.now)) }
+pub(crate) fn flop_at(traced: Traced<'_>, part: Part<'_>) -> FlipFlop
+    requires { IsTraced traced }
+    ensures { cell_of result ≡ logics.cell_or_none part.entry.number.0 (stored_in traced.entry.design.now (ports_by traced.entry.flags.now) part.entry.number.0 part.entry.kind (map wired_at part.entry.wires.now)) }
 {
-    match stored(design, flags, part) {
+    match stored(traced, part) {
         Some(flop) => flop,
         None => FlipFlop {
             domain: NetId(0),
@@ -247,17 +256,16 @@ pub(crate) fn flop_at(design: &Design, flags: &[bool], part: Part<'_>) -> FlipFl
 // What a net takes its value from that is joined to an output pin of an instance.
 pub(crate) fn pin_op(
     alloc: Global,
-    design: &Design,
-    flags: &[bool],
+    traced: Traced<'_>,
     part: Part<'_>,
     inverted: bool,
 ) -> Result<Op, AllocError>
-    requires { AreLiveWires (length design.now.nets) part.wires.now }
-    ensures { IfOk result (λ op. meaning op ≡ meaning_in design.now (ports_by flags.now) part.entry.number.0 part.entry.kind inverted (map wired_at part.entry.wires.now)) }
+    requires { IsTraced traced }
+    ensures { IfOk result (λ op. meaning op ≡ meaning_in traced.entry.design.now (ports_by traced.entry.flags.now) part.entry.number.0 part.entry.kind inverted (map wired_at part.entry.wires.now)) }
 {
     match part.kind {
         Kind::Opaque => Ok(Op::Free),
-        Kind::Lockup => match domain_of(design, flags, part.wires) {
+        Kind::Lockup => match domain_of(traced, part.wires) {
             Some(clock) => {
                 let input = data_in(part);
                 Ok(Op::Lockup(part.number, clock.port, clock.inverted, input))
@@ -265,7 +273,7 @@ pub(crate) fn pin_op(
             None => Ok(Op::Free),
         },
         Kind::Dff | Kind::Dffr | Kind::Dffs | Kind::Sdff | Kind::Sdffr | Kind::Sdffs => {
-            match modelled(design, flags, part) {
+            match modelled(traced, part) {
                 Some(_) => Ok(Op::Flop(part.number, inverted)),
                 None => Ok(Op::Free),
             }

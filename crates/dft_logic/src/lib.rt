@@ -29,7 +29,7 @@ pub use lists::{has_row, read_list, settle_list, settle_strobe};
 pub use marks::{lower, mark_entries, mark_forces, mark_nets};
 pub use needs::{list_marked, mark_needed};
 pub use origins::find_origins;
-pub use settling::{Pulse, View, differ, flag_at, op_value, settle, strobe_view, value_at};
+pub use settling::{Pulse, View, differ, flag_at, op_value, settle, strobe_view, takes, value_at};
 pub use shown::{Shown, show_all};
 pub use tables::list_of;
 pub use takings::{Taking, list_takings, take_all};

@@ -93,8 +93,8 @@ pub(crate) fn domain_at(flops: &[FlipFlop], instance: u32) -> NetId
     }
 }
 
-// Whether a cell takes its bit where clocks rise, or where they fall.
-pub(crate) fn takes(rising: bool, falling: bool) -> bool
+/// Whether a cell takes its bit where clocks rise, or where they fall.
+pub fn takes(rising: bool, falling: bool) -> bool
     ensures { result ≡ runs.takes rising falling }
 {
     if rising { !falling } else { falling }

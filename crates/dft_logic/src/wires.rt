@@ -1,11 +1,9 @@
 //! The pins of an instance: what each is for, and what it takes its value from.
 
-ghost use Rattle.std.specs.Prelude.{◌≡◌, ℕ, length, map, option_map, IfOk};
-ghost use Rattle.std.specs.Option.{ForSome};
+ghost use Rattle.std.specs.Prelude.{◌≡◌, length, map, option_map, IfOk};
 ghost use Rattle.dft_netlist.specs.Drivers.{shape_of, source_of, connections_of};
-ghost use Rattle.dft_netlist.specs.Sound.{AreLive};
 ghost use Rattle.dft_logic.specs.Circuit.{source_at};
-ghost use Rattle.dft_logic.specs.Compiling.{wired_at, wired_by, inputs_in, found_in, IsLiveOperand, AreLiveWires};
+ghost use Rattle.dft_logic.specs.Compiling.{wired_at, wired_by, inputs_in, found_in};
 
 use crate::circuit::{Operand, Operands};
 use dft_cells::{Cell, Role};
@@ -38,8 +36,7 @@ pub(crate) fn wires(
     instance: &Instance,
 ) -> Result<Vec<Wire>, AllocError>
     requires { length instance.now.pins ≡ length (shape_of library.now instance.now.cell).roles }
-    ensures wired { IfOk result (λ wires. map wired_at wires.items ≡ map (wired_by number.0) (connections_of library.now instance.now)) }
-    ensures live { IfOk result (λ wires. (count : ℕ) → AreLive count instance.now.pins → AreLiveWires count wires.items) }
+    ensures { IfOk result (λ wires. map wired_at wires.items ≡ map (wired_by number.0) (connections_of library.now instance.now)) }
 {
     let mut wires = Vec::new(alloc);
     for (pin, signal) in instance.pins.as_slice().iter().enumerate() {
@@ -53,8 +50,7 @@ pub(crate) fn wires(
 
 // What the first pin of a role takes its value from.
 pub(crate) fn find(wires: &[Wire], role: Role) -> Option<Operand>
-    ensures found { option_map source_at result ≡ found_in role (map wired_at wires.now) }
-    ensures live { (count : ℕ) → AreLiveWires count wires.now → ForSome result (IsLiveOperand count) }
+    ensures { option_map source_at result ≡ found_in role (map wired_at wires.now) }
 {
     for wire in wires {
         if is_role(role, wire.role) {

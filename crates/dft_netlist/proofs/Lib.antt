@@ -27,6 +27,8 @@ pub mod ClockWalks
 pub mod GateDrivers
 pub mod LockupPins
 pub mod ClockLemmas
+pub mod RootTables
+pub mod ClockTables
 pub mod NumberLemmas
 pub mod BitLemmas
 pub mod RankLemmas

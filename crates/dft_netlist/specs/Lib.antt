@@ -3,6 +3,7 @@ pub mod Drivers
 pub mod Traces
 pub mod ClockRoots
 pub mod ClockSteps
+pub mod ClockTables
 pub mod Logic
 pub mod Settled
 pub mod Runs
@@ -16,6 +17,7 @@ pub mod Finishing
 pub mod Finding
 pub mod Connections
 pub mod Roots
+pub mod RootTables
 pub mod NameTables
 pub mod NameStoreShown
 pub mod NameTableShown

@@ -53,7 +53,7 @@ impl Design {
     }
 
     // One step back from this net.
-    fn clock_back(&self, net: NetId) -> ClockStep
+    pub(crate) fn clock_back(&self, net: NetId) -> ClockStep
         requires { net.0 < length self.now.nets }
         ensures step { TakesClockStep self.now net.0 result }
         ensures live { IsLiveClockStep (length self.now.nets) result }
@@ -92,7 +92,7 @@ fn turn_of(kind: Kind) -> Option<bool>
 }
 
 // The bit, or its inverse where it is turned.
-fn turned(turns: bool, inverted: bool) -> bool
+pub(crate) fn turned(turns: bool, inverted: bool) -> bool
     ensures { result ≡ roots.turned turns inverted }
 {
     if turns { !inverted } else { inverted }

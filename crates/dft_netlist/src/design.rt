@@ -153,7 +153,7 @@ impl Design {
     }
 
     // One step back from this net.
-    fn step_back(&self, net: NetId) -> Step
+    pub(crate) fn step_back(&self, net: NetId) -> Step
         requires { net.0 < length self.now.nets }
         ensures step { TakesStep self.now net.0 result }
         ensures live { IsLiveStep (length self.now.nets) result }

@@ -25,6 +25,7 @@ mod pins;
 mod port;
 mod progress;
 mod root;
+mod tables;
 
 pub use bits::index_at;
 pub use builder::DesignBuilder;
@@ -44,3 +45,4 @@ pub use net_driver::NetDriver;
 pub use pins::PinSignals;
 pub use port::{NetIds, Port};
 pub use root::Root;
+pub use tables::{clock_in, root_in};

@@ -6,7 +6,7 @@ ghost use Rattle.dft_report_reader.specs.Saying as saying;
 ghost use Rattle.dft_report_reader.specs.Words as texts;
 ghost use Rattle.dft_report_reader.specs.Shown.{SaysNames, Takes, owing_of, reading_of, said_by};
 
-use crate::heard::{Heard, Stand, heard_of};
+use crate::heard::{Heard, ScanPlace, heard_of};
 use crate::variables::variables_of;
 use crate::words::words_of;
 use dft_base::{Listed, Name, Rule};
@@ -220,7 +220,7 @@ impl Draft {
         alloc: Global,
         name: &[u8],
         domain: &[u8],
-        stand: Stand,
+        stand: ScanPlace,
     ) -> Result<bool, AllocError>
         requires name { IsName name.now }
         requires domain { IsName domain.now }

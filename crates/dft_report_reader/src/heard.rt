@@ -14,7 +14,7 @@ use dft_report::{Header, Load};
 
 // Where a scanned flip-flop stands, and whether it takes its bits at falls.
 #[derive(Clone, Copy, Debug)]
-pub(crate) struct Stand {
+pub(crate) struct ScanPlace {
     pub(crate) chain: u32,
     pub(crate) place: u32,
     pub(crate) falling: bool,
@@ -32,7 +32,7 @@ pub(crate) enum Heard<'a> {
     Scanned {
         name: &'a [u8],
         domain: &'a [u8],
-        stand: Stand,
+        stand: ScanPlace,
     },
     Unscanned {
         name: &'a [u8],
@@ -212,7 +212,7 @@ fn scanned_with<'a>(
 {
     let chain = number_of(chain)?;
     let place = number_of(place)?;
-    let stand = Stand {
+    let stand = ScanPlace {
         chain,
         place,
         falling,

@@ -1,5 +1,3 @@
-pub mod RootLemmas
-pub mod ClockTables
 pub mod FindLemmas
 pub mod JudgeLemmas
 pub mod CheckLemmas

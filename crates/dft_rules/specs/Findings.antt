@@ -16,8 +16,8 @@ use Rattle.dft_rules.specs.declared.findings.Findings.{Findings}
 use Rattle.dft_rules.specs.Refusals.{is_data_of}
 use Rattle.dft_netlist.specs.Connections.{input_net}
 use Rattle.dft_rules.specs.Rules.{is_kept}
-use Rattle.dft_rules.specs.Clocks.{AreClocks, clock_in}
-use Rattle.dft_rules.specs.Roots.{AreRoots, root_in}
+use Rattle.dft_netlist.specs.ClockTables.{AreClocks, clock_in}
+use Rattle.dft_netlist.specs.RootTables.{AreRoots, root_in}
 
 -- these are the nets that the names stand for
 abbrev pub AreNets : Netlist → (names : List Text) → List NetId → Type 0

@@ -4,7 +4,7 @@ ghost use Rattle.std.specs.Prelude.{◌≡◌, ◌≤◌, ◌<◌, ◌^◌, ◌|
 ghost use Rattle.std.specs.List.{list_any, range_with_len};
 ghost use Rattle.dft_netlist.specs.Drivers.{connections_of};
 ghost use Rattle.dft_netlist.specs.Sound.{IsInstance, IsLive};
-ghost use Rattle.dft_rules.specs.Clocks.{AreClocks};
+ghost use Rattle.dft_netlist.specs.ClockTables.{AreClocks};
 ghost use Rattle.dft_rules.specs.Findings.{AreNets, AreUsed, is_marked_clock};
 ghost use Rattle.dft_rules.specs.Refusals.{IsRefusal, clock_as_data, is_data_of, is_joined_to, takes};
 

@@ -8,8 +8,8 @@ use thiserror::Error;
 /// Why a design cannot be scanned as a configuration wants.
 #[derive(Debug, Error, Drop)]
 pub enum RuleError {
-    /// A net that traces to a configured domain's port is joined to an input pin that is neither a buffer's, nor a clock
-    /// pin, nor a pin of an opaque cell.
+    /// A net that shows a configured domain's port, or its inverse, is joined to an input pin that is none of a buffer's or an
+    /// inverter's, nor a clock pin, nor a pin of an opaque cell.
     #[error("a clock is used as data")]
     ClockAsData { net: Name },
     /// A scan cell is there already.

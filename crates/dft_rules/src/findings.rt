@@ -7,11 +7,9 @@ ghost use Rattle.dft_rules.specs.Refusals.{IsRefusal, unknown_cell, unknown_port
 ghost use Rattle.dft_rules.specs.Rules as spec;
 
 use crate::cells::may_be_scanned;
-use crate::clock_roots::clock_in;
 use crate::error::RuleError;
-use crate::roots::root_at;
 use dft_base::Name;
-use dft_netlist::{ClockRoot, Design, InstanceId, NetId, Root, Signal};
+use dft_netlist::{ClockRoot, Design, InstanceId, NetId, Root, Signal, clock_in, root_in};
 use std::alloc::{AllocError, Global};
 
 // What is looked up once, before flip-flops are judged.
@@ -129,9 +127,9 @@ pub(crate) fn are_held(
     ensures { result ≡ at.are_held_by resets.now roots.now reset preset }
 {
     match reset {
-        Some(signal) => is_held(resets, root_at(roots, signal)),
+        Some(signal) => is_held(resets, root_in(roots, signal)),
         None => match preset {
-            Some(signal) => is_held(resets, root_at(roots, signal)),
+            Some(signal) => is_held(resets, root_in(roots, signal)),
             None => true,
         },
     }

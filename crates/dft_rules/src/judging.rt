@@ -8,12 +8,10 @@ ghost use Rattle.dft_rules.specs.Rules.{judged, judged_by, judgements};
 
 use crate::cells::{has_scan_cell, may_be_scanned};
 use crate::checks::{check_absent, check_count, check_ports};
-use crate::clock_roots::find_clocks;
 use crate::clocks::check_clocks;
 use crate::error::RuleError;
 use crate::findings::{Findings, are_held, clock_at, input_nets, kept_cells};
 use crate::judged::Judged;
-use crate::roots::find_roots;
 use crate::verdicts::Verdicts;
 use dft_base::Rule;
 use dft_cells::Role;
@@ -48,10 +46,10 @@ fn look_up(alloc: Global, design: &Design, config: &Config) -> Result<Findings, 
     let resets = input_nets(alloc, design, config.resets())?;
     let kept = kept_cells(alloc, design, config.keep())?;
     check_absent(alloc, design.library().cells(), design.instances())?;
-    let clocks = find_clocks(alloc, design)?;
+    let clocks = design.clocks(alloc)?;
     check_clocks(alloc, design, &domains, &clocks)?;
     check_ports(alloc, design.ports())?;
-    let roots = find_roots(alloc, design)?;
+    let roots = design.roots(alloc)?;
     Ok(Findings {
         domains,
         resets,

@@ -4,14 +4,12 @@
 
 mod cells;
 mod checks;
-mod clock_roots;
 mod clocks;
 mod error;
 mod findings;
 mod judged;
 mod judging;
 mod laws;
-mod roots;
 mod verdicts;
 
 pub use dft_base::Rule;

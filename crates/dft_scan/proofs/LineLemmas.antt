@@ -20,7 +20,7 @@ use Rattle.dft_rules.specs.declared.judged.Judged.{Judged}
 use Rattle.dft_rules.specs.declared.judged.Judged.TheVariants.{Scanned, Unscanned}
 use Rattle.dft_base.specs.declared.rule.Rule.{Rule}
 use Rattle.dft_rules.specs.Rules.{judged, judged_by, judgements, may_be_scanned, clocked_by, are_held_at, scan_cell_of, is_kept}
-use Rattle.dft_stitch.specs.Chains.{clock_of, domain_in, is_falling}
+use Rattle.dft_stitch.specs.Chains.{clock_in, clock_of, domain_in, is_falling}
 use Rattle.dft_stitch.proofs.OnceLemmas.{domain_within}
 use Rattle.dft_scan_frame.specs.Statements.{IsReady}
 use Rattle.dft_scan.specs.Reports.{domain_name, name_of, scanned_as, unscanned_as}
@@ -82,7 +82,7 @@ domain_named n config i d f h =
     let less = is_there n i (is_flip_flop n config i (Scanned d f) h) in
     let verdict : get_or (judgements n config) i None ≡ Some (Scanned d f) = get_or-map-range_with_len (judged n config) 0 (length n.instances) i i None less (omega arith) ∙ h in
     let name : slice_get config.domains d ≡ Some (get_or config.domains d []) = slice_get-get_or config.domains d [] (domain_within n config i d f h) in
-    let is : domain_name config (judgements n config) (record { 0 = i }) ≡ Some (get_or config.domains d []) = ap (λ (o : Option Judged). option_and_then (slice_get config.domains) (domain_in o)) verdict ∙ name in
+    let is : domain_name config (judgements n config) (record { 0 = i }) ≡ Some (get_or config.domains d []) = ap (λ (o : Option Judged). option_and_then (slice_get config.domains) (domain_in (clock_in o))) verdict ∙ name in
     ap is_some is
 
 -- ---- lines

@@ -12,7 +12,7 @@ use Rattle.dft_rules.specs.declared.judged.Judged.{Judged}
 use Rattle.dft_rules.specs.declared.judged.Judged.TheVariants.{Scanned, Unscanned}
 use Rattle.dft_rules.specs.Rules.{judgements}
 use Rattle.dft_rules.specs.Refusals.{is_scanned}
-use Rattle.dft_stitch.specs.Chains.{clock_of, domain_of, is_falling, plan_of}
+use Rattle.dft_stitch.specs.Chains.{clock_of, domain_in, is_falling, plan_of}
 pub use Rattle.dft_stitch.specs.Plans.{lengths_of}
 use Rattle.dft_report.specs.declared.report.ScannedLine.{ScannedLine}
 use Rattle.dft_report.specs.declared.report.UnscannedLine.{UnscannedLine}
@@ -26,7 +26,7 @@ name_of n i = option_and_then instance_name (slice_get n.instances i)
 
 -- the name of the port of the domain in which a cell is scanned
 abbrev pub domain_name : Config → List (Option Judged) → InstanceId → Option Text
-domain_name config verdicts cell = option_and_then (slice_get config.domains) (domain_of verdicts cell)
+domain_name config verdicts cell = option_and_then (slice_get config.domains) (domain_in (clock_of verdicts cell))
 
 -- the line of a cell, by its edge, its name and its domain's
 abbrev pub scanned_as : (chain place : ℕ) → (falling : Bool) → (name domain : Option Text) → Option ScannedLine

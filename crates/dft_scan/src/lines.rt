@@ -1,6 +1,6 @@
 //! The lines of a report: where each scanned cell stands, and why the other flip-flops are not scanned.
 
-ghost use Rattle.std.specs.Prelude.{◌≡◌, Some, IfOk, slice_get};
+ghost use Rattle.std.specs.Prelude.{◌≡◌, Some, IfOk, option_and_then, slice_get};
 ghost use Rattle.dft_scan.specs.Reports as spec;
 ghost use Rattle.dft_stitch.specs.Chains as chains;
 
@@ -9,7 +9,7 @@ use dft_config::Config;
 use dft_netlist::{Design, Instance, InstanceId};
 use dft_report::{ScannedLine, UnscannedLine};
 use dft_rules::{Judged, Rule, Verdicts};
-use dft_stitch::{clock_of, domain_of};
+use dft_stitch::{CellClock, clock_of};
 use std::alloc::{AllocError, Global};
 
 // The line of the cell at a place of a chain.
@@ -25,16 +25,16 @@ pub(crate) fn scanned_line(
     ensures { IfOk result (λ line. line ≡ spec.scanned_line design.now config.now verdicts.now chain place cell) }
 {
     let name = name_of(alloc, design, cell)?;
-    let domain = domain_name(alloc, config, verdicts, cell)?;
-    let falling = is_falling(verdicts, cell);
-    Ok(scanned_as(chain, place, falling, name, domain))
+    let clock = clock_of(verdicts, cell);
+    let domain = domain_name(alloc, config, clock)?;
+    Ok(scanned_as(chain, place, is_falling(clock), name, domain))
 }
 
-// Whether the cell takes its bits at falls.
-fn is_falling(verdicts: &Verdicts, cell: InstanceId) -> bool
-    ensures { result ≡ chains.is_falling (chains.clock_of verdicts.now cell) }
+// Whether a cell with this clock takes its bits at falls.
+fn is_falling(clock: Option<CellClock>) -> bool
+    ensures { result ≡ chains.is_falling clock }
 {
-    match clock_of(verdicts, cell) {
+    match clock {
         Some(clock) => clock.falling,
         None => false,
     }
@@ -79,17 +79,16 @@ fn copied(alloc: Global, name: &Option<Name>) -> Result<Option<Name>, AllocError
     }
 }
 
-// The name of the port of the domain in which a cell is scanned.
+// The name of the port of a clock's domain.
 fn domain_name(
     alloc: Global,
     config: &Config,
-    verdicts: &Verdicts,
-    cell: InstanceId,
+    clock: Option<CellClock>,
 ) -> Result<Option<Name>, AllocError>
-    ensures { IfOk result (λ name. name ≡ spec.domain_name config.now verdicts.now cell) }
+    ensures { IfOk result (λ name. name ≡ option_and_then (slice_get config.now.domains) (chains.domain_in clock)) }
 {
-    match domain_of(verdicts, cell) {
-        Some(domain) => name_at(alloc, config.domains(), domain),
+    match clock {
+        Some(clock) => name_at(alloc, config.domains(), clock.domain),
         None => Ok(None),
     }
 }

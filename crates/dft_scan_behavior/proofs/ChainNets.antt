@@ -17,7 +17,7 @@ use Rattle.dft_parts.specs.Recipes.{Start, Recipe, pure, ◌>>=◌, ◌>>◌, be
 use Rattle.dft_parts.specs.Sums.{a_driving_gate}
 use Rattle.dft_scan_frame.specs.Moves.{Gap}
 use Rattle.dft_scan_frame.specs.Pins.{number_of, domain_in}
-use Rattle.dft_scan_hardware.specs.Chained.{scan_roles, a_numbered_pin, a_scan_in, a_lockup_clock, a_lockup_behind, a_crossing, crossing_in, a_step, a_chain, a_late_chain, a_fed_chain}
+use Rattle.dft_scan_hardware.specs.Chained.{scan_roles, a_numbered_pin, a_scan_in, a_lockup_clock, a_lockup_behind, a_crossing, crossing_in, a_step, a_chain, a_latched_chain, a_fed_chain}
 use Rattle.dft_scan_behavior.proofs.FirstNets.{first_at, Found, Fits, part_fits, part_found, FitsIn, FoundIn, fits_bind, found_bind, found_then, fits_each, found_each}
 use Rattle.dft_scan_behavior.proofs.Lockups.{LockupStands, IsMadeClock, range_is}
 
@@ -174,17 +174,17 @@ module _ (n w : Netlist) (config : Config) (gap : Gap) (i p : ℕ) (P : NetId �
 
     -- ---- behind a phase sum
 
-    late_found : (clock phase : NetId) → ((entry : NetId) → IsFed w false clock phase entry → FoundIn w i p P (a_chain n config gap lockups chain cells outputs entry)) → FoundIn w i p P (a_late_chain n config gap lockups chain cells outputs clock phase)
-    unfolding a_late_chain
-    late_found clock phase h at k lib has =
+    latched_found : (clock phase : NetId) → ((entry : NetId) → IsFed w false clock phase entry → FoundIn w i p P (a_chain n config gap lockups chain cells outputs entry)) → FoundIn w i p P (a_latched_chain n config gap lockups chain cells outputs clock phase)
+    unfolding a_latched_chain
+    latched_found clock phase h at k lib has =
         let entry : NetId = record { 0 = at.next } in
         let a = behind at (a_net at).parts in
         let b = behind a (a_lockup clock phase entry a).parts in
         h entry (k, at.library, lib, has.0) b (suc k) lib has.1
 
-    late_fits : (clock phase : NetId) → ((entry : NetId) → FitsIn w i p P (a_chain n config gap lockups chain cells outputs entry)) → FitsIn w i p P (a_late_chain n config gap lockups chain cells outputs clock phase)
-    unfolding a_late_chain
-    late_fits clock phase h at k lib has =
+    latched_fits : (clock phase : NetId) → ((entry : NetId) → FitsIn w i p P (a_chain n config gap lockups chain cells outputs entry)) → FitsIn w i p P (a_latched_chain n config gap lockups chain cells outputs clock phase)
+    unfolding a_latched_chain
+    latched_fits clock phase h at k lib has =
         let entry : NetId = record { 0 = at.next } in
         let a = behind at (a_net at).parts in
         let b = behind a (a_lockup clock phase entry a).parts in
@@ -192,8 +192,8 @@ module _ (n w : Netlist) (config : Config) (gap : Gap) (i p : ℕ) (P : NetId �
 
     pub fed_found : (falling : Bool) (clock phase : NetId) → ((entry : NetId) → IsFed w falling clock phase entry → FoundIn w i p P (a_chain n config gap lockups chain cells outputs entry)) → FoundIn w i p P (a_fed_chain falling n config gap lockups chain cells outputs clock phase)
     fed_found true clock phase h = h phase refl
-    fed_found false clock phase h = late_found clock phase h
+    fed_found false clock phase h = latched_found clock phase h
 
     pub fed_fits : (falling : Bool) (clock phase : NetId) → ((entry : NetId) → FitsIn w i p P (a_chain n config gap lockups chain cells outputs entry)) → FitsIn w i p P (a_fed_chain falling n config gap lockups chain cells outputs clock phase)
     fed_fits true clock phase h = h phase
-    fed_fits false clock phase h = late_fits clock phase h
+    fed_fits false clock phase h = latched_fits clock phase h

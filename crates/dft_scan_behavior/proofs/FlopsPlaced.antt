@@ -34,7 +34,7 @@ use Rattle.dft_compact.proofs.MaskFacts.{segment_count, cut_count}
 use Rattle.dft_edt.proofs.Steps.{all_segments}
 use Rattle.dft_scan_frame.specs.Moves.{Gap}
 use Rattle.dft_scan_frame.specs.Pins.{domain_in, own_output}
-use Rattle.dft_scan_hardware.specs.Chained.{a_numbered_pin, a_role_pin, a_scan_in, an_open_output, own_or_made, an_output, a_row, rows, a_lockup_clock, a_lockup_behind, a_crossing, crossing_in, a_step, a_chain, a_late_chain, a_fed_chain}
+use Rattle.dft_scan_hardware.specs.Chained.{a_numbered_pin, a_role_pin, a_scan_in, an_open_output, own_or_made, an_output, a_row, rows, a_lockup_clock, a_lockup_behind, a_crossing, crossing_in, a_step, a_chain, a_latched_chain, a_fed_chain}
 use Rattle.dft_scan_behavior.proofs.FlopsListed.{flops_in, flops-append, Quiet, quiet_bind, quiet_pure, quiet_each, quiet_collect, quiet_net, quiet_gate, quiet_driving, quiet_lockup, quiet_sum}
 
 -- ---- one flip-flop
@@ -276,12 +276,12 @@ module _ (library : List Cell) (well : IsWellFormed library) (n : Netlist) where
       (quiet_each library (crossing_in n config gap chain cells outputs) lockups (λ l. if_quiet (l.chain == chain) (a_crossing n config gap cells outputs l) (crossing_quiet config gap cells outputs l)))
       (λ _. quiet_each library (a_step n cells outputs) (range_with_len 0 (length cells)) (λ place. scan_in_quiet (slice_get cells (place + 1)) (net_at outputs place)))) at i same
 
-  late_quiet : (config : Config) (gap : Gap) (lockups : List LockupPlace) (chain : ℕ) (cells : List InstanceId) (outputs : List NetId) (clock phase : NetId) → Quiet library (a_late_chain n config gap lockups chain cells outputs clock phase)
-  unfolding a_late_chain
-  late_quiet config gap lockups chain cells outputs clock phase at i same =
+  latched_quiet : (config : Config) (gap : Gap) (lockups : List LockupPlace) (chain : ℕ) (cells : List InstanceId) (outputs : List NetId) (clock phase : NetId) → Quiet library (a_latched_chain n config gap lockups chain cells outputs clock phase)
+  unfolding a_latched_chain
+  latched_quiet config gap lockups chain cells outputs clock phase at i same =
       quiet_bind library a_net (λ entry. a_lockup clock phase entry >> a_chain n config gap lockups chain cells outputs entry) (quiet_net library)
       (λ entry. quiet_bind library (a_lockup clock phase entry) (λ _. a_chain n config gap lockups chain cells outputs entry) (quiet_lockup library clock phase entry well) (λ _. chain_quiet config gap lockups chain cells outputs entry)) at i same
 
   pub fed_quiet : (falling : Bool) (config : Config) (gap : Gap) (lockups : List LockupPlace) (chain : ℕ) (cells : List InstanceId) (outputs : List NetId) (clock phase : NetId) → Quiet library (a_fed_chain falling n config gap lockups chain cells outputs clock phase)
   fed_quiet true config gap lockups chain cells outputs clock phase = chain_quiet config gap lockups chain cells outputs phase
-  fed_quiet false config gap lockups chain cells outputs clock phase = late_quiet config gap lockups chain cells outputs clock phase
+  fed_quiet false config gap lockups chain cells outputs clock phase = latched_quiet config gap lockups chain cells outputs clock phase

@@ -1,5 +1,5 @@
 -- What one vector does to the compression hardware of a scanned netlist of style Edt (Rajski and others, 2004).
-use Rattle.std.specs.Prelude.{ℕ, zero, suc, ◌-◌, ◌<◌, ◌≡◌, ◌&&◌, Bool, true, false, not, List, [], length, map, get_or, Some}
+use Rattle.std.specs.Prelude.{ℕ, zero, suc, ◌-◌, ◌<◌, ◌≡◌, ◌&&◌, Bool, true, false, not, List, [], length, map, get_or, Some, if◌then◌else◌}
 use Rattle.dft_base.specs.declared.tri.Tri.{Tri}
 use Rattle.dft_base.specs.declared.tri.Tri.TheVariants.{Zero, One}
 use Rattle.dft_base.specs.Tri.{known}
@@ -49,17 +49,16 @@ IsShift n config x = IsEdtShift (ports_in Edt n config) (chain_nets Edt n config
 
 -- ---- in every run
 
--- What a shift vector leaves in the cells, whatever its channels carry: the first cell of a chain, where it is rising, has the chain's phase
--- sum of the stages before, each other cell what the one before it had.
+-- What a shift vector leaves in the cells, whatever its channels carry: the first cell of a chain has the chain's phase sum, of the stages
+-- before the vector where it is rising and of those after it where it is falling; each other cell has what the one before it had.
 pub record AreShifted (n : Netlist) (config : Config) (old new : ℕ → Bool) : Type 0 where
-  pub firsts : (chain : ℕ) (cell : InstanceId) → cell_at (plan_of n config).chains chain zero ≡ Some cell → falling_head (plan_of n config) chain ≡ false → new cell.0 ≡ phase_sum config.ring chain (λ k. old ((edt_hardware n config).stage k))
+  pub firsts : (chain : ℕ) (cell : InstanceId) → cell_at (plan_of n config).chains chain zero ≡ Some cell →
+      new cell.0 ≡ phase_sum config.ring chain (λ k. (if falling_head (plan_of n config) chain then new else old) ((edt_hardware n config).stage k))
   pub others : (chain place : ℕ) (cell next : InstanceId) → cell_at (plan_of n config).chains chain place ≡ Some cell → cell_at (plan_of n config).chains chain (suc place) ≡ Some next → new next.0 ≡ old cell.0
 
--- And where its channels carry a row of bits: each stage of the ring has its step from the stages before, and the first cell of a chain,
--- where it is falling, the chain's phase sum of the stages after.
-pub record AreStepped (n : Netlist) (config : Config) (row old new : ℕ → Bool) : Type 0 where
-  pub stages : (i : ℕ) → i < config.ring.stages → new ((edt_hardware n config).stage i) ≡ step config.ring row (λ k. old ((edt_hardware n config).stage k)) i
-  pub firsts : (chain : ℕ) (cell : InstanceId) → cell_at (plan_of n config).chains chain zero ≡ Some cell → falling_head (plan_of n config) chain ≡ true → new cell.0 ≡ phase_sum config.ring chain (λ k. new ((edt_hardware n config).stage k))
+-- And where its channels carry a row of bits each stage of the ring has its step from the stages before.
+abbrev pub AreStepped : Netlist → Config → (row old new : ℕ → Bool) → Type 0
+AreStepped n config row old new = (i : ℕ) → i < config.ring.stages → new ((edt_hardware n config).stage i) ≡ step config.ring row (λ k. old ((edt_hardware n config).stage k)) i
 
 -- each mask bit has what the one before it in its segment had
 abbrev pub AreMoved : Netlist → Config → (old new : ℕ → Bool) → Type 0

@@ -17,7 +17,7 @@ use Rattle.dft_parts.specs.Parts.{Part}
 use Rattle.dft_parts.specs.Recipes.{Start, Recipe, pure, nets_in, behind, each, net_at, a_net, a_lockup}
 use Rattle.dft_scan_frame.specs.Moves.{Gap, moved}
 use Rattle.dft_scan_frame.specs.Pins.{domain_in, number_of, own_output}
-use Rattle.dft_scan_hardware.specs.Chained.{scan_roles, a_numbered_pin, a_role_pin, a_scan_in, an_open_output, own_or_made, an_output, a_row, rows, a_lockup_clock, a_lockup_behind, a_crossing, crossing_in, a_step, a_chain, a_late_chain, a_fed_chain}
+use Rattle.dft_scan_hardware.specs.Chained.{scan_roles, a_numbered_pin, a_role_pin, a_scan_in, an_open_output, own_or_made, an_output, a_row, rows, a_lockup_clock, a_lockup_behind, a_crossing, crossing_in, a_step, a_chain, a_latched_chain, a_fed_chain}
 use Rattle.dft_scan_equivalence.proofs.Claims.{claimed, IsFlopIn}
 use Rattle.dft_scan_equivalence.proofs.Goods.{Setting, IsBelow, AreBelow, made_below, none_below, below_more, below_at, none, one, IsGood, good_nil, good_both, good_as, good_net, good_lockup, good_pin, good_input, good_after, good_end}
 use Rattle.dft_scan_equivalence.proofs.GoodSums.{Gives, Collected, gate_gives, collect_good}
@@ -192,10 +192,10 @@ chain_good n w config gap rank base at lockups chain cells outputs entry s from 
     (each_none (a_step n cells outputs) w rank (λ (_ : ℕ). Unit {0}) b (range_with_len 0 (length cells)) (any (range_with_len 0 (length cells)))
     (λ place d _ lib past. scan_in_good n w rank d (slice_get cells (place + 1)) (net_at outputs place) (cell_of n w cells (place + 1) are))))
 
-pub late_chain_good : (n w : Netlist) (config : Config) (gap : Gap) (rank : ℕ → ℕ) (base : ℕ) (at : Start) (lockups : List LockupPlace) (chain : ℕ) (cells : List InstanceId) (outputs : List NetId) (clock phase : NetId) → ChainSetting n w config gap rank base →
-    (from : base ≤ at.next) → (same : at.library ≡ w.library) → (are : AllByRecursion (IsScanCell n w) cells) → (below : AreBelow rank at.next outputs) → (clocked : IsBelow rank at.next clock) → (phased : IsBelow rank at.next phase) → IsGood w rank at (a_late_chain n config gap lockups chain cells outputs clock phase at).parts none none
-unfolding a_late_chain
-late_chain_good n w config gap rank base at lockups chain cells outputs clock phase s from same are below clocked phased =
+pub latched_chain_good : (n w : Netlist) (config : Config) (gap : Gap) (rank : ℕ → ℕ) (base : ℕ) (at : Start) (lockups : List LockupPlace) (chain : ℕ) (cells : List InstanceId) (outputs : List NetId) (clock phase : NetId) → ChainSetting n w config gap rank base →
+    (from : base ≤ at.next) → (same : at.library ≡ w.library) → (are : AllByRecursion (IsScanCell n w) cells) → (below : AreBelow rank at.next outputs) → (clocked : IsBelow rank at.next clock) → (phased : IsBelow rank at.next phase) → IsGood w rank at (a_latched_chain n config gap lockups chain cells outputs clock phase at).parts none none
+unfolding a_latched_chain
+latched_chain_good n w config gap rank base at lockups chain cells outputs clock phase s from same are below clocked phased =
     let entry : NetId = record { 0 = at.next } in
     let first = (a_net at).parts in
     let a = behind at first in
@@ -212,4 +212,4 @@ late_chain_good n w config gap rank base at lockups chain cells outputs clock ph
 pub fed_chain_good : (falling : Bool) (n w : Netlist) (config : Config) (gap : Gap) (rank : ℕ → ℕ) (base : ℕ) (at : Start) (lockups : List LockupPlace) (chain : ℕ) (cells : List InstanceId) (outputs : List NetId) (clock phase : NetId) → ChainSetting n w config gap rank base →
     base ≤ at.next → at.library ≡ w.library → AllByRecursion (IsScanCell n w) cells → AreBelow rank at.next outputs → IsBelow rank at.next clock → IsBelow rank at.next phase → IsGood w rank at (a_fed_chain falling n config gap lockups chain cells outputs clock phase at).parts none none
 fed_chain_good true n w config gap rank base at lockups chain cells outputs clock phase s from same are below clocked phased = chain_good n w config gap rank base at lockups chain cells outputs phase s from same are below
-fed_chain_good false n w config gap rank base at lockups chain cells outputs clock phase s from same are below clocked phased = late_chain_good n w config gap rank base at lockups chain cells outputs clock phase s from same are below clocked phased
+fed_chain_good false n w config gap rank base at lockups chain cells outputs clock phase s from same are below clocked phased = latched_chain_good n w config gap rank base at lockups chain cells outputs clock phase s from same are below clocked phased

@@ -26,7 +26,7 @@ use Rattle.dft_scan_frame.specs.Moves.{Gap, moved}
 use Rattle.dft_scan_frame.specs.Pins.{domain_in, number_of, own_output}
 use Rattle.dft_scan_hardware.specs.declared.style.Style.{Style}
 use Rattle.dft_scan_hardware.specs.declared.style.Style.TheVariants.{Plain, Edt}
-use Rattle.dft_scan_hardware.specs.Chained.{scan_roles, a_numbered_pin, a_role_pin, a_scan_in, an_open_output, own_or_made, an_output, a_row, rows, a_lockup_clock, a_lockup_behind, a_crossing, crossing_in, a_step, a_chain, a_late_chain, a_fed_chain, cells_at, row_at, last_net}
+use Rattle.dft_scan_hardware.specs.Chained.{scan_roles, a_numbered_pin, a_role_pin, a_scan_in, an_open_output, own_or_made, an_output, a_row, rows, a_lockup_clock, a_lockup_behind, a_crossing, crossing_in, a_step, a_chain, a_latched_chain, a_fed_chain, cells_at, row_at, last_net}
 use Rattle.dft_scan_hardware.specs.Ports.{gap_in, edt_nets, plain_in, plain_out}
 use Rattle.dft_scan_hardware.specs.Scanned.{a_plain_chain, a_plain_end, plain_recipe, an_edt_chain, behind_rows, edt_recipe, recipe, framed, parts_of}
 use Rattle.dft_scan_hardware.proofs.Free.{HoldsFree, net_free, driving_free, gate_free, lockup_free, ring_free, compactor_free}
@@ -125,16 +125,16 @@ module _ (n : Netlist) (config : Config) (P : Part → Type 0) (free : HoldsFree
         (λ _. holds_each P (a_step n (cells_at plan.chains chain) outputs) (range_with_len 0 (length (cells_at plan.chains chain)))
         (λ k place there. scan_in_on (slice_get (cells_at plan.chains chain) (place + 1)) (net_at outputs place) (λ cell h. cells_on chain (place + 1) cell h))))
 
-    late_on : (gap : Gap) (chain : ℕ) (outputs : List NetId) (clock phase : NetId) → Holds P (a_late_chain n config gap plan.lockups chain (cells_at plan.chains chain) outputs clock phase)
-    unfolding a_late_chain
-    late_on gap chain outputs clock phase =
+    latched_on : (gap : Gap) (chain : ℕ) (outputs : List NetId) (clock phase : NetId) → Holds P (a_latched_chain n config gap plan.lockups chain (cells_at plan.chains chain) outputs clock phase)
+    unfolding a_latched_chain
+    latched_on gap chain outputs clock phase =
         holds_bind P a_net (λ entry. a_lockup clock phase entry >> a_chain n config gap plan.lockups chain (cells_at plan.chains chain) outputs entry) (net_free P free)
         (λ entry. holds_bind P (a_lockup clock phase entry) (λ _. a_chain n config gap plan.lockups chain (cells_at plan.chains chain) outputs entry) (lockup_free P clock phase entry free)
         (λ _. chain_on gap chain outputs entry))
 
     fed_on : (falling : Bool) (gap : Gap) (chain : ℕ) (outputs : List NetId) (clock phase : NetId) → Holds P (a_fed_chain falling n config gap plan.lockups chain (cells_at plan.chains chain) outputs clock phase)
     fed_on true gap chain outputs clock phase = chain_on gap chain outputs phase
-    fed_on false gap chain outputs clock phase = late_on gap chain outputs clock phase
+    fed_on false gap chain outputs clock phase = latched_on gap chain outputs clock phase
 
     plain_on : (gap : Gap) → Holds P (plain_recipe n config plan gap)
     unfolding plain_recipe

@@ -34,7 +34,7 @@ use Rattle.dft_scan_frame.specs.Moves.{Gap, moved}
 use Rattle.dft_scan_frame.specs.Pins.{domain_in, number_of, own_output, moved_or_none}
 use Rattle.dft_scan_frame.proofs.LiveNets.{moved_less, input_live}
 use Rattle.dft_scan_hardware.specs.Bounds.{EdtThere}
-use Rattle.dft_scan_hardware.specs.Chained.{scan_roles, a_numbered_pin, a_role_pin, a_scan_in, an_open_output, own_or_made, an_output, rows, a_lockup_clock, a_lockup_behind, a_crossing, crossing_in, a_step, a_chain, a_late_chain, a_fed_chain, row_at, last_net}
+use Rattle.dft_scan_hardware.specs.Chained.{scan_roles, a_numbered_pin, a_role_pin, a_scan_in, an_open_output, own_or_made, an_output, rows, a_lockup_clock, a_lockup_behind, a_crossing, crossing_in, a_step, a_chain, a_latched_chain, a_fed_chain, row_at, last_net}
 use Rattle.dft_scan_hardware.specs.Scanned.{a_plain_chain, a_plain_end, plain_recipe, an_edt_chain, behind_rows, edt_recipe}
 
 -- ---- pins
@@ -235,26 +235,26 @@ chain_made n config gap lockups chain cells outputs entry s t u v h k m =
 abbrev chain_behind : Netlist → Config → Gap → List LockupPlace → (chain : ℕ) → (cells : List InstanceId) → (outputs : List NetId) → (entry : NetId) → (Unit {0}) → Recipe (Unit {0})
 chain_behind n config gap lockups chain cells outputs entry done = a_chain n config gap lockups chain cells outputs entry
 
-abbrev late_behind : Netlist → Config → Gap → List LockupPlace → (chain : ℕ) → (cells : List InstanceId) → (outputs : List NetId) → (clock phase : NetId) → (entry : NetId) → Recipe (Unit {0})
-late_behind n config gap lockups chain cells outputs clock phase entry = a_lockup clock phase entry >>= chain_behind n config gap lockups chain cells outputs entry
+abbrev latched_behind : Netlist → Config → Gap → List LockupPlace → (chain : ℕ) → (cells : List InstanceId) → (outputs : List NetId) → (clock phase : NetId) → (entry : NetId) → Recipe (Unit {0})
+latched_behind n config gap lockups chain cells outputs clock phase entry = a_lockup clock phase entry >>= chain_behind n config gap lockups chain cells outputs entry
 
 pub entry_refused : (n : Netlist) (config : Config) (gap : Gap) (lockups : List LockupPlace) (chain : ℕ) (cells : List InstanceId) (outputs : List NetId) (clock phase : NetId) (s : Making) (e : NetlistError) → IsRefusal (outcome a_net s) e →
-    IsRefusal (outcome (a_late_chain n config gap lockups chain cells outputs clock phase) s) e
-unfolding a_late_chain
-entry_refused n config gap lockups chain cells outputs clock phase s e h = then_refused a_net (late_behind n config gap lockups chain cells outputs clock phase) s e h
+    IsRefusal (outcome (a_latched_chain n config gap lockups chain cells outputs clock phase) s) e
+unfolding a_latched_chain
+entry_refused n config gap lockups chain cells outputs clock phase s e h = then_refused a_net (latched_behind n config gap lockups chain cells outputs clock phase) s e h
 
-pub late_refused : (n : Netlist) (config : Config) (gap : Gap) (lockups : List LockupPlace) (chain : ℕ) (cells : List InstanceId) (outputs : List NetId) (clock phase entry : NetId) (s t : Making) (e : NetlistError) → outcome a_net s ≡ Ok (entry, t) →
-    IsRefusal (outcome (a_lockup clock phase entry) t) e → IsRefusal (outcome (a_late_chain n config gap lockups chain cells outputs clock phase) s) e
-unfolding a_late_chain
-late_refused n config gap lockups chain cells outputs clock phase entry s t e h k =
-    subst (λ o. IsRefusal o e) (sym (then_ok a_net (late_behind n config gap lockups chain cells outputs clock phase) s t entry h)) (then_refused (a_lockup clock phase entry) (chain_behind n config gap lockups chain cells outputs entry) t e k)
+pub latched_refused : (n : Netlist) (config : Config) (gap : Gap) (lockups : List LockupPlace) (chain : ℕ) (cells : List InstanceId) (outputs : List NetId) (clock phase entry : NetId) (s t : Making) (e : NetlistError) → outcome a_net s ≡ Ok (entry, t) →
+    IsRefusal (outcome (a_lockup clock phase entry) t) e → IsRefusal (outcome (a_latched_chain n config gap lockups chain cells outputs clock phase) s) e
+unfolding a_latched_chain
+latched_refused n config gap lockups chain cells outputs clock phase entry s t e h k =
+    subst (λ o. IsRefusal o e) (sym (then_ok a_net (latched_behind n config gap lockups chain cells outputs clock phase) s t entry h)) (then_refused (a_lockup clock phase entry) (chain_behind n config gap lockups chain cells outputs entry) t e k)
 
-pub late_made : {X : Type 0} (n : Netlist) (config : Config) (gap : Gap) (lockups : List LockupPlace) (chain : ℕ) (cells : List InstanceId) (outputs : List NetId) (clock phase entry : NetId) (s t u : Making) (result : Result X NetlistError) (new : Making) → outcome a_net s ≡ Ok (entry, t) →
-    outcome (a_lockup clock phase entry) t ≡ Ok (tt, u) → Makes (λ _. tt) (a_chain n config gap lockups chain cells outputs entry) u result new → Makes (λ _. tt) (a_late_chain n config gap lockups chain cells outputs clock phase) s result new
-unfolding a_late_chain
-late_made n config gap lockups chain cells outputs clock phase entry s t u result new h k m =
-    same_makes (λ _. tt) (a_net >>= late_behind n config gap lockups chain cells outputs clock phase) (a_chain n config gap lockups chain cells outputs entry) s u result new
-    (then_ok a_net (late_behind n config gap lockups chain cells outputs clock phase) s t entry h ∙ then_ok (a_lockup clock phase entry) (chain_behind n config gap lockups chain cells outputs entry) t u tt k) m
+pub latched_made : {X : Type 0} (n : Netlist) (config : Config) (gap : Gap) (lockups : List LockupPlace) (chain : ℕ) (cells : List InstanceId) (outputs : List NetId) (clock phase entry : NetId) (s t u : Making) (result : Result X NetlistError) (new : Making) → outcome a_net s ≡ Ok (entry, t) →
+    outcome (a_lockup clock phase entry) t ≡ Ok (tt, u) → Makes (λ _. tt) (a_chain n config gap lockups chain cells outputs entry) u result new → Makes (λ _. tt) (a_latched_chain n config gap lockups chain cells outputs clock phase) s result new
+unfolding a_latched_chain
+latched_made n config gap lockups chain cells outputs clock phase entry s t u result new h k m =
+    same_makes (λ _. tt) (a_net >>= latched_behind n config gap lockups chain cells outputs clock phase) (a_chain n config gap lockups chain cells outputs entry) s u result new
+    (then_ok a_net (latched_behind n config gap lockups chain cells outputs clock phase) s t entry h ∙ then_ok (a_lockup clock phase entry) (chain_behind n config gap lockups chain cells outputs entry) t u tt k) m
 
 -- ---- a chain behind its phase sum
 
@@ -264,7 +264,7 @@ fed_by_sum falling n config gap lockups chain cells outputs clock phase s result
     subst (λ (b : Bool). Makes (λ _. tt) (a_fed_chain b n config gap lockups chain cells outputs clock phase) s result new) (sym is) m
 
 pub fed_by_lockup : {X : Type 0} (falling : Bool) (n : Netlist) (config : Config) (gap : Gap) (lockups : List LockupPlace) (chain : ℕ) (cells : List InstanceId) (outputs : List NetId) (clock phase : NetId) (s : Making) (result : Result X NetlistError) (new : Making) → falling ≡ false →
-    Makes (λ _. tt) (a_late_chain n config gap lockups chain cells outputs clock phase) s result new → Makes (λ _. tt) (a_fed_chain falling n config gap lockups chain cells outputs clock phase) s result new
+    Makes (λ _. tt) (a_latched_chain n config gap lockups chain cells outputs clock phase) s result new → Makes (λ _. tt) (a_fed_chain falling n config gap lockups chain cells outputs clock phase) s result new
 fed_by_lockup falling n config gap lockups chain cells outputs clock phase s result new is m =
     subst (λ (b : Bool). Makes (λ _. tt) (a_fed_chain b n config gap lockups chain cells outputs clock phase) s result new) (sym is) m
 

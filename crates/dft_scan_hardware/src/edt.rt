@@ -137,12 +137,12 @@ fn make_edt_chain(
     if chains.falling_head(chain) {
         make_chain(parts, design, config, chains, gap, chain, row, phase)
     } else {
-        make_late_chain(parts, design, config, chains, gap, ports, chain, phase, row)
+        make_latched_chain(parts, design, config, chains, gap, ports, chain, phase, row)
     }
 }
 
 // Makes a chain behind a lock-up on edt_clock that takes its phase sum.
-fn make_late_chain(
+fn make_latched_chain(
     parts: &mut PartsBuilder,
     design: &Design,
     config: &Config,
@@ -159,7 +159,7 @@ fn make_late_chain(
     requires phase { phase.0 < length parts.old.netlist.nets }
     requires nets { length design.now.nets + gap.now.width ≤ length parts.old.netlist.nets }
     requires row { AreThere parts.old.netlist row.now }
-    ensures makes { Makes (λ _. tt) (chained.a_late_chain design.now config.now gap.now chains.now.lockups chain (chained.cells_at chains.now.chains chain) row.now ports.now.edt_clock phase) parts.old result parts.new }
+    ensures makes { Makes (λ _. tt) (chained.a_latched_chain design.now config.now gap.now chains.now.lockups chain (chained.cells_at chains.now.chains chain) row.now ports.now.edt_clock phase) parts.old result parts.new }
     ensures nets { OnOk result (length parts.old.netlist.nets ≤ length parts.new.netlist.nets) }
 {
     let entry = parts.net()?;

@@ -61,7 +61,7 @@ pub const ON_ONE: &str = "version = 1\ndomains = ['ca']\n";
 pub const ONE_CHAIN: &str =
     "chains = 1\nwarm = 0\nwindow = 1\nring = { stages = 2, channels = 1, taps = [], injectors = [[0, 1]], phase = [[0]] }\ncompactor = { groups = [[0]], mask_inputs = 1 }\n";
 
-pub const LATE_CHAIN: &str =
+pub const LONG_WARM: &str =
     "chains = 1\nwarm = 4095\nwindow = 1\nring = { stages = 2, channels = 1, taps = [], injectors = [[0, 1]], phase = [[0]] }\ncompactor = { groups = [[0]], mask_inputs = 1 }\n";
 
 pub const THREE_CHAINS: &str =

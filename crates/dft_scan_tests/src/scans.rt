@@ -1,7 +1,7 @@
 //! Netlists that are scanned, worked by hand.
 
 use crate::designs::{
-    CLASHING, CLOCK_AS_DATA, GATED, LATE_CHAIN, LOCKED, ON_BOTH, ON_ONE, ONE, ONE_CHAIN, PAIR,
+    CLASHING, CLOCK_AS_DATA, GATED, LOCKED, LONG_WARM, ON_BOTH, ON_ONE, ONE, ONE_CHAIN, PAIR,
     QUOTED, RESET, ROW, SCANNED, SINGLE, THREE_CHAINS,
 };
 use crate::large::many_channels;
@@ -94,12 +94,12 @@ static SCANS: [(&str, &str, &str, &str, &str); 21] = [
         "-",
     ),
     (QUOTED, ON_ONE, ONE_CHAIN, "refused G7 a\"b\n", "-"),
-    (ONE, ON_ONE, LATE_CHAIN, "refused N4 cycles 4096\n", "-"),
-    (PAIR, ON_ONE, LATE_CHAIN, "refused N4 cycles 4096\n", "-"),
+    (ONE, ON_ONE, LONG_WARM, "refused N4 cycles 4096\n", "-"),
+    (PAIR, ON_ONE, LONG_WARM, "refused N4 cycles 4096\n", "-"),
     (
         SINGLE,
         ON_ONE,
-        LATE_CHAIN,
+        LONG_WARM,
         "scanned cells 1 unscanned 0 chains 1 lockups 0\n",
         SINGLE_REPORT,
     ),

@@ -15,15 +15,6 @@ use Rattle.dft_stitch.specs.Plans.{Plan}
 
 -- ---- cells
 
--- the domain of a scanned cell
-abbrev pub domain_in : Option Judged → Option ℕ
-domain_in None = None
-domain_in (Some (Scanned domain falling)) = Some domain
-domain_in (Some (Unscanned rule)) = None
-
-abbrev pub domain_of : List (Option Judged) → InstanceId → Option ℕ
-domain_of verdicts cell = domain_in (slice_index_or verdicts cell.0 None)
-
 -- the clock of a scanned cell: its domain, and whether the cell is falling
 abbrev pub clock_in : Option Judged → Option CellClock
 clock_in None = None
@@ -32,6 +23,15 @@ clock_in (Some (Unscanned rule)) = None
 
 abbrev pub clock_of : List (Option Judged) → InstanceId → Option CellClock
 clock_of verdicts cell = clock_in (slice_index_or verdicts cell.0 None)
+
+-- the domain of a clock, and whether a cell with it is falling
+abbrev pub domain_in : Option CellClock → Option ℕ
+domain_in None = None
+domain_in (Some clock) = Some clock.domain
+
+abbrev pub is_falling : Option CellClock → Bool
+is_falling None = false
+is_falling (Some clock) = clock.falling
 
 -- the group of a clock, of so many domains: first the groups of the falling cells by their domains, then those of the rising ones
 abbrev pub group_of : (domains : ℕ) → CellClock → ℕ
@@ -103,11 +103,6 @@ abbrev pub lockups_of : List (Option Judged) → List (List InstanceId) → List
 lockups_of verdicts chains = flat_map (lockups_in verdicts chains) (range_with_len 0 (length chains))
 
 -- ---- heads
-
--- whether a cell with this clock is falling
-abbrev pub is_falling : Option CellClock → Bool
-is_falling None = false
-is_falling (Some clock) = clock.falling
 
 -- whether the first cell of a chain is falling
 abbrev pub begins_falling : List (Option Judged) → List InstanceId → Bool

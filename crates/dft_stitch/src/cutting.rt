@@ -87,16 +87,6 @@ pub fn clock_of(verdicts: &Verdicts, cell: InstanceId) -> Option<CellClock>
     }
 }
 
-/// The domain of a cell, where it is scanned.
-pub fn domain_of(verdicts: &Verdicts, cell: InstanceId) -> Option<u8>
-    ensures { result ≡ spec.domain_of verdicts.now cell }
-{
-    match verdicts.of(cell) {
-        Some(Judged::Scanned { domain, .. }) => Some(domain),
-        _ => None,
-    }
-}
-
 // Cuts the cells into so many chains, of which the first ones are one longer where they do not come out even.
 pub(crate) fn cut(alloc: Global, cells: &[InstanceId], count: u16) -> Result<Vec<Cells>, AllocError>
     requires some { 1 ≤ count }

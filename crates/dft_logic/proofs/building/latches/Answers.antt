@@ -5,4 +5,4 @@ use Rattle.dft_logic.proofs.building.latches.Goals as goal
 
 pub loop-number-preserved : goal.loop-number-preserved
 loop-number-preserved c =
-    latch_pushed c.args.design.now (ports_by c.args.flags.now) c.loop-number.latches.items c.push.new.self.items c.in_ok-instance_latch.field-0 c.loop-number.number c.in_ok-push.ensures.items c.loop-number.invariant c.in_ok-instance_latch.ensures
+    latch_pushed c.args.traced.design.now (ports_by c.args.traced.flags.now) c.loop-number.latches.items c.push.new.self.items c.in_ok-instance_latch.field-0 c.loop-number.number c.in_ok-push.ensures.items c.loop-number.invariant c.in_ok-instance_latch.ensures

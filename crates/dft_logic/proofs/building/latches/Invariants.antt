@@ -3,4 +3,4 @@ use Rattle.dft_logic.specs.Compiling.{ports_by, AreLatches}
 use Rattle.dft_logic.proofs.building.latches.Given as goal
 
 abbrev pub invariant-loop-number : goal.invariant-loop-number
-invariant-loop-number l = AreLatches l.design (ports_by l.flags) l.number l.latches.items
+invariant-loop-number l = AreLatches l.traced.design.now (ports_by l.traced.flags.now) l.number l.latches.items

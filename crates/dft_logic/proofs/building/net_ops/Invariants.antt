@@ -7,5 +7,5 @@ use Rattle.dft_logic.proofs.building.net_ops.Given as goal
 abbrev pub invariant-loop-net : goal.invariant-loop-net
 invariant-loop-net l = record {
   count : length l.ops.items ≡ l.net;
-  each : (k : ℕ) → k < l.net → IsOpOf l.design (ports_by l.flags) k (op_at l.ops.items k);
+  each : (k : ℕ) → k < l.net → IsOpOf l.traced.design.now (ports_by l.traced.flags.now) k (op_at l.ops.items k);
 }

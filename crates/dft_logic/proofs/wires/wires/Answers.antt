@@ -7,7 +7,7 @@ use Rattle.dft_logic.proofs.wires.wires.Goals as goal
 use Rattle.dft_logic.proofs.wires.wires.Goals.{in-Some+in_ok-push, in_default}
 
 pub loop-pin-init : goal.loop-pin-init
-loop-pin-init c = rw c.new-wires.ensures.items (record { wired = refl; live = λ count all. tt })
+loop-pin-init c = rw c.new-wires.ensures.items refl
 
 pub loop-pin-preserved : goal.loop-pin-preserved
 loop-pin-preserved c =
@@ -19,7 +19,7 @@ loop-pin-preserved c =
       | in_default w ↦ absurd (none_past roles c.loop-pin.pin (sym c.role_at.ensures ∙ w.in_default.is) (omega (arith, ap length c.as_slice-signal-items.ensures)))
     ]
 
-pub returns-clause-wired : goal.returns-clause-wired
-returns-clause-wired c =
+pub returns : goal.returns
+returns c =
     wiring_end (shape_of c.args.library.now c.args.instance.now.cell).roles c.args.instance.now.pins c.args.number.0 (map (wired_by c.args.number.0) (connections_of c.args.library.now c.args.instance.now))
     c.loop-pin.wires.items c.loop-pin.pin (omega (arith, ap length c.as_slice-signal-items.ensures)) c.loop-pin.invariant

@@ -13,5 +13,5 @@ returns-then-falling_head-clause-makes c =
 pub returns-else-falling_head-clause-makes : goal.returns-else-falling_head-clause-makes
 returns-else-falling_head-clause-makes c =
     let plan = c.args.chains.now in
-    fed_by_lockup (falling_head plan c.args.chain) c.args.design.now c.args.config.now c.args.gap.now plan.lockups c.args.chain (cells_at plan.chains c.args.chain) c.args.row.now c.args.ports.now.edt_clock c.args.phase c.args.parts.now c.make_late_chain.result c.make_late_chain.new.parts
-    (sym c.falling_head.ensures ∙ c.if-falling_head.false) c.make_late_chain.ensures.makes
+    fed_by_lockup (falling_head plan c.args.chain) c.args.design.now c.args.config.now c.args.gap.now plan.lockups c.args.chain (cells_at plan.chains c.args.chain) c.args.row.now c.args.ports.now.edt_clock c.args.phase c.args.parts.now c.make_latched_chain.result c.make_latched_chain.new.parts
+    (sym c.falling_head.ensures ∙ c.if-falling_head.false) c.make_latched_chain.ensures.makes

@@ -14,8 +14,8 @@ use Rattle.dft_netlist.specs.Sound.{IsNetlist}
 use Rattle.dft_netlist.specs.ClockRoots.{ClockRoot, turn_of, turned_by, clock_of_inputs, clock_of_gate, clock_of_driver, clock_within, clock_root_of}
 use Rattle.dft_netlist.specs.ClockSteps.{shown_clock, IsClockWalk}
 use Rattle.dft_netlist.proofs.LiveLemmas.{le_or_lt}
-use Rattle.dft_rules.specs.Clocks.{clock_among, clock_in, AreClocks}
-use Rattle.dft_rules.proofs.RootLemmas.{has_below, past_free}
+use Rattle.dft_netlist.specs.ClockTables.{clock_among, clock_in, AreClocks}
+use Rattle.dft_netlist.proofs.RootTables.{has_below, past_free}
 
 -- two walks find the same where they do at the nets of these sources
 abbrev Agree : (Source → Option ClockRoot) → (Source → Option ClockRoot) → List ℕ → Type 0

@@ -25,7 +25,7 @@ use Rattle.dft_netlist.proofs.DriveLemmas.{all_entries, first_by}
 use Rattle.dft_netlist.proofs.ClashLemmas.{driver_same, first_drives}
 use Rattle.dft_netlist.proofs.LiveLemmas.{drive_live, le_or_lt}
 use Rattle.dft_netlist.proofs.TraceLemmas.{is_walk}
-use Rattle.dft_rules.specs.Roots.{root_among, root_in, AreRoots}
+use Rattle.dft_netlist.specs.RootTables.{root_among, root_in, AreRoots}
 
 -- two walks find the same where they do at the nets of these sources
 abbrev Agree : (Source → Root) → (Source → Root) → List ℕ → Type 0
