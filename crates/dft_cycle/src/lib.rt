@@ -6,6 +6,7 @@ mod laws;
 mod looking;
 mod looks;
 mod machine;
+mod phases;
 mod planning;
 mod plans;
 mod preparing;

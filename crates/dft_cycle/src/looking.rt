@@ -7,6 +7,7 @@ ghost use Rattle.dft_logic.specs.Needs.{AreSeen};
 ghost use Rattle.dft_cycle.specs.Looks.{AreLooks};
 
 use crate::looks::{Look, find_look};
+use crate::phases::Strobe;
 use crate::planning::next_place;
 use dft_base::Tri;
 use dft_logic::Circuit;
@@ -36,32 +37,30 @@ impl Looks {
     // before. Where there is none, one is noted. Whether they were read.
     pub(crate) fn read(
         &mut self,
-        circuit: &Circuit,
-        ports: &[Tri],
-        cells: &[Tri],
+        strobe: Strobe<'_>,
         nets: &[NetId],
         values: &mut [Tri],
         marked: &mut [bool],
         row: &mut [Tri],
     ) -> bool
-        requires circuit { IsCircuit circuit.now }
-        requires looks { AreLooks circuit.now self.old }
-        requires values { length values.old ≡ length circuit.now.ops.items }
-        requires marked { length marked.old ≡ length circuit.now.ops.items }
+        requires circuit { IsCircuit strobe.circuit.now }
+        requires looks { AreLooks strobe.circuit.now self.old }
+        requires values { length values.old ≡ length strobe.circuit.now.ops.items }
+        requires marked { length marked.old ≡ length strobe.circuit.now.ops.items }
         requires clear { (k : ℕ) → is_up marked.old k ≡ false }
         requires row { length row.old ≡ length nets.now }
-        ensures looks { AreLooks circuit.now self.new }
+        ensures looks { AreLooks strobe.entry.circuit.now self.new }
         ensures clear { (k : ℕ) → is_up marked.new k ≡ false }
-        ensures seen { result ≡ true → AreSeen (logic_at circuit.now) (spec.value_at ports.now) (spec.value_at cells.now) nets.now row.new }
+        ensures seen { result ≡ true → AreSeen (logic_at strobe.entry.circuit.now) (spec.value_at strobe.entry.ports.now) (spec.value_at strobe.entry.cells.now) nets.now row.new }
     {
         match find_look(&self.looks, nets) {
             Some(place) => {
                 self.taken = place;
-                self.looks[place].see(circuit, ports, cells, values, marked, row);
+                self.looks[place].see(strobe, values, marked, row);
                 true
             }
             None => {
-                self.note(circuit, nets);
+                self.note(strobe.circuit, nets);
                 false
             }
         }

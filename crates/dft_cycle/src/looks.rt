@@ -9,6 +9,7 @@ ghost use Rattle.dft_logic.specs.Needs.{AreSeen};
 ghost use Rattle.dft_cycle.specs.Plans.{IsNeedList};
 ghost use Rattle.dft_cycle.specs.Looks.{IsLook, IsListed, IsAt};
 
+use crate::phases::Strobe;
 use dft_base::Tri;
 use dft_logic::{Circuit, list_marked, lower, mark_needed, mark_nets, read_list, settle_strobe};
 use dft_netlist::NetId;
@@ -103,48 +104,40 @@ impl Look {
     }
 
     // Reads the values of its nets at a strobe.
-    fn read(
-        &self,
-        circuit: &Circuit,
-        ports: &[Tri],
-        cells: &[Tri],
-        values: &mut [Tri],
-        row: &mut [Tri],
-    )
-        requires circuit { IsCircuit circuit.now }
-        requires values { length values.old ≡ length circuit.now.ops.items }
-        requires look { IsLook circuit.now self.now }
-        requires listed { IsListed circuit.now self.now }
+    fn read(&self, strobe: Strobe<'_>, values: &mut [Tri], row: &mut [Tri])
+        requires circuit { IsCircuit strobe.circuit.now }
+        requires values { length values.old ≡ length strobe.circuit.now.ops.items }
+        requires look { IsLook strobe.circuit.now self.now }
+        requires listed { IsListed strobe.circuit.now self.now }
         requires row { length row.old ≡ length self.now.nets.items }
-        ensures { AreSeen (logic_at circuit.now) (spec.value_at ports.now) (spec.value_at cells.now) self.now.nets.items row.new }
+        ensures { AreSeen (logic_at strobe.entry.circuit.now) (spec.value_at strobe.entry.ports.now) (spec.value_at strobe.entry.cells.now) self.now.nets.items row.new }
     {
-        settle_strobe(circuit, ports, cells, &self.list[..self.count], values);
+        let list = &self.list[..self.count];
+        settle_strobe(strobe.circuit, strobe.ports, strobe.cells, list, values);
         read_list(&self.nets, values, row);
     }
 
     // Reads the values of its nets at a strobe; what they are settled from is listed first, if it is not.
     pub(crate) fn see(
         &mut self,
-        circuit: &Circuit,
-        ports: &[Tri],
-        cells: &[Tri],
+        strobe: Strobe<'_>,
         values: &mut [Tri],
         marked: &mut [bool],
         row: &mut [Tri],
     )
-        requires circuit { IsCircuit circuit.now }
-        requires look { IsLook circuit.now self.old }
-        requires values { length values.old ≡ length circuit.now.ops.items }
-        requires marked { length marked.old ≡ length circuit.now.ops.items }
+        requires circuit { IsCircuit strobe.circuit.now }
+        requires look { IsLook strobe.circuit.now self.old }
+        requires values { length values.old ≡ length strobe.circuit.now.ops.items }
+        requires marked { length marked.old ≡ length strobe.circuit.now.ops.items }
         requires clear { (k : ℕ) → is_up marked.old k ≡ false }
         requires row { length row.old ≡ length self.old.nets.items }
-        ensures look { IsLook circuit.now self.new }
+        ensures look { IsLook strobe.entry.circuit.now self.new }
         ensures clear { (k : ℕ) → is_up marked.new k ≡ false }
-        ensures seen { AreSeen (logic_at circuit.now) (spec.value_at ports.now) (spec.value_at cells.now) self.old.nets.items row.new }
+        ensures seen { AreSeen (logic_at strobe.entry.circuit.now) (spec.value_at strobe.entry.ports.now) (spec.value_at strobe.entry.cells.now) self.old.nets.items row.new }
     {
         if !self.made {
-            self.make(circuit, marked);
+            self.make(strobe.circuit, marked);
         }
-        self.read(circuit, ports, cells, values, row);
+        self.read(strobe, values, row);
     }
 }

@@ -9,6 +9,7 @@ ghost use Rattle.dft_logic.specs.Needs.{AreSeen};
 ghost use Rattle.dft_logic.specs.Circuit.{cell_of, cell_at, force_at, IsCircuit, flag_at as is_up};
 
 use crate::looking::Looks;
+use crate::phases::{Phase, Strobe};
 use crate::planning::Plans;
 use crate::rounds::find_least;
 use crate::sweeping::settle_again;
@@ -160,15 +161,14 @@ impl<'a> AbstractMachine<'a> {
         ensures same { self.new ≡ self.old }
         ensures seen { AreSeen (logic self.old) (spec.value_at self.old.inputs) (spec.value_at self.old.cells) nets.now values.new }
     {
-        let read = self.looks.read(
-            &self.circuit,
-            &self.inputs,
-            &self.cells,
-            nets,
-            &mut self.quick,
-            &mut self.marked,
-            values,
-        );
+        let strobe = Strobe {
+            circuit: &self.circuit,
+            ports: &self.inputs,
+            cells: &self.cells,
+        };
+        let read = self
+            .looks
+            .read(strobe, nets, &mut self.quick, &mut self.marked, values);
         if !read {
             self.look_at_all(nets, values);
         }
@@ -211,18 +211,23 @@ impl<'a> AbstractMachine<'a> {
         ensures { IsPhase (logic self.old) self.old rising pulsed.now self.new }
     {
         mark(&self.clocks, pulsed, &mut self.pulsed);
-        let taken = self.plans.take(
-            &self.circuit,
-            &self.clocks,
+        let pulse = Pulse {
             rising,
-            &self.inputs,
-            &self.pulsed,
-            &mut self.quick,
-            &mut self.marked,
-            &mut self.next,
-            &mut self.cells,
-        );
-        if !taken {
+            ports: &self.inputs,
+            pulsed: &self.pulsed,
+            old: &self.cells,
+        };
+        let phase = Phase {
+            circuit: &self.circuit,
+            clocks: &self.clocks,
+            pulse,
+        };
+        let taken = self
+            .plans
+            .take(phase, &mut self.quick, &mut self.marked, &mut self.next);
+        if taken {
+            self.cells.as_mut_slice().copy_from_slice(&self.next);
+        } else {
             self.phase_by_views(rising, pulsed);
         }
     }
@@ -250,10 +255,13 @@ impl<'a> AbstractMachine<'a> {
             pulsed: &self.pulsed,
             old: &self.cells,
         };
-        find_least(
-            &self.circuit,
+        let phase = Phase {
+            circuit: &self.circuit,
+            clocks: &self.clocks,
             pulse,
-            &self.clocks,
+        };
+        find_least(
+            phase,
             &mut self.poss,
             &mut self.held,
             &mut self.values,

@@ -2,13 +2,14 @@
 
 ghost use Rattle.std.specs.Prelude.{◌≡◌, ℕ, ◌<◌, length, true, false, IfSome};
 ghost use Rattle.dft_logic.specs.Values as spec;
-ghost use Rattle.dft_logic.specs.Circuit.{IsCircuit, flag_at as is_up};
+ghost use Rattle.dft_logic.specs.Circuit.{IsCircuit, pulse_at, flag_at as is_up};
 ghost use Rattle.dft_cycle.specs.Views.{PulsesAmong};
 ghost use Rattle.dft_cycle.specs.Plans.{ArePlans, LooseAreUnknown, IsPassed};
 
+use crate::phases::Phase;
 use crate::plans::{Pins, Plan, Stage};
 use dft_base::Tri;
-use dft_logic::{Circuit, Entry, Pulse, Shown, settle_list};
+use dft_logic::{Entry, Pulse, Shown, settle_list};
 use dft_netlist::{InstanceId, NetId};
 
 // The plans of the last phases that came again, and what they are made from: the pins, and room for the flip-flop that
@@ -65,43 +66,33 @@ fn place_after(place: usize, count: usize) -> usize
 }
 
 impl Plans {
-    // Notes a plan for a pulse, in place of another.
-    fn note(&mut self, circuit: &Circuit, clocks: &[NetId], pulse: Pulse<'_>, values: &[Tri])
-        requires plans { ArePlans circuit.now clocks.now self.old }
-        ensures { ArePlans circuit.now clocks.now self.new }
+    // Notes a plan for a phase, in place of another.
+    fn note(&mut self, phase: Phase<'_>, values: &[Tri])
+        requires plans { ArePlans phase.circuit.now phase.clocks.now self.old }
+        ensures { ArePlans phase.entry.circuit.now phase.entry.clocks.now self.new }
     {
         let place = next_place(self.noted, self.taken, self.plans.len());
-        self.plans[place].note(clocks, &self.pins, pulse, values, Stage::Noted);
+        self.plans[place].note(phase, &self.pins, values, Stage::Noted);
         self.noted = place;
     }
 
-    // Makes the plan at a place for a pulse.
-    fn make(
-        &mut self,
-        circuit: &Circuit,
-        clocks: &[NetId],
-        pulse: Pulse<'_>,
-        place: usize,
-        values: &mut [Tri],
-        marked: &mut [bool],
-    )
-        requires circuit { IsCircuit circuit.now }
-        requires plans { ArePlans circuit.now clocks.now self.old }
+    // Makes the plan at a place for a phase.
+    fn make(&mut self, phase: Phase<'_>, place: usize, values: &mut [Tri], marked: &mut [bool])
+        requires circuit { IsCircuit phase.circuit.now }
+        requires plans { ArePlans phase.circuit.now phase.clocks.now self.old }
         requires live { place < length self.old.plans.items }
-        requires among { PulsesAmong pulse.pulsed.now clocks.now }
-        requires ports { length pulse.ports.now ≡ length circuit.now.ops.items }
-        requires values { length values.old ≡ length circuit.now.ops.items }
-        requires marked { length marked.old ≡ length circuit.now.ops.items }
+        requires among { PulsesAmong phase.pulse.pulsed.now phase.clocks.now }
+        requires ports { length phase.pulse.ports.now ≡ length phase.circuit.now.ops.items }
+        requires values { length values.old ≡ length phase.circuit.now.ops.items }
+        requires marked { length marked.old ≡ length phase.circuit.now.ops.items }
         requires clear { (k : ℕ) → is_up marked.old k ≡ false }
-        ensures plans { ArePlans circuit.now clocks.now self.new }
+        ensures plans { ArePlans phase.entry.circuit.now phase.entry.clocks.now self.new }
         ensures count { length self.new.plans.items ≡ length self.old.plans.items }
         ensures clear { (k : ℕ) → is_up marked.new k ≡ false }
     {
         self.plans[place].make(
-            circuit,
-            clocks,
+            phase,
             &self.pins,
-            pulse,
             &mut self.origins,
             values,
             &mut self.shown,
@@ -110,81 +101,60 @@ impl Plans {
         );
     }
 
-    // The place of the plan for a pulse, which is made if the pulse came before. Where there is none, one is noted.
-    fn choose(
-        &mut self,
-        circuit: &Circuit,
-        clocks: &[NetId],
-        pulse: Pulse<'_>,
-        values: &mut [Tri],
-        marked: &mut [bool],
-    ) -> Option<usize>
-        requires circuit { IsCircuit circuit.now }
-        requires plans { ArePlans circuit.now clocks.now self.old }
-        requires among { PulsesAmong pulse.pulsed.now clocks.now }
-        requires ports { length pulse.ports.now ≡ length circuit.now.ops.items }
-        requires values { length values.old ≡ length circuit.now.ops.items }
-        requires marked { length marked.old ≡ length circuit.now.ops.items }
+    // The place of the plan for a phase, which is made if the phase came before. Where there is none, one is noted.
+    fn choose(&mut self, phase: Phase<'_>, values: &mut [Tri], marked: &mut [bool]) -> Option<usize>
+        requires circuit { IsCircuit phase.circuit.now }
+        requires plans { ArePlans phase.circuit.now phase.clocks.now self.old }
+        requires among { PulsesAmong phase.pulse.pulsed.now phase.clocks.now }
+        requires ports { length phase.pulse.ports.now ≡ length phase.circuit.now.ops.items }
+        requires values { length values.old ≡ length phase.circuit.now.ops.items }
+        requires marked { length marked.old ≡ length phase.circuit.now.ops.items }
         requires clear { (k : ℕ) → is_up marked.old k ≡ false }
-        ensures plans { ArePlans circuit.now clocks.now self.new }
+        ensures plans { ArePlans phase.entry.circuit.now phase.entry.clocks.now self.new }
         ensures live { IfSome result (λ place. place < length self.new.plans.items) }
         ensures clear { (k : ℕ) → is_up marked.new k ≡ false }
     {
         let nets = &self.pins.list[..self.pins.count];
-        settle_list(circuit, pulse, nets, values);
-        match find_plan(&self.plans, clocks, &self.pins, pulse, values) {
+        settle_list(phase.circuit, phase.pulse, nets, values);
+        match find_plan(&self.plans, phase.clocks, &self.pins, phase.pulse, values) {
             Some(place) => {
                 self.taken = place;
                 if self.plans[place].is_noted() {
-                    self.make(circuit, clocks, pulse, place, values, marked);
+                    self.make(phase, place, values, marked);
                 }
                 Some(place)
             }
             None => {
-                self.note(circuit, clocks, pulse, values);
+                self.note(phase, values);
                 None
             }
         }
     }
 
-    // Takes a pulse by a plan, if there is one for it. Whether it was taken.
+    // Finds the values of flip-flops after a phase by a plan, if there is one for it. Whether they were found.
     pub(crate) fn take(
         &mut self,
-        circuit: &Circuit,
-        clocks: &[NetId],
-        rising: bool,
-        ports: &[Tri],
-        pulsed: &[bool],
+        phase: Phase<'_>,
         values: &mut [Tri],
         marked: &mut [bool],
         next: &mut [Tri],
-        cells: &mut [Tri],
     ) -> bool
-        requires circuit { IsCircuit circuit.now }
-        requires plans { ArePlans circuit.now clocks.now self.old }
-        requires among { PulsesAmong pulsed.now clocks.now }
-        requires ports { length ports.now ≡ length circuit.now.ops.items }
-        requires values { length values.old ≡ length circuit.now.ops.items }
-        requires marked { length marked.old ≡ length circuit.now.ops.items }
+        requires circuit { IsCircuit phase.circuit.now }
+        requires plans { ArePlans phase.circuit.now phase.clocks.now self.old }
+        requires among { PulsesAmong phase.pulse.pulsed.now phase.clocks.now }
+        requires ports { length phase.pulse.ports.now ≡ length phase.circuit.now.ops.items }
+        requires values { length values.old ≡ length phase.circuit.now.ops.items }
+        requires marked { length marked.old ≡ length phase.circuit.now.ops.items }
         requires clear { (k : ℕ) → is_up marked.old k ≡ false }
-        requires next { length next.old ≡ length circuit.now.flops.items }
-        requires cells { length cells.old ≡ length circuit.now.flops.items }
-        requires loose { LooseAreUnknown circuit.now (spec.value_at cells.old) }
-        ensures plans { ArePlans circuit.now clocks.now self.new }
+        requires next { length next.old ≡ length phase.circuit.now.flops.items }
+        requires cells { length phase.pulse.old.now ≡ length phase.circuit.now.flops.items }
+        requires loose { LooseAreUnknown phase.circuit.now (spec.value_at phase.pulse.old.now) }
+        ensures plans { ArePlans phase.entry.circuit.now phase.entry.clocks.now self.new }
         ensures clear { (k : ℕ) → is_up marked.new k ≡ false }
-        ensures passed { result ≡ true → IsPassed circuit.now (record { rising = rising; ports = spec.value_at ports.now; pulsed = is_up pulsed.now; old = spec.value_at cells.old }) cells.new }
-        ensures same { result ≡ false → cells.new ≡ cells.old }
+        ensures passed { result ≡ true → IsPassed phase.entry.circuit.now (pulse_at phase.entry.pulse) next.new }
     {
-        let pulse = Pulse {
-            rising,
-            ports,
-            pulsed,
-            old: cells,
-        };
-        match self.choose(circuit, clocks, pulse, values, marked) {
-            Some(place) => self.plans[place].take(
-                circuit, clocks, &self.pins, rising, ports, pulsed, values, next, cells,
-            ),
+        match self.choose(phase, values, marked) {
+            Some(place) => self.plans[place].take(phase, &self.pins, values, next),
             None => false,
         }
     }

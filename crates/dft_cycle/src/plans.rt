@@ -14,6 +14,7 @@ ghost use Rattle.dft_cycle.specs.declared.plans.Stage.TheVariants.{Noted, Made};
 ghost use Rattle.dft_cycle.specs.Views.{PulsesAmong};
 ghost use Rattle.dft_cycle.specs.Plans.{row_of, flags_of, IsPins, IsNeedList, IsPlan, IsNoted, IsFilled, LooseAreUnknown, IsPassed};
 
+use crate::phases::Phase;
 use dft_base::Tri;
 use dft_logic::{
     Circuit, Entry, Pulse, Shown, Sights, Taking, find_entries, find_origins, flag_at, has_row,
@@ -182,23 +183,16 @@ fn list_needs(
 
 impl Plan {
     // Notes for which pulse it is.
-    pub(crate) fn note(
-        &mut self,
-        clocks: &[NetId],
-        pins: &Pins,
-        pulse: Pulse<'_>,
-        values: &[Tri],
-        stage: Stage,
-    )
-        requires pulsed { length self.old.pulsed.items ≡ length clocks.now }
+    pub(crate) fn note(&mut self, phase: Phase<'_>, pins: &Pins, values: &[Tri], stage: Stage)
+        requires pulsed { length self.old.pulsed.items ≡ length phase.clocks.now }
         requires ports { length self.old.ports.items ≡ length pins.now.ports.items }
         requires enables { length self.old.enables.items ≡ length pins.now.enables.items }
-        ensures { IsNoted clocks.now pins.now (pulse_at pulse.entry) (spec.value_at values.now) stage self.old self.new }
+        ensures { IsNoted phase.entry.clocks.now pins.now (pulse_at phase.entry.pulse) (spec.value_at values.now) stage self.old self.new }
     {
         self.stage = stage;
-        self.rising = pulse.rising;
-        read_flags(clocks, pulse.pulsed, &mut self.pulsed);
-        read_list(&pins.ports, pulse.ports, &mut self.ports);
+        self.rising = phase.pulse.rising;
+        read_flags(phase.clocks, phase.pulse.pulsed, &mut self.pulsed);
+        read_list(&pins.ports, phase.pulse.ports, &mut self.ports);
         read_list(&pins.enables, values, &mut self.enables);
     }
 
@@ -220,77 +214,65 @@ impl Plan {
     // Makes it for a pulse, if all flip-flops take what is still.
     pub(crate) fn make(
         &mut self,
-        circuit: &Circuit,
-        clocks: &[NetId],
+        phase: Phase<'_>,
         pins: &Pins,
-        pulse: Pulse<'_>,
         origins: &mut [Option<InstanceId>],
         values: &mut [Tri],
         shown: &mut [Shown],
         entries: &mut [Entry],
         marked: &mut [bool],
     )
-        requires circuit { IsCircuit circuit.now }
-        requires among { PulsesAmong pulse.pulsed.now clocks.now }
-        requires ports { length pulse.ports.now ≡ length circuit.now.ops.items }
-        requires origins { length origins.old ≡ length circuit.now.ops.items }
-        requires values { length values.old ≡ length circuit.now.ops.items }
-        requires shown { length shown.old ≡ length circuit.now.ops.items }
-        requires entries { length entries.old ≡ length circuit.now.flops.items }
-        requires marked { length marked.old ≡ length circuit.now.ops.items }
+        requires circuit { IsCircuit phase.circuit.now }
+        requires among { PulsesAmong phase.pulse.pulsed.now phase.clocks.now }
+        requires ports { length phase.pulse.ports.now ≡ length phase.circuit.now.ops.items }
+        requires origins { length origins.old ≡ length phase.circuit.now.ops.items }
+        requires values { length values.old ≡ length phase.circuit.now.ops.items }
+        requires shown { length shown.old ≡ length phase.circuit.now.ops.items }
+        requires entries { length entries.old ≡ length phase.circuit.now.flops.items }
+        requires marked { length marked.old ≡ length phase.circuit.now.ops.items }
         requires clear { (k : ℕ) → is_up marked.old k ≡ false }
-        requires plan { IsPlan circuit.now clocks.now pins.now self.old }
-        ensures plan { IsPlan circuit.now clocks.now pins.now self.new }
+        requires plan { IsPlan phase.circuit.now phase.clocks.now pins.now self.old }
+        ensures plan { IsPlan phase.entry.circuit.now phase.entry.clocks.now pins.now self.new }
         ensures clear { (k : ℕ) → is_up marked.new k ≡ false }
     {
-        if draw(circuit, pulse, origins, values, shown, entries) {
-            self.fill(circuit, entries, marked);
-            self.note(clocks, pins, pulse, values, Stage::Made);
+        if draw(phase.circuit, phase.pulse, origins, values, shown, entries) {
+            self.fill(phase.circuit, entries, marked);
+            self.note(phase, pins, values, Stage::Made);
         } else {
             self.stage = Stage::Barred;
         }
     }
 
-    // Takes a phase by it, if it is made and the phase is the one that it is for. Whether it was taken.
+    // Finds the values of flip-flops after a phase by it, if it is made and the phase is the one that it is for. Whether
+    // they were found.
     pub(crate) fn take(
         &self,
-        circuit: &Circuit,
-        clocks: &[NetId],
+        phase: Phase<'_>,
         pins: &Pins,
-        rising: bool,
-        ports: &[Tri],
-        pulsed: &[bool],
         values: &mut [Tri],
         next: &mut [Tri],
-        cells: &mut [Tri],
     ) -> bool
-        requires circuit { IsCircuit circuit.now }
-        requires pins { IsPins circuit.now pins.now }
-        requires plan { IsPlan circuit.now clocks.now pins.now self.now }
-        requires among { PulsesAmong pulsed.now clocks.now }
-        requires ports { length ports.now ≡ length circuit.now.ops.items }
-        requires values { length values.old ≡ length circuit.now.ops.items }
-        requires next { length next.old ≡ length circuit.now.flops.items }
-        requires cells { length cells.old ≡ length circuit.now.flops.items }
-        requires loose { LooseAreUnknown circuit.now (spec.value_at cells.old) }
-        ensures passed { result ≡ true → IsPassed circuit.now (record { rising = rising; ports = spec.value_at ports.now; pulsed = is_up pulsed.now; old = spec.value_at cells.old }) cells.new }
-        ensures same { result ≡ false → cells.new ≡ cells.old }
+        requires circuit { IsCircuit phase.circuit.now }
+        requires pins { IsPins phase.circuit.now pins.now }
+        requires plan { IsPlan phase.circuit.now phase.clocks.now pins.now self.now }
+        requires among { PulsesAmong phase.pulse.pulsed.now phase.clocks.now }
+        requires ports { length phase.pulse.ports.now ≡ length phase.circuit.now.ops.items }
+        requires values { length values.old ≡ length phase.circuit.now.ops.items }
+        requires next { length next.old ≡ length phase.circuit.now.flops.items }
+        requires cells { length phase.pulse.old.now ≡ length phase.circuit.now.flops.items }
+        requires loose { LooseAreUnknown phase.circuit.now (spec.value_at phase.pulse.old.now) }
+        ensures { result ≡ true → IsPassed phase.entry.circuit.now (pulse_at phase.entry.pulse) next.new }
     {
         if !self.is_made() {
             return false;
         }
-        let pulse = Pulse {
-            rising,
-            ports,
-            pulsed,
-            old: cells,
-        };
-        settle_list(circuit, pulse, &self.list[..self.count], values);
-        if !self.fits(clocks, pins, pulse, values) {
+        let list = &self.list[..self.count];
+        settle_list(phase.circuit, phase.pulse, list, values);
+        if !self.fits(phase.clocks, pins, phase.pulse, values) {
             return false;
         }
-        take_all(&circuit.flops, &self.takings, pulse, values, next);
-        cells.copy_from_slice(next);
+        let flops = &phase.circuit.flops;
+        take_all(flops, &self.takings, phase.pulse, values, next);
         true
     }
 }

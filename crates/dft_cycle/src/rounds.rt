@@ -11,6 +11,7 @@ ghost use Rattle.dft_logic.specs.Circuit.{IsCircuit, IsReady, logic_at, cell_of,
 ghost use Rattle.dft_cycle.specs.Views.{IsHeld, OwnsLatches, PulsesAmong, HasNext, raised_by, is_known, StaysBelow, AreNext, IsAlone};
 
 use crate::flops::{hold, take_next};
+use crate::phases::Phase;
 use crate::sweeping::{change_view, enter, settle_again};
 use dft_base::Tri;
 use dft_logic::{Circuit, FlipFlop, Latch, Pulse, View, differ, flag_at};
@@ -28,46 +29,44 @@ fn first(clocks: &[NetId]) -> NetId
 
 // One round: each domain's lock-ups are held at their inputs in its view. Whether one changed.
 fn round(
-    circuit: &Circuit,
-    pulse: Pulse<'_>,
-    clocks: &[NetId],
+    phase: Phase<'_>,
     poss: &[Tri],
     held: &mut [Tri],
     values: &mut [Tri],
     marked: &mut [bool],
 ) -> bool
-    requires circuit { IsCircuit circuit.now }
-    requires held { length held.old ≡ length circuit.now.flops.items }
-    requires values { length values.old ≡ length circuit.now.ops.items }
-    requires marked { length marked.old ≡ length circuit.now.ops.items }
-    requires live { AreNets (length circuit.now.ops.items) clocks.now }
-    requires owned { OwnsLatches circuit.now clocks.now }
+    requires circuit { IsCircuit phase.circuit.now }
+    requires held { length held.old ≡ length phase.circuit.now.flops.items }
+    requires values { length values.old ≡ length phase.circuit.now.ops.items }
+    requires marked { length marked.old ≡ length phase.circuit.now.ops.items }
+    requires live { AreNets (length phase.circuit.now.ops.items) phase.clocks.now }
+    requires owned { OwnsLatches phase.circuit.now phase.clocks.now }
     requires clear { (k : ℕ) → is_up marked.old k ≡ false }
-    requires ready { IsReady circuit.now values.old }
-    ensures rises { (view : ℕ → ℕ → Tri) (r : ℕ) → AreViews (logic_at circuit.now) (pulse_at pulse.entry) (spec.value_at poss.now) view → IsHeld circuit.now view held.old r → IsHeld circuit.now view held.new (suc r) }
+    requires ready { IsReady phase.circuit.now values.old }
+    ensures rises { (view : ℕ → ℕ → Tri) (r : ℕ) → AreViews (logic_at phase.entry.circuit.now) (pulse_at phase.entry.pulse) (spec.value_at poss.now) view → IsHeld phase.entry.circuit.now view held.old r → IsHeld phase.entry.circuit.now view held.new (suc r) }
     ensures same { result ≡ false → held.new ≡ held.old }
     ensures clear { (k : ℕ) → is_up marked.new k ≡ false }
-    ensures ready { IsReady circuit.now values.new }
+    ensures ready { IsReady phase.entry.circuit.now values.new }
 {
-    let mut last = first(clocks);
+    let mut last = first(phase.clocks);
     let view = View {
-        pulse,
+        pulse: phase.pulse,
         domain: last,
         poss,
         held,
     };
-    settle_again(circuit, &view, values, marked);
+    settle_again(phase.circuit, &view, values, marked);
     let mut changed = false;
-    for clock in clocks {
+    for clock in phase.clocks {
         let view = View {
-            pulse,
+            pulse: phase.pulse,
             domain: *clock,
             poss,
             held,
         };
-        change_view(circuit, &view, last, values, marked);
+        change_view(phase.circuit, &view, last, values, marked);
         last = *clock;
-        let moved = hold(circuit, *clock, values, held);
+        let moved = hold(phase.circuit, *clock, values, held);
         changed = changed || moved;
     }
     changed
@@ -83,31 +82,29 @@ fn has_latch(latches: &[Option<Latch>]) -> bool
 // Holds all lock-ups at their inputs in the views of their domains: a round for each net at most, since each round
 // gets one more level of them right.
 fn hold_lockups(
-    circuit: &Circuit,
-    pulse: Pulse<'_>,
-    clocks: &[NetId],
+    phase: Phase<'_>,
     poss: &[Tri],
     held: &mut [Tri],
     values: &mut [Tri],
     marked: &mut [bool],
 )
-    requires circuit { IsCircuit circuit.now }
-    requires held { length held.old ≡ length circuit.now.flops.items }
-    requires values { length values.old ≡ length circuit.now.ops.items }
-    requires marked { length marked.old ≡ length circuit.now.ops.items }
-    requires live { AreNets (length circuit.now.ops.items) clocks.now }
-    requires owned { OwnsLatches circuit.now clocks.now }
+    requires circuit { IsCircuit phase.circuit.now }
+    requires held { length held.old ≡ length phase.circuit.now.flops.items }
+    requires values { length values.old ≡ length phase.circuit.now.ops.items }
+    requires marked { length marked.old ≡ length phase.circuit.now.ops.items }
+    requires live { AreNets (length phase.circuit.now.ops.items) phase.clocks.now }
+    requires owned { OwnsLatches phase.circuit.now phase.clocks.now }
     requires clear { (k : ℕ) → is_up marked.old k ≡ false }
-    requires ready { IsReady circuit.now values.old }
-    ensures held { (view : ℕ → ℕ → Tri) → AreViews (logic_at circuit.now) (pulse_at pulse.entry) (spec.value_at poss.now) view → IsHeld circuit.now view held.new (length circuit.now.ops.items) }
+    requires ready { IsReady phase.circuit.now values.old }
+    ensures held { (view : ℕ → ℕ → Tri) → AreViews (logic_at phase.entry.circuit.now) (pulse_at phase.entry.pulse) (spec.value_at poss.now) view → IsHeld phase.entry.circuit.now view held.new (length phase.entry.circuit.now.ops.items) }
     ensures clear { (k : ℕ) → is_up marked.new k ≡ false }
-    ensures ready { IsReady circuit.now values.new }
+    ensures ready { IsReady phase.entry.circuit.now values.new }
 {
-    if !has_latch(&circuit.latches) {
+    if !has_latch(&phase.circuit.latches) {
         return;
     }
     for _level in 0..values.len() {
-        if !round(circuit, pulse, clocks, poss, held, values, marked) {
+        if !round(phase, poss, held, values, marked) {
             return;
         }
     }
@@ -115,45 +112,43 @@ fn hold_lockups(
 
 // The next values of the flip-flops of the pulsed domains, each in the view of its domain.
 fn next_values(
-    circuit: &Circuit,
-    pulse: Pulse<'_>,
-    clocks: &[NetId],
+    phase: Phase<'_>,
     poss: &[Tri],
     held: &[Tri],
     values: &mut [Tri],
     marked: &mut [bool],
     next: &mut [Tri],
 )
-    requires circuit { IsCircuit circuit.now }
-    requires values { length values.old ≡ length circuit.now.ops.items }
-    requires marked { length marked.old ≡ length circuit.now.ops.items }
-    requires live { AreNets (length circuit.now.ops.items) clocks.now }
-    requires next { length next.old ≡ length circuit.now.flops.items }
+    requires circuit { IsCircuit phase.circuit.now }
+    requires values { length values.old ≡ length phase.circuit.now.ops.items }
+    requires marked { length marked.old ≡ length phase.circuit.now.ops.items }
+    requires live { AreNets (length phase.circuit.now.ops.items) phase.clocks.now }
+    requires next { length next.old ≡ length phase.circuit.now.flops.items }
     requires clear { (k : ℕ) → is_up marked.old k ≡ false }
-    requires ready { IsReady circuit.now values.old }
-    ensures next { (view : ℕ → ℕ → Tri) → AreViews (logic_at circuit.now) (pulse_at pulse.entry) (spec.value_at poss.now) view → IsHeld circuit.now view held.now (length circuit.now.ops.items) → HasNext circuit.now (pulse_at pulse.entry) view clocks.now (length clocks.now) next.new }
+    requires ready { IsReady phase.circuit.now values.old }
+    ensures next { (view : ℕ → ℕ → Tri) → AreViews (logic_at phase.entry.circuit.now) (pulse_at phase.entry.pulse) (spec.value_at poss.now) view → IsHeld phase.entry.circuit.now view held.now (length phase.entry.circuit.now.ops.items) → HasNext phase.entry.circuit.now (pulse_at phase.entry.pulse) view phase.entry.clocks.now (length phase.entry.clocks.now) next.new }
     ensures clear { (k : ℕ) → is_up marked.new k ≡ false }
-    ensures ready { IsReady circuit.now values.new }
+    ensures ready { IsReady phase.entry.circuit.now values.new }
 {
-    let mut last = first(clocks);
+    let mut last = first(phase.clocks);
     let view = View {
-        pulse,
+        pulse: phase.pulse,
         domain: last,
         poss,
         held,
     };
-    settle_again(circuit, &view, values, marked);
-    for clock in clocks {
-        if flag_at(pulse.pulsed, clock.0) {
+    settle_again(phase.circuit, &view, values, marked);
+    for clock in phase.clocks {
+        if flag_at(phase.pulse.pulsed, clock.0) {
             let view = View {
-                pulse,
+                pulse: phase.pulse,
                 domain: *clock,
                 poss,
                 held,
             };
-            enter(circuit, &view, last, values, marked);
+            enter(phase.circuit, &view, last, values, marked);
             last = *clock;
-            take_next(circuit, *clock, pulse.ports, values, next);
+            take_next(phase.circuit, *clock, phase.pulse.ports, values, next);
         }
     }
 }
@@ -215,9 +210,7 @@ fn goes_on(changed: bool, alone: bool) -> bool
 
 // One turn of the search for the least map: the next values at the map, joined to it. Whether there is another turn.
 fn turn(
-    circuit: &Circuit,
-    pulse: Pulse<'_>,
-    clocks: &[NetId],
+    phase: Phase<'_>,
     alone: bool,
     poss: &mut [Tri],
     held: &mut [Tri],
@@ -225,62 +218,64 @@ fn turn(
     marked: &mut [bool],
     next: &mut [Tri],
 ) -> bool
-    requires circuit { IsCircuit circuit.now }
-    requires owned { OwnsLatches circuit.now clocks.now }
-    requires pulsing { PulsesAmong pulse.pulsed.now clocks.now }
-    requires alone { alone ≡ true → IsAlone (logic_at circuit.now) (is_up pulse.pulsed.now) }
-    requires poss { length poss.old ≡ length circuit.now.flops.items }
-    requires held { length held.old ≡ length circuit.now.flops.items }
-    requires values { length values.old ≡ length circuit.now.ops.items }
-    requires marked { length marked.old ≡ length circuit.now.ops.items }
-    requires live { AreNets (length circuit.now.ops.items) clocks.now }
-    requires next { length next.old ≡ length circuit.now.flops.items }
+    requires circuit { IsCircuit phase.circuit.now }
+    requires owned { OwnsLatches phase.circuit.now phase.clocks.now }
+    requires pulsing { PulsesAmong phase.pulse.pulsed.now phase.clocks.now }
+    requires alone { alone ≡ true → IsAlone (logic_at phase.circuit.now) (is_up phase.pulse.pulsed.now) }
+    requires poss { length poss.old ≡ length phase.circuit.now.flops.items }
+    requires held { length held.old ≡ length phase.circuit.now.flops.items }
+    requires values { length values.old ≡ length phase.circuit.now.ops.items }
+    requires marked { length marked.old ≡ length phase.circuit.now.ops.items }
+    requires live { AreNets (length phase.circuit.now.ops.items) phase.clocks.now }
+    requires next { length next.old ≡ length phase.circuit.now.flops.items }
     requires clear { (k : ℕ) → is_up marked.old k ≡ false }
-    requires ready { IsReady circuit.now values.old }
+    requires ready { IsReady phase.circuit.now values.old }
     ensures above { (c : ℕ) → AboveTri (spec.value_at poss.new c) (spec.value_at poss.old c) }
-    ensures below { StaysBelow (logic_at circuit.now) (pulse_at pulse.entry) poss.old poss.new }
-    ensures done { result ≡ false → (view : ℕ → ℕ → Tri) → AreViews (logic_at circuit.now) (pulse_at pulse.entry) (spec.value_at poss.new) view → AreNext (logic_at circuit.now) (pulse_at pulse.entry) view poss.new next.new }
+    ensures below { StaysBelow (logic_at phase.entry.circuit.now) (pulse_at phase.entry.pulse) poss.old poss.new }
+    ensures done { result ≡ false → (view : ℕ → ℕ → Tri) → AreViews (logic_at phase.entry.circuit.now) (pulse_at phase.entry.pulse) (spec.value_at poss.new) view → AreNext (logic_at phase.entry.circuit.now) (pulse_at phase.entry.pulse) view poss.new next.new }
     ensures fewer { result ≡ true → count_by is_known poss.new < count_by is_known poss.old }
     ensures clear { (k : ℕ) → is_up marked.new k ≡ false }
-    ensures ready { IsReady circuit.now values.new }
+    ensures ready { IsReady phase.entry.circuit.now values.new }
 {
-    hold_lockups(circuit, pulse, clocks, poss, held, values, marked);
-    next_values(circuit, pulse, clocks, poss, held, values, marked, next);
-    let changed = raise(&circuit.flops, pulse.rising, pulse.pulsed, next, poss);
+    hold_lockups(phase, poss, held, values, marked);
+    next_values(phase, poss, held, values, marked, next);
+    let changed = raise(
+        &phase.circuit.flops,
+        phase.pulse.rising,
+        phase.pulse.pulsed,
+        next,
+        poss,
+    );
     goes_on(changed, alone)
 }
 
 // Finds the least map above the old values and above the next value of each flip-flop that takes one, and these next
 // values.
 pub(crate) fn find_least(
-    circuit: &Circuit,
-    pulse: Pulse<'_>,
-    clocks: &[NetId],
+    phase: Phase<'_>,
     poss: &mut [Tri],
     held: &mut [Tri],
     values: &mut [Tri],
     marked: &mut [bool],
     next: &mut [Tri],
 )
-    requires circuit { IsCircuit circuit.now }
-    requires owned { OwnsLatches circuit.now clocks.now }
-    requires pulsing { PulsesAmong pulse.pulsed.now clocks.now }
-    requires poss { poss.old ≡ pulse.old.now }
-    requires cells { length poss.old ≡ length circuit.now.flops.items }
-    requires held { length held.old ≡ length circuit.now.flops.items }
-    requires values { length values.old ≡ length circuit.now.ops.items }
-    requires marked { length marked.old ≡ length circuit.now.ops.items }
-    requires live { AreNets (length circuit.now.ops.items) clocks.now }
-    requires next { length next.old ≡ length circuit.now.flops.items }
+    requires circuit { IsCircuit phase.circuit.now }
+    requires owned { OwnsLatches phase.circuit.now phase.clocks.now }
+    requires pulsing { PulsesAmong phase.pulse.pulsed.now phase.clocks.now }
+    requires poss { poss.old ≡ phase.pulse.old.now }
+    requires cells { length poss.old ≡ length phase.circuit.now.flops.items }
+    requires held { length held.old ≡ length phase.circuit.now.flops.items }
+    requires values { length values.old ≡ length phase.circuit.now.ops.items }
+    requires marked { length marked.old ≡ length phase.circuit.now.ops.items }
+    requires live { AreNets (length phase.circuit.now.ops.items) phase.clocks.now }
+    requires next { length next.old ≡ length phase.circuit.now.flops.items }
     requires clear { (k : ℕ) → is_up marked.old k ≡ false }
-    requires ready { IsReady circuit.now values.old }
-    ensures least { (view : ℕ → ℕ → Tri) → AreViews (logic_at circuit.now) (pulse_at pulse.entry) (spec.value_at poss.new) view → IsLeast (logic_at circuit.now) (pulse_at pulse.entry) (spec.value_at poss.new) view }
-    ensures next { (view : ℕ → ℕ → Tri) → AreViews (logic_at circuit.now) (pulse_at pulse.entry) (spec.value_at poss.new) view → AreNext (logic_at circuit.now) (pulse_at pulse.entry) view poss.new next.new }
+    requires ready { IsReady phase.circuit.now values.old }
+    ensures least { (view : ℕ → ℕ → Tri) → AreViews (logic_at phase.entry.circuit.now) (pulse_at phase.entry.pulse) (spec.value_at poss.new) view → IsLeast (logic_at phase.entry.circuit.now) (pulse_at phase.entry.pulse) (spec.value_at poss.new) view }
+    ensures next { (view : ℕ → ℕ → Tri) → AreViews (logic_at phase.entry.circuit.now) (pulse_at phase.entry.pulse) (spec.value_at poss.new) view → AreNext (logic_at phase.entry.circuit.now) (pulse_at phase.entry.pulse) view poss.new next.new }
     ensures clear { (k : ℕ) → is_up marked.new k ≡ false }
-    ensures ready { IsReady circuit.now values.new }
+    ensures ready { IsReady phase.entry.circuit.now values.new }
 {
-    let alone = is_alone(circuit, pulse.pulsed, clocks);
-    while turn(
-        circuit, pulse, clocks, alone, poss, held, values, marked, next,
-    ) {}
+    let alone = is_alone(phase.circuit, phase.pulse.pulsed, phase.clocks);
+    while turn(phase, alone, poss, held, values, marked, next) {}
 }

@@ -7,7 +7,7 @@ ghost use Rattle.dft_logic.specs.Circuit.{op_at};
 ghost use Rattle.dft_logic.specs.Compiling.{ports_by, wired_at, wired_by, AreLiveWires, IsOpOf, IsFlopOf, IsLatchOf, AreFlops, AreLatches, IsCircuitOf};
 
 use crate::circuit::{Circuit, FlipFlop, Latch, Op};
-use crate::compiling::{flop_at, latch_of, pin_op};
+use crate::compiling::{Part, flop_at, latch_of, pin_op};
 use crate::settling::flag_at;
 use crate::tables::{cells, followers, holders, leaves, readers, sources};
 use crate::wires::{Wire, operand, wires};
@@ -15,24 +15,15 @@ use dft_cells::{Kind, Role};
 use dft_netlist::{Design, InstanceId, NetDriver, NetId};
 use std::alloc::{AllocError, Global};
 
-// An instance: its kind and its pins.
-#[derive(Drop)]
-struct Part {
-    kind: Kind,
-    wires: Vec<Wire>,
-}
-
-// The instance of this number.
-fn part_at(alloc: Global, design: &Design, number: InstanceId) -> Result<Part, AllocError>
+// The pins of the instance of this number.
+fn wires_at(alloc: Global, design: &Design, number: InstanceId) -> Result<Vec<Wire>, AllocError>
     requires { number.0 < length design.now.instances }
-    ensures kind { IfOk result (λ part. part.kind ≡ kind_at design.now number.0) }
-    ensures wired { IfOk result (λ part. map wired_at part.wires.items ≡ map (wired_by number.0) (pins_of design.now number.0)) }
-    ensures live { IfOk result (λ part. AreLiveWires (length design.now.nets) part.wires.items) }
+    ensures wired { IfOk result (λ wires. map wired_at wires.items ≡ map (wired_by number.0) (pins_of design.now number.0)) }
+    ensures live { IfOk result (λ wires. AreLiveWires (length design.now.nets) wires.items) }
 {
     let instance = &design.instances()[number.0 as usize];
-    let kind = design.kind(number);
     let wires = wires(alloc, design.library().cells(), number, instance)?;
-    Ok(Part { kind, wires })
+    Ok(wires)
 }
 
 // Whether the pin of this number of an instance has the inverse of a flip-flop's bit.
@@ -63,17 +54,14 @@ fn net_op(alloc: Global, design: &Design, flags: &[bool], net: NetId) -> Result<
             None => Ok(Op::Free),
         },
         NetDriver::Pin { instance, pin } => {
-            let part = part_at(alloc, design, instance)?;
+            let wires = wires_at(alloc, design, instance)?;
+            let part = Part {
+                number: instance,
+                kind: design.kind(instance),
+                wires: &wires,
+            };
             let inverted = is_inverted(design, instance, pin as usize);
-            let op = pin_op(
-                alloc,
-                design,
-                flags,
-                instance,
-                part.kind,
-                inverted,
-                &part.wires,
-            )?;
+            let op = pin_op(alloc, design, flags, part, inverted)?;
             Ok(op)
         }
         NetDriver::Nothing => Ok(Op::Free),
@@ -102,8 +90,13 @@ fn instance_flop(
     requires { number.0 < length design.now.instances }
     ensures { IfOk result (IsFlopOf design.now (ports_by flags.now) number.0) }
 {
-    let part = part_at(alloc, design, number)?;
-    let flop = flop_at(design, flags, number, part.kind, &part.wires);
+    let wires = wires_at(alloc, design, number)?;
+    let part = Part {
+        number,
+        kind: design.kind(number),
+        wires: &wires,
+    };
+    let flop = flop_at(design, flags, part);
     Ok(flop)
 }
 
@@ -117,10 +110,15 @@ fn instance_latch(
     requires { number.0 < length design.now.instances }
     ensures { IfOk result (IsLatchOf design.now (ports_by flags.now) number.0) }
 {
-    let part = part_at(alloc, design, number)?;
+    let wires = wires_at(alloc, design, number)?;
+    let part = Part {
+        number,
+        kind: design.kind(number),
+        wires: &wires,
+    };
     match part.kind {
         Kind::Lockup => {
-            let latch = latch_of(design, flags, number, &part.wires);
+            let latch = latch_of(design, flags, part);
             Ok(latch)
         }
         _ => Ok(None),

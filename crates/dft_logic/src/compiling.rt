@@ -110,13 +110,21 @@ fn scan_of(wires: &[Wire]) -> Option<ScanPins>
     }
 }
 
-// The data input of an instance with these pins.
-fn data_in(number: InstanceId, wires: &[Wire]) -> Operand
-    ensures { source_at result ≡ logics.or_loose number.0 (found_in role.Din (map wired_at wires.now)) }
+// An instance: its number, its kind and its pins.
+#[derive(Clone, Copy)]
+pub(crate) struct Part<'a> {
+    pub number: InstanceId,
+    pub kind: Kind,
+    pub wires: &'a [Wire],
+}
+
+// The data input of an instance.
+fn data_in(part: Part<'_>) -> Operand
+    ensures { source_at result ≡ logics.or_loose part.entry.number.0 (found_in role.Din (map wired_at part.entry.wires.now)) }
 {
-    match find(wires, Role::Din) {
+    match find(part.wires, Role::Din) {
         Some(source) => source,
-        None => Operand::Loose(number, 0),
+        None => Operand::Loose(part.number, 0),
     }
 }
 
@@ -131,17 +139,17 @@ fn is_flip_flop(kind: Kind) -> bool
 }
 
 // The flip-flop with these pins, if it is modelled.
-fn modelled(design: &Design, flags: &[bool], number: InstanceId, wires: &[Wire]) -> Option<FlipFlop>
-    requires { AreLiveWires (length design.now.nets) wires.now }
-    ensures { option_map cell_of result ≡ modelled_in design.now (ports_by flags.now) number.0 (map wired_at wires.now) }
+fn modelled(design: &Design, flags: &[bool], part: Part<'_>) -> Option<FlipFlop>
+    requires { AreLiveWires (length design.now.nets) part.wires.now }
+    ensures { option_map cell_of result ≡ modelled_in design.now (ports_by flags.now) part.entry.number.0 (map wired_at part.entry.wires.now) }
 {
-    match domain_of(design, flags, wires) {
-        Some(clock) => match forcing(design, flags, wires) {
+    match domain_of(design, flags, part.wires) {
+        Some(clock) => match forcing(design, flags, part.wires) {
             Some(force) => Some(FlipFlop {
                 domain: clock.port,
                 falling: clock.inverted,
-                input: data_in(number, wires),
-                scan: scan_of(wires),
+                input: data_in(part),
+                scan: scan_of(part.wires),
                 force,
             }),
             None => None,
@@ -151,147 +159,120 @@ fn modelled(design: &Design, flags: &[bool], number: InstanceId, wires: &[Wire])
 }
 
 // The lock-up with these pins, if its clock shows a clock port.
-pub(crate) fn latch_of(
-    design: &Design,
-    flags: &[bool],
-    number: InstanceId,
-    wires: &[Wire],
-) -> Option<Latch>
-    requires { AreLiveWires (length design.now.nets) wires.now }
-    ensures { latched result ≡ latch_in design.now (ports_by flags.now) number.0 (map wired_at wires.now) }
+pub(crate) fn latch_of(design: &Design, flags: &[bool], part: Part<'_>) -> Option<Latch>
+    requires { AreLiveWires (length design.now.nets) part.wires.now }
+    ensures { latched result ≡ latch_in design.now (ports_by flags.now) part.entry.number.0 (map wired_at part.entry.wires.now) }
 {
-    match domain_of(design, flags, wires) {
+    match domain_of(design, flags, part.wires) {
         Some(clock) => Some(Latch {
             domain: clock.port,
-            input: data_in(number, wires),
+            input: data_in(part),
         }),
         None => None,
     }
 }
 
-// The flip-flop that an instance with these pins is, if it is a modelled one.
-fn flip_flop(
-    design: &Design,
-    flags: &[bool],
-    number: InstanceId,
-    kind: Kind,
-    wires: &[Wire],
-) -> Option<FlipFlop>
-    requires { AreLiveWires (length design.now.nets) wires.now }
-    ensures { option_map cell_of result ≡ (if takes_clock kind then modelled_in design.now (ports_by flags.now) number.0 (map wired_at wires.now) else None) }
+// The flip-flop that an instance is, if it is a modelled one.
+fn flip_flop(design: &Design, flags: &[bool], part: Part<'_>) -> Option<FlipFlop>
+    requires { AreLiveWires (length design.now.nets) part.wires.now }
+    ensures { option_map cell_of result ≡ (if takes_clock part.entry.kind then modelled_in design.now (ports_by flags.now) part.entry.number.0 (map wired_at part.entry.wires.now) else None) }
 {
-    if is_flip_flop(kind) {
-        modelled(design, flags, number, wires)
+    if is_flip_flop(part.kind) {
+        modelled(design, flags, part)
     } else {
         None
     }
 }
 
-// The lock-up with these pins as what stores a bit, if its clock shows a clock port: a high one where it is inverted.
-fn locked(design: &Design, flags: &[bool], number: InstanceId, wires: &[Wire]) -> Option<FlipFlop>
-    requires { AreLiveWires (length design.now.nets) wires.now }
-    ensures { option_map cell_of result ≡ lockup_in design.now (ports_by flags.now) number.0 (map wired_at wires.now) }
+// The lock-up with these pins as what stores a bit, if its clock shows a clock port. A high one takes its bit at the
+// fall of that clock.
+fn locked(design: &Design, flags: &[bool], part: Part<'_>) -> Option<FlipFlop>
+    requires { AreLiveWires (length design.now.nets) part.wires.now }
+    ensures { option_map cell_of result ≡ lockup_in design.now (ports_by flags.now) part.entry.number.0 (map wired_at part.entry.wires.now) }
 {
-    match domain_of(design, flags, wires) {
-        Some(clock) => Some(FlipFlop {
-            domain: clock.port,
-            falling: clock.inverted,
-            input: data_in(number, wires),
-            scan: None,
-            force: None,
-        }),
+    match domain_of(design, flags, part.wires) {
+        Some(clock) => {
+            let high = clock.inverted;
+            Some(FlipFlop {
+                domain: clock.port,
+                falling: high,
+                input: data_in(part),
+                scan: None,
+                force: None,
+            })
+        }
         None => None,
     }
 }
 
-// The lock-up that an instance with these pins is, if it is one on a clock port.
-fn lock_up(
-    design: &Design,
-    flags: &[bool],
-    number: InstanceId,
-    kind: Kind,
-    wires: &[Wire],
-) -> Option<FlipFlop>
-    requires { AreLiveWires (length design.now.nets) wires.now }
-    ensures { option_map cell_of result ≡ (if is_lockup kind then lockup_in design.now (ports_by flags.now) number.0 (map wired_at wires.now) else None) }
+// The lock-up that an instance is, if it is one on a clock port.
+fn lock_up(design: &Design, flags: &[bool], part: Part<'_>) -> Option<FlipFlop>
+    requires { AreLiveWires (length design.now.nets) part.wires.now }
+    ensures { option_map cell_of result ≡ (if is_lockup part.entry.kind then lockup_in design.now (ports_by flags.now) part.entry.number.0 (map wired_at part.entry.wires.now) else None) }
 {
-    match kind {
-        Kind::Lockup => locked(design, flags, number, wires),
+    match part.kind {
+        Kind::Lockup => locked(design, flags, part),
         _ => None,
     }
 }
 
-// What an instance with these pins stores a bit in, if it stores one.
-fn stored(
-    design: &Design,
-    flags: &[bool],
-    number: InstanceId,
-    kind: Kind,
-    wires: &[Wire],
-) -> Option<FlipFlop>
-    requires { AreLiveWires (length design.now.nets) wires.now }
-    ensures { option_map cell_of result ≡ stored_in design.now (ports_by flags.now) number.0 kind (map wired_at wires.now) }
+// What an instance stores a bit in, if it stores one.
+fn stored(design: &Design, flags: &[bool], part: Part<'_>) -> Option<FlipFlop>
+    requires { AreLiveWires (length design.now.nets) part.wires.now }
+    ensures { option_map cell_of result ≡ stored_in design.now (ports_by flags.now) part.entry.number.0 part.entry.kind (map wired_at part.entry.wires.now) }
 {
-    match flip_flop(design, flags, number, kind, wires) {
+    match flip_flop(design, flags, part) {
         Some(flop) => Some(flop),
-        None => lock_up(design, flags, number, kind, wires),
+        None => lock_up(design, flags, part),
     }
 }
 
 // What an instance stores a bit in; one that no net shows where it stores none.
-pub(crate) fn flop_at(
-    design: &Design,
-    flags: &[bool],
-    number: InstanceId,
-    kind: Kind,
-    wires: &[Wire],
-) -> FlipFlop
-    requires { AreLiveWires (length design.now.nets) wires.now }
-    ensures { cell_of result ≡ logics.cell_or_none number.0 (stored_in design.now (ports_by flags.now) number.0 kind (map wired_at wires.now)) }
+pub(crate) fn flop_at(design: &Design, flags: &[bool], part: Part<'_>) -> FlipFlop
+    requires { AreLiveWires (length design.now.nets) part.wires.now }
+    ensures { cell_of result ≡ logics.cell_or_none part.entry.number.0 (stored_in design.now (ports_by flags.now) part.entry.number.0 part.entry.kind (map wired_at part.entry.wires.now)) }
 {
-    match stored(design, flags, number, kind, wires) {
+    match stored(design, flags, part) {
         Some(flop) => flop,
         None => FlipFlop {
             domain: NetId(0),
             falling: false,
-            input: Operand::Loose(number, 0),
+            input: Operand::Loose(part.number, 0),
             scan: None,
             force: None,
         },
     }
 }
 
-// What a net takes its value from that is joined to an output pin of an instance with these pins.
+// What a net takes its value from that is joined to an output pin of an instance.
 pub(crate) fn pin_op(
     alloc: Global,
     design: &Design,
     flags: &[bool],
-    number: InstanceId,
-    kind: Kind,
+    part: Part<'_>,
     inverted: bool,
-    wires: &[Wire],
 ) -> Result<Op, AllocError>
-    requires { AreLiveWires (length design.now.nets) wires.now }
-    ensures { IfOk result (λ op. meaning op ≡ meaning_in design.now (ports_by flags.now) number.0 kind inverted (map wired_at wires.now)) }
+    requires { AreLiveWires (length design.now.nets) part.wires.now }
+    ensures { IfOk result (λ op. meaning op ≡ meaning_in design.now (ports_by flags.now) part.entry.number.0 part.entry.kind inverted (map wired_at part.entry.wires.now)) }
 {
-    match kind {
+    match part.kind {
         Kind::Opaque => Ok(Op::Free),
-        Kind::Lockup => match domain_of(design, flags, wires) {
+        Kind::Lockup => match domain_of(design, flags, part.wires) {
             Some(clock) => {
-                let input = data_in(number, wires);
-                Ok(Op::Lockup(number, clock.port, clock.inverted, input))
+                let input = data_in(part);
+                Ok(Op::Lockup(part.number, clock.port, clock.inverted, input))
             }
             None => Ok(Op::Free),
         },
         Kind::Dff | Kind::Dffr | Kind::Dffs | Kind::Sdff | Kind::Sdffr | Kind::Sdffs => {
-            match modelled(design, flags, number, wires) {
-                Some(_) => Ok(Op::Flop(number, inverted)),
+            match modelled(design, flags, part) {
+                Some(_) => Ok(Op::Flop(part.number, inverted)),
                 None => Ok(Op::Free),
             }
         }
         _ => {
-            let inputs = gate_inputs(alloc, wires)?;
-            Ok(Op::Gate(kind, inputs))
+            let inputs = gate_inputs(alloc, part.wires)?;
+            Ok(Op::Gate(part.kind, inputs))
         }
     }
 }

@@ -128,28 +128,34 @@ fn inputs_shown(inputs: &[Operand], shown: &[Shown]) -> Shown
     together
 }
 
+// Clocks that rise, or fall.
+#[derive(Clone, Copy)]
+struct Edges<'a> {
+    rising: bool,
+    pulsed: &'a [bool],
+}
+
 // What a net shows by its driver.
 fn op_shown(
     op: &Op,
     net: NetId,
     flops: &[FlipFlop],
-    rising: bool,
-    pulsed: &[bool],
+    edges: Edges<'_>,
     shown: &[Shown],
 ) -> Shown
-    ensures { shown_of result ≡ shown_in (map cell_of flops.now) rising (is_up pulsed.now) (shown_at shown.now) net.0 (meaning op.now) }
+    ensures { shown_of result ≡ shown_in (map cell_of flops.now) edges.entry.rising (is_up edges.entry.pulsed.now) (shown_at shown.now) net.0 (meaning op.now) }
 {
     match op {
-        Op::Clock => domain_shown(flag_at(pulsed, net.0), net),
+        Op::Clock => domain_shown(flag_at(edges.pulsed, net.0), net),
         Op::Gate(_, inputs) => inputs_shown(inputs.as_slice(), shown),
         Op::Joined(source) => operand_shown(source, shown),
         Op::Flop(instance, _) => domain_shown(
-            changes_at(flops, rising, pulsed, instance.0),
+            changes_at(flops, edges.rising, edges.pulsed, instance.0),
             domain_at(flops, instance.0),
         ),
         Op::Lockup(_, domain, high, source) => lockup_shown(
-            rising,
-            flag_at(pulsed, domain.0),
+            edges.rising,
+            flag_at(edges.pulsed, domain.0),
             *high,
             *domain,
             operand_shown(source, shown),
@@ -165,15 +171,10 @@ pub fn show_all(circuit: &Circuit, rising: bool, pulsed: &[bool], shown: &mut [S
     requires shown { length shown.old ≡ length circuit.now.ops.items }
     ensures { IsShownOn (logic_at circuit.now) (edges_of rising (is_up pulsed.now)) (λ net. true) (shown_at shown.new) }
 {
+    let edges = Edges { rising, pulsed };
     for net in &circuit.order {
-        let given = op_shown(
-            &circuit.ops[net.0 as usize],
-            *net,
-            &circuit.flops,
-            rising,
-            pulsed,
-            shown,
-        );
+        let op = &circuit.ops[net.0 as usize];
+        let given = op_shown(op, *net, &circuit.flops, edges, shown);
         shown[net.0 as usize] = given;
     }
 }

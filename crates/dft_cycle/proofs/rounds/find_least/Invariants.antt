@@ -7,8 +7,8 @@ use Rattle.dft_cycle.proofs.rounds.find_least.Given as goal
 
 abbrev pub invariant-loop : goal.invariant-loop
 invariant-loop l = record {
-  reached : Reached (logic_at l.circuit) (pulse_at l.pulse) l.poss;
-  ready : IsReady l.circuit l.values;
+  reached : Reached (logic_at l.phase.circuit.now) (pulse_at l.phase.pulse) l.poss;
+  ready : IsReady l.phase.circuit.now l.values;
   clear : (k : ℕ) → flag_at l.marked k ≡ false;
 }
 

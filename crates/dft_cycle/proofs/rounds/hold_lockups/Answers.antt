@@ -6,7 +6,7 @@ use Rattle.dft_cycle.proofs.RoundLemmas.{none_held, all_held, no_latch_held}
 use Rattle.dft_cycle.proofs.rounds.hold_lockups.Goals as goal
 
 pub loop-level-init : goal.loop-level-init
-loop-level-init c = record { held = λ view views. none_held c.args.circuit.now view c.args.held.now; ready = c.requires.ready; clear = c.requires.clear }
+loop-level-init c = record { held = λ view views. none_held c.args.phase.circuit.now view c.args.held.now; ready = c.requires.ready; clear = c.requires.clear }
 
 pub loop-level-preserved : goal.loop-level-preserved
 loop-level-preserved c = record {
@@ -16,10 +16,10 @@ loop-level-preserved c = record {
 }
 
 pub returns-then-not-round-clause-held : goal.returns-then-not-round-clause-held
-returns-then-not-round-clause-held c = λ view views. all_held c.args.circuit.now view c.loop-level.held c.round.new.held (c.round.ensures.same c.if-not-round.true) (λ r. c.round.ensures.rises view r views) (length c.args.circuit.now.ops.items)
+returns-then-not-round-clause-held c = λ view views. all_held c.args.phase.circuit.now view c.loop-level.held c.round.new.held (c.round.ensures.same c.if-not-round.true) (λ r. c.round.ensures.rises view r views) (length c.args.phase.circuit.now.ops.items)
 
 pub returns-clause-held : goal.returns-clause-held
 returns-clause-held c = λ view views net k e high source here low. c.loop-level.invariant.held view views net k e high source here (omega (arith, low))
 
 pub returns-then-not-has_latch-clause-held : goal.returns-then-not-has_latch-clause-held
-returns-then-not-has_latch-clause-held c = λ view views. no_latch_held c.args.circuit.now view c.args.held.now (length c.args.circuit.now.ops.items) c.requires.circuit (sym (ap (λ (latches : _). list_any (λ latch. is_some latch) latches) c.deref.ensures.value) ∙ sym c.has_latch.ensures ∙ c.if-not-has_latch.true)
+returns-then-not-has_latch-clause-held c = λ view views. no_latch_held c.args.phase.circuit.now view c.args.held.now (length c.args.phase.circuit.now.ops.items) c.requires.circuit (sym (ap (λ (latches : _). list_any (λ latch. is_some latch) latches) c.deref.ensures.value) ∙ sym c.has_latch.ensures ∙ c.if-not-has_latch.true)

@@ -9,7 +9,7 @@ use Rattle.dft_cycle.proofs.rounds.hold_lockups.Given as goal
 
 abbrev pub invariant-loop-level : goal.invariant-loop-level
 invariant-loop-level l = record {
-  held : (view : ℕ → ℕ → Tri) → AreViews (logic_at l.circuit) (pulse_at l.pulse) (value_at l.poss) view → IsHeld l.circuit view l.held l._level;
-  ready : IsReady l.circuit l.values;
+  held : (view : ℕ → ℕ → Tri) → AreViews (logic_at l.phase.circuit.now) (pulse_at l.phase.pulse) (value_at l.poss) view → IsHeld l.phase.circuit.now view l.held l._level;
+  ready : IsReady l.phase.circuit.now l.values;
   clear : (k : ℕ) → flag_at l.marked k ≡ false;
 }

@@ -12,9 +12,9 @@ use Rattle.dft_cycle.proofs.rounds.next_values.Goals.{then-flag_at, else-flag_at
 pub loop-clock-preserved : goal.loop-clock-preserved
 unfolding logic_at
 loop-clock-preserved c =
-    let x = c.args.circuit.now in
-    let p = pulse_at c.args.pulse in
-    let clocks = c.args.clocks.now in
+    let x = c.args.phase.circuit.now in
+    let p = pulse_at c.args.phase.pulse in
+    let clocks = c.args.phase.clocks.now in
     let j : ℕ = c.loop-clock.clock-index in
     let clock : NetId = get_or clocks j (record { 0 = 0 }) in
     let live : clock.0 < length x.ops.items = c.requires.live j clock (slice_get-get_or clocks j (record { 0 = 0 }) c.loop-clock-test.true) in
@@ -35,4 +35,4 @@ loop-clock-preserved c =
     ]
 
 pub returns-clause-ready : goal.returns-clause-ready
-returns-clause-ready c = ready_in c.args.circuit.now (pulse_at c.args.pulse) c.args.poss.now c.args.held.now c.loop-clock.values c.loop-clock.last.0 c.loop-clock.invariant.given
+returns-clause-ready c = ready_in c.args.phase.circuit.now (pulse_at c.args.phase.pulse) c.args.poss.now c.args.held.now c.loop-clock.values c.loop-clock.last.0 c.loop-clock.invariant.given

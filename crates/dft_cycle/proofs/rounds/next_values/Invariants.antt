@@ -9,9 +9,9 @@ use Rattle.dft_cycle.proofs.rounds.next_values.Given as goal
 
 abbrev pub invariant-loop-clock : goal.invariant-loop-clock
 invariant-loop-clock l = record {
-  next : (view : ℕ → ℕ → Tri) → AreViews (logic_at l.circuit) (pulse_at l.pulse) (value_at l.poss) view → IsHeld l.circuit view l.held (length l.circuit.ops.items) →
-      HasNext l.circuit (pulse_at l.pulse) view l.clocks l.clock-index l.next;
-  given : (k : ℕ) → GivenIn l.circuit (pulse_at l.pulse) l.poss l.held l.last.0 l.values k;
+  next : (view : ℕ → ℕ → Tri) → AreViews (logic_at l.phase.circuit.now) (pulse_at l.phase.pulse) (value_at l.poss) view → IsHeld l.phase.circuit.now view l.held (length l.phase.circuit.now.ops.items) →
+      HasNext l.phase.circuit.now (pulse_at l.phase.pulse) view l.phase.clocks.now l.clock-index l.next;
+  given : (k : ℕ) → GivenIn l.phase.circuit.now (pulse_at l.phase.pulse) l.poss l.held l.last.0 l.values k;
   clear : (k : ℕ) → flag_at l.marked k ≡ false;
-  live : 0 < length l.circuit.ops.items → l.last.0 < length l.circuit.ops.items;
+  live : 0 < length l.phase.circuit.now.ops.items → l.last.0 < length l.phase.circuit.now.ops.items;
 }

@@ -9,10 +9,10 @@ use Rattle.dft_cycle.proofs.rounds.round.Given as goal
 
 abbrev pub invariant-loop-clock : goal.invariant-loop-clock
 invariant-loop-clock l = record {
-  rises : Rises l.circuit (pulse_at l.pulse) (value_at l.poss) l.clocks l.initial.held l.held l.clock-index;
+  rises : Rises l.phase.circuit.now (pulse_at l.phase.pulse) (value_at l.poss) l.phase.clocks.now l.initial.held l.held l.clock-index;
   same : l.changed ≡ false → l.held ≡ l.initial.held;
-  near : (k : ℕ) → Has (list_at l.circuit.leaves.items l.last.0) k ⊎ GivenIn l.circuit (pulse_at l.pulse) l.poss l.held l.last.0 l.values k;
-  ready : IsReady l.circuit l.values;
+  near : (k : ℕ) → Has (list_at l.phase.circuit.now.leaves.items l.last.0) k ⊎ GivenIn l.phase.circuit.now (pulse_at l.phase.pulse) l.poss l.held l.last.0 l.values k;
+  ready : IsReady l.phase.circuit.now l.values;
   clear : (k : ℕ) → flag_at l.marked k ≡ false;
-  live : 0 < length l.circuit.ops.items → l.last.0 < length l.circuit.ops.items;
+  live : 0 < length l.phase.circuit.now.ops.items → l.last.0 < length l.phase.circuit.now.ops.items;
 }

@@ -13,6 +13,6 @@ returns-in_ok-op-in-Pin c =
     let i = c.in-Pin.instance.0 in
     let turned : Bool → drivers.Driver = λ b. driver_of_kind (kind_at n i) i b (inputs_of i (pins_of n i)) in
     let wired : List Wire → List Wired = map wired_at in
-    op_of_pin n (ports_by c.args.flags.now) c.args.net.0 i c.is_inverted-inverted.result c.in_ok-part-in-Pin.part.kind (map wired_at c.deref.result.now) c.in_ok-op-in-Pin.op c.in-Pin.ensures.drives.instance
-    c.soundness.ensures.netlist c.soundness.ensures.library c.in-Pin.ensures.drives.at (c.in-Pin.ensures.driver ∙ sym (ap turned c.is_inverted-inverted.ensures)) c.in_ok-part-in-Pin.ensures.kind
-    (ap wired c.deref.ensures.value ∙ c.in_ok-part-in-Pin.ensures.wired) c.in_ok-op-in-Pin.ensures
+    op_of_pin n (ports_by c.args.flags.now) c.args.net.0 i c.is_inverted-inverted.result c.kind.result (map wired_at c.deref.result.now) c.in_ok-op-in-Pin.op c.in-Pin.ensures.drives.instance
+    c.soundness.ensures.netlist c.soundness.ensures.library c.in-Pin.ensures.drives.at (c.in-Pin.ensures.driver ∙ sym (ap turned c.is_inverted-inverted.ensures)) c.kind.ensures
+    (ap wired c.deref.ensures.value ∙ c.in_ok-wires-in-Pin.ensures.wired) c.in_ok-op-in-Pin.ensures

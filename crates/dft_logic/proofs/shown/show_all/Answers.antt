@@ -12,7 +12,7 @@ loop-net-preserved c =
     let x = c.args.circuit.now in
     let cells = map cell_of x.flops.items in
     filling_step shown_of Nothing (shown_in cells c.args.rising (flag_at c.args.pulsed.now)) (shown_depends cells c.args.rising (flag_at c.args.pulsed.now)) x.ops.items x.order.items c.deref-net-items.result.now c.loop-net.shown c.loop-net.net-index _ _
-    c.deref-net-items.ensures.value c.loop-net-test.true (c.loop-net.auto.shown ∙ c.requires.shown) c.loop-net.invariant c.index.ensures (rw c.deref.ensures.value at c.op_shown-given.ensures)
+    c.deref-net-items.ensures.value c.loop-net-test.true (c.loop-net.auto.shown ∙ c.requires.shown) c.loop-net.invariant c.index-op.ensures (rw c.deref.ensures.value at c.op_shown-given.ensures)
 
 pub returns : goal.returns
 returns c =

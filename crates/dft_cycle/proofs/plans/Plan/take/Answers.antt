@@ -5,10 +5,10 @@ use Rattle.dft_base.specs.declared.tri.Tri.TheVariants.{Unknown}
 use Rattle.dft_cycle.proofs.PassLemmas.{passed}
 use Rattle.dft_cycle.proofs.plans.Plan.take.Goals as goal
 
-pub returns-clause-passed : goal.returns-clause-passed
-returns-clause-passed c = λ yes.
-    passed c.args.circuit.now c.args.clocks.now c.args.pins.now c.args.self.now _ c.settle_list.new.values c.args.cells.now c.copy_from_slice.new.self c.requires.circuit c.requires.pins
-    (c.requires.plan.made (c.is_made.ensures c.if-not-is_made.false)) c.requires.among (λ k far. get_or_past c.args.ports.now k Unknown (omega (arith, c.requires.ports, far))) (λ k. refl) c.requires.loose
+pub returns : goal.returns
+returns c = λ yes.
+    passed c.args.phase.circuit.now c.args.phase.clocks.now c.args.pins.now c.args.self.now _ c.settle_list.new.values c.args.phase.pulse.old.now c.take_all.new.next c.requires.circuit c.requires.pins
+    (c.requires.plan.made (c.is_made.ensures c.if-not-is_made.false)) c.requires.among (λ k far. get_or_past c.args.phase.pulse.ports.now k Unknown (omega (arith, c.requires.ports, far))) (λ k. refl) c.requires.loose
     (c.settle_list.auto.values ∙ c.requires.values)
     (c.fits.ensures.edge c.if-not-fits.false) (c.fits.ensures.pulsed c.if-not-fits.false) (c.fits.ensures.ports c.if-not-fits.false) (c.fits.ensures.enables c.if-not-fits.false)
-    (rw c.deref.ensures.value at c.settle_list.ensures) (rw (sym c.copy_from_slice.ensures.after) at (rw c.deref-2.ensures.value at (rw c.deref-3.ensures.value at c.take_all.ensures)))
+    (rw c.deref.ensures.value at c.settle_list.ensures) (rw c.deref-2.ensures.value at (rw c.deref-3.ensures.value at c.take_all.ensures))

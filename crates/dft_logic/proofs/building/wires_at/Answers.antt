@@ -1,7 +1,7 @@
 -- The nets of a sound netlist's pins are live.
 use Rattle.std.proofs.Common.{length, refl}
 use Rattle.std.proofs.lemmas.Option.{slice_get_read}
-use Rattle.dft_logic.proofs.building.part_at.Goals as goal
+use Rattle.dft_logic.proofs.building.wires_at.Goals as goal
 
 pub returns-clause-live : goal.returns-clause-live
 returns-clause-live c =
