@@ -182,7 +182,7 @@ told_by n ring row columns window cube (word.Unsolvable ids) old new outcome lin
 stand_apart : (n : Netlist) (config : Config) → IsInRange config → StandApart (plan_of n config).chains
 stand_apart n config range chain place other after cell one two =
     let scanned = cells_scanned n config chain place cell range one in
-    let once = cells_once n config cell.0 scanned.domain range scanned.is in
+    let once = cells_once n config cell.0 scanned.domain scanned.falling range scanned.is in
     let first = once.only chain place one in
     let second = once.only other after two in
     (first.0 ∙ sym second.0, first.1 ∙ sym second.1)

@@ -95,7 +95,7 @@ scanned_readable chain place None domain line c p n d is = absurd (none-some lin
 
 unscanned_readable : (name : Option Text) (verdict : Option Judged) (line : UnscannedLine) → IsNameIfAny name → unscanned_as name verdict ≡ Some line → IsUnscannedReadable line
 unscanned_readable (Some name) (Some (Unscanned rule)) line n is = subst IsUnscannedReadable (same_Some _ line is) n
-unscanned_readable (Some name) (Some (Scanned domain)) line n is = absurd (none-some line is)
+unscanned_readable (Some name) (Some (Scanned domain falling)) line n is = absurd (none-some line is)
 unscanned_readable (Some name) None line n is = absurd (none-some line is)
 unscanned_readable None verdict line n is = absurd (none-some line is)
 

@@ -109,12 +109,10 @@ link zero zero cell next is follows =
 link zero (suc place) cell next is follows = absurd (none-some next follows)
 link (suc chain) place cell next is follows = absurd (none-some next follows)
 
-head : (chain : ℕ) (cell : InstanceId) → cell_at small_chains chain zero ≡ Some cell → (small.cell cell.0).falling ≡ false
-head zero cell is = sym (ap (λ (c : InstanceId). (small.cell c.0).falling) (same_Some (record { 0 = 3 }) cell is))
-head (suc chain) cell is = absurd (none-some cell is)
-
-phase : (chain : ℕ) (cell : InstanceId) → cell_at small_chains chain zero ≡ Some cell → HasPhase small small_config.ring small_edt (small_scan.into chain zero) chain
-phase zero cell is = record { sum = 13; lockup = 2; entry = 14; sums = Joined {left = 8 ∷ []} refl Term Term; latch = refl; leads = refl }
+phase : (chain : ℕ) (cell : InstanceId) → cell_at small_chains chain zero ≡ Some cell → HasPhase small small_config.ring small_edt (small_scan.into chain zero) (small.cell cell.0).falling chain
+phase zero cell is =
+    subst (λ (c : InstanceId). HasPhase small small_config.ring small_edt (small_scan.into 0 0) (small.cell c.0).falling 0) (same_Some (record { 0 = 3 }) cell is)
+    (record { sum = 13; sums = Joined {left = 8 ∷ []} refl Term Term; entered = record { lockup = 2; entry = 14; latch = refl; leads = refl } })
 phase (suc chain) cell is = absurd (none-some cell is)
 
 ring : HasRing small small_ports small_config small_chains small_scan small_edt
@@ -127,7 +125,6 @@ ring = record {
   stages = two (HasStage small small_config.ring small_edt)
       (record { sum = 9; kept = 10; sums = Term; gate = refl; flop = record { cell = refl; net = refl } })
       (record { sum = 11; kept = 12; sums = Joined {left = 8 ∷ []} refl Term Term; gate = refl; flop = record { cell = refl; net = refl } });
-  heads = head;
   phases = phase;
 }
 

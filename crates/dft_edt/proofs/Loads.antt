@@ -1,12 +1,13 @@
 -- The law of one vector in every run, and the load by induction over vectors that pass on what is known.
 use Rattle.std.proofs.Common.{ℕ, zero, suc, Bool, true, false, List, [], ◌∷◌, ◌≡◌, ◌+◌, ◌<◌, refl, sym, subst, ap, arith, map, length, ◌∙◌, Option, None, Some, slice_get, get_or, option_and_then}
+use Rattle.std.specs.Prelude.{if◌then◌else◌}
 use Rattle.std.proofs.lemmas.Option.{none-some, slice_get_within, slice_get-get_or}
 use Rattle.dft_base.specs.declared.tri.Tri.{Tri}
 use Rattle.dft_base.specs.Tri.{known}
 use Rattle.dft_netlist.specs.declared.ids.InstanceId.{InstanceId}
-use Rattle.dft_netlist.specs.Logic.{Logic, Ports}
-use Rattle.dft_netlist.specs.Runs.{Now, Vector, after_turn}
-use Rattle.dft_abstract.specs.Cycle.{after_round}
+use Rattle.dft_netlist.specs.Logic.{Logic, Ports, IsRanked}
+use Rattle.dft_netlist.specs.Runs.{Now, Vector, Turn, IsTurn, AreLow, after_turn}
+use Rattle.dft_abstract.specs.Cycle.{Halves, AreHalves, after_halves, after_round}
 use Rattle.dft_abstract.specs.Laws.{bits}
 use Rattle.dft_abstract.proofs.Lifts.{known_after_turn, low_after_turn}
 use Rattle.dft_config.specs.Config.{Config}
@@ -21,12 +22,12 @@ use Rattle.dft_runs.specs.Passes.{Pass, Passes, ArePasses, end_of, pass_of_round
 use Rattle.dft_runs.proofs.Passing.{round_passes, rounds_pass, turn_passes, turns_pass}
 use Rattle.dft_edt.specs.Feeds.{at_feed, feeds}
 use Rattle.dft_parts.specs.SumTrees.{tri_sum}
-use Rattle.dft_edt.specs.Hardware.{EdtNets, HasRing, before_in}
+use Rattle.dft_edt.specs.Hardware.{EdtNets, HasRing, HeadsRise, before_in}
 use Rattle.dft_config.specs.Segments.{chain_in}
 use Rattle.dft_edt.specs.Vectors.{IsEdtShift, IsClearing, Carries, Clears, ShiftInRuns, ClearInRuns, MasksInRuns, HoldsInRuns}
 use Rattle.dft_edt.specs.Loads.{CarryTable, load_sum, LoadPasses, LoadInRuns, LoadInRounds}
 use Rattle.dft_edt.proofs.Sums.{known_feeds, known_sum, feeds_step}
-use Rattle.dft_edt.proofs.Steps.{shift_law, clear_law, mask_law, hold_law, feeds_there, phase_below}
+use Rattle.dft_edt.proofs.Steps.{stage_after, shift_law, clear_law, mask_law, hold_law, feeds_there, phase_below}
 
 -- ---- one vector, from known values
 
@@ -42,23 +43,45 @@ phase_known config chain s r range p = known_sum config.ring.stages s r (phase_o
 
 -- ---- one vector in every run
 
+-- a stage has the step of the ring
+stage_in_runs : (l : Logic) (rank : ℕ → ℕ) (ports : Ports) (config : Config) (chains : List (List InstanceId)) (w : ChainNets) (hw : EdtNets) (row : ℕ → Bool) (x : Vector) (now : Now) (t : Turn) → IsRanked l rank → HasRing l ports config chains w hw → IsInRange config →
+    IsEdtShift ports w hw x → Carries config hw row x → AreLow now.state → IsTurn l x now t → (i : ℕ) → i < config.ring.stages → bits (after_turn l x now t).state (hw.stage i) ≡ known (step config.ring row (λ k. now.state.flops (hw.stage k)) i)
+stage_in_runs l rank ports config chains w hw row x now t ranked has range shift carries low turn i less =
+    let s : ℕ → Bool = λ k. now.state.flops (hw.stage k) in
+    ap known (known_after_turn l rank x now t ranked low turn (hw.stage i) (step config.ring row s i)
+    (λ h halves. stage_after l ports config chains w hw x (bits now.state) h has range shift halves i less
+    ∙ stage_known config i (λ k. known (s k)) (λ j. x.ports (hw.channel j)) s row range less (λ k inside. refl) carries))
+
+-- a first cell has its chain's phase sum, of the stages before the vector or of those after it
+first_in_runs : (l : Logic) (rank : ℕ → ℕ) (ports : Ports) (config : Config) (chains : List (List InstanceId)) (w : ChainNets) (hw : EdtNets) (row : ℕ → Bool) (x : Vector) (now : Now) (t : Turn) → IsRanked l rank → HasRing l ports config chains w hw → IsInRange config →
+    IsEdtShift ports w hw x → Carries config hw row x → AreLow now.state → IsTurn l x now t → (chain : ℕ) (cell : InstanceId) (falling : Bool) →
+    ((h : Halves) → AreHalves l x (bits now.state) h → after_halves l x (bits now.state) h cell.0 ≡ tri_sum (map (λ k. (if falling then after_halves l x (bits now.state) h else bits now.state) (hw.stage k)) (phase_of config.ring chain))) →
+    bits (after_turn l x now t).state cell.0 ≡ tri_sum (map (λ k. (if falling then bits (after_turn l x now t).state else bits now.state) (hw.stage k)) (phase_of config.ring chain))
+first_in_runs l rank ports config chains w hw row x now t ranked has range shift carries low turn chain cell false law =
+    let s : ℕ → Bool = λ k. now.state.flops (hw.stage k) in
+    let sum = phase_known config chain (λ k. known (s k)) s range (λ k inside. refl) in
+    ap known (known_after_turn l rank x now t ranked low turn cell.0 (phase_sum config.ring chain s) (λ h halves. law h halves ∙ sum)) ∙ sym sum
+first_in_runs l rank ports config chains w hw row x now t ranked has range shift carries low turn chain cell true law =
+    let s : ℕ → Bool = λ k. now.state.flops (hw.stage k) in
+    let next : ℕ → Bool = λ k. step config.ring row s k in
+    ap known (known_after_turn l rank x now t ranked low turn cell.0 (phase_sum config.ring chain next)
+    (λ h halves. law h halves
+    ∙ phase_known config chain (λ k. after_halves l x (bits now.state) h (hw.stage k)) next range
+    (λ k inside. stage_after l ports config chains w hw x (bits now.state) h has range shift halves k inside
+    ∙ stage_known config k (λ m. known (s m)) (λ j. x.ports (hw.channel j)) s row range inside (λ m within. refl) carries)))
+    ∙ sym (phase_known config chain (λ k. bits (after_turn l x now t).state (hw.stage k)) next range (λ k inside. stage_in_runs l rank ports config chains w hw row x now t ranked has range shift carries low turn k inside))
+
 pub shift_in_runs : ShiftInRuns
-shift_in_runs l rank ports config chains w hw row x now t ranked has range shift carries low turn = record {
+shift_in_runs l rank ports config chains w hw falling row x now t ranked has heads range shift carries low turn = record {
   stages = λ i less. (
       let s : ℕ → Bool = λ k. now.state.flops (hw.stage k) in
-      ap known (known_after_turn l rank x now t ranked low turn (hw.stage i) (step config.ring row s i)
-      (λ h halves. (shift_law l ports config chains w hw x (bits now.state) h has range shift halves).stages i less
-      ∙ stage_known config i (λ k. known (s k)) (λ j. x.ports (hw.channel j)) s row range less (λ k inside. refl) carries))
+      stage_in_runs l rank ports config chains w hw row x now t ranked has range shift carries low turn i less
       ∙ sym (stage_known config i (λ k. known (s k)) (λ j. known (row j)) s row range less (λ k inside. refl) (λ j inside. refl))
       );
-  firsts = λ chain cell stands. (
-      let s : ℕ → Bool = λ k. now.state.flops (hw.stage k) in
-      let sum = phase_known config chain (λ k. known (s k)) s range (λ k inside. refl) in
-      ap known (known_after_turn l rank x now t ranked low turn cell.0 (phase_sum config.ring chain s)
-      (λ h halves. (shift_law l ports config chains w hw x (bits now.state) h has range shift halves).firsts chain cell stands ∙ sum)) ∙ sym sum
-      );
+  firsts = λ chain cell stands. first_in_runs l rank ports config chains w hw row x now t ranked has range shift carries low turn chain cell (falling chain)
+      (λ h halves. (shift_law l ports config chains w hw falling x (bits now.state) h has heads range shift halves).firsts chain cell stands);
   others = λ chain place cell next stands follows. ap known (known_after_turn l rank x now t ranked low turn next.0 (now.state.flops cell.0)
-      (λ h halves. (shift_law l ports config chains w hw x (bits now.state) h has range shift halves).others chain place cell next stands follows));
+      (λ h halves. (shift_law l ports config chains w hw falling x (bits now.state) h has heads range shift halves).others chain place cell next stands follows));
 }
 
 pub clear_in_runs : ClearInRuns
@@ -106,27 +129,27 @@ place_before None place next is = absurd (none-some next is)
 place_before (Some cells) place next is = get_before cells place next is
 
 loaded_cells : (l : Logic) (ports : Ports) (config : Config) (chains : List (List InstanceId)) (w : ChainNets) (hw : EdtNets) (table : Table) (t : ℕ) (x : Vector) (old : ℕ → Tri) (p : Pass) →
-    (has : HasRing l ports config chains w hw) → (range : IsInRange config) → (shift : IsEdtShift ports w hw x) → (passes : Passes l x old p) → (loaded : Loaded config chains hw table t old) →
+    (has : HasRing l ports config chains w hw) → (rises : HeadsRise l chains) → (range : IsInRange config) → (shift : IsEdtShift ports w hw x) → (passes : Passes l x old p) → (loaded : Loaded config chains hw table t old) →
     (chain place u : ℕ) (cell : InstanceId) → (stands : cell_at chains chain place ≡ Some cell) → (is : suc (place + u) ≡ suc t) → p.new cell.0 ≡ known (phase_sum config.ring chain (state_after config.ring table u))
-loaded_cells l ports config chains w hw table t x old p has range shift passes loaded chain zero u cell stands is =
+loaded_cells l ports config chains w hw table t x old p has rises range shift passes loaded chain zero u cell stands is =
     passes.after cell.0 (phase_sum config.ring chain (state_after config.ring table t))
-    (λ h halves. (shift_law l ports config chains w hw x old h has range shift halves).firsts chain cell stands
+    (λ h halves. (shift_law l ports config chains w hw (λ _. false) x old h has rises range shift halves).firsts chain cell stands
     ∙ phase_known config chain (λ k. old (hw.stage k)) (state_after config.ring table t) range loaded.stages)
     ∙ ap (λ (i : ℕ). known (phase_sum config.ring chain (state_after config.ring table i))) (omega (arith, is))
-loaded_cells l ports config chains w hw table t x old p has range shift passes loaded chain (suc place) u cell stands is =
+loaded_cells l ports config chains w hw table t x old p has rises range shift passes loaded chain (suc place) u cell stands is =
     let other = place_before (slice_get chains chain) place cell stands in
     passes.after cell.0 (phase_sum config.ring chain (state_after config.ring table u))
-    (λ h halves. (shift_law l ports config chains w hw x old h has range shift halves).others chain place other.0 cell other.1 stands
+    (λ h halves. (shift_law l ports config chains w hw (λ _. false) x old h has rises range shift halves).others chain place other.0 cell other.1 stands
     ∙ loaded.cells chain place u other.0 other.1 (omega (arith, is)))
 
 pub loaded_step : (l : Logic) (ports : Ports) (config : Config) (chains : List (List InstanceId)) (w : ChainNets) (hw : EdtNets) (table : Table) (t : ℕ) (x : Vector) (old : ℕ → Tri) (p : Pass) →
-    (has : HasRing l ports config chains w hw) → (range : IsInRange config) → (shift : IsEdtShift ports w hw x) → (carries : Carries config hw (λ j. table j t) x) → (passes : Passes l x old p) → (loaded : Loaded config chains hw table t old) → Loaded config chains hw table (suc t) p.new
+    (has : HasRing l ports config chains w hw) → (rises : HeadsRise l chains) → (range : IsInRange config) → (shift : IsEdtShift ports w hw x) → (carries : Carries config hw (λ j. table j t) x) → (passes : Passes l x old p) → (loaded : Loaded config chains hw table t old) → Loaded config chains hw table (suc t) p.new
 unfolding state_after
-loaded_step l ports config chains w hw table t x old p has range shift carries passes loaded = record {
+loaded_step l ports config chains w hw table t x old p has rises range shift carries passes loaded = record {
   stages = λ i less. passes.after (hw.stage i) (step config.ring (λ j. table j t) (state_after config.ring table t) i)
-      (λ h halves. (shift_law l ports config chains w hw x old h has range shift halves).stages i less
+      (λ h halves. (shift_law l ports config chains w hw (λ _. false) x old h has rises range shift halves).stages i less
       ∙ stage_known config i (λ k. old (hw.stage k)) (λ j. x.ports (hw.channel j)) (state_after config.ring table t) (λ j. table j t) range less loaded.stages carries);
-  cells = loaded_cells l ports config chains w hw table t x old p has range shift passes loaded;
+  cells = loaded_cells l ports config chains w hw table t x old p has rises range shift passes loaded;
 }
 
 pub cleared : (l : Logic) (ports : Ports) (config : Config) (chains : List (List InstanceId)) (w : ChainNets) (hw : EdtNets) (x : Vector) (old : ℕ → Tri) (p : Pass) →
@@ -134,14 +157,14 @@ pub cleared : (l : Logic) (ports : Ports) (config : Config) (chains : List (List
 cleared l ports config chains w hw x old p has clearing passes i less = passes.after (hw.stage i) false (λ h halves. clear_law l ports config chains w hw x old h has clearing halves i less)
 
 pub loaded_all : (l : Logic) (ports : Ports) (config : Config) (chains : List (List InstanceId)) (w : ChainNets) (hw : EdtNets) (table : Table) (t total : ℕ) (xs : List Vector) (old : ℕ → Tri) (ps : List Pass) →
-    HasRing l ports config chains w hw → IsInRange config → CarryTable ports config w hw table t xs → ArePasses l old xs ps → t + length xs ≡ total →
+    HasRing l ports config chains w hw → HeadsRise l chains → IsInRange config → CarryTable ports config w hw table t xs → ArePasses l old xs ps → t + length xs ≡ total →
     Loaded config chains hw table t old → Loaded config chains hw table total (end_of old ps)
-loaded_all l ports config chains w hw table t total [] old [] has range carry are is loaded = subst (λ (u : ℕ). Loaded config chains hw table u old) (omega (arith, is)) loaded
-loaded_all l ports config chains w hw table t total [] old (p ∷ ps) has range carry are is loaded = absurd are
-loaded_all l ports config chains w hw table t total (x ∷ xs) old [] has range carry are is loaded = absurd are
-loaded_all l ports config chains w hw table t total (x ∷ xs) old (p ∷ ps) has range carry are is loaded =
-    loaded_all l ports config chains w hw table (suc t) total xs p.new ps has range carry.1 are.1 (omega (arith, is))
-    (loaded_step l ports config chains w hw table t x old p has range carry.0.0 carry.0.1 are.0 loaded)
+loaded_all l ports config chains w hw table t total [] old [] has rises range carry are is loaded = subst (λ (u : ℕ). Loaded config chains hw table u old) (omega (arith, is)) loaded
+loaded_all l ports config chains w hw table t total [] old (p ∷ ps) has rises range carry are is loaded = absurd are
+loaded_all l ports config chains w hw table t total (x ∷ xs) old [] has rises range carry are is loaded = absurd are
+loaded_all l ports config chains w hw table t total (x ∷ xs) old (p ∷ ps) has rises range carry are is loaded =
+    loaded_all l ports config chains w hw table (suc t) total xs p.new ps has rises range carry.1 are.1 (omega (arith, is))
+    (loaded_step l ports config chains w hw table t x old p has rises range carry.0.0 carry.0.1 are.0 loaded)
 
 -- ---- the sums at its end
 
@@ -153,17 +176,17 @@ sum_at_end config chains hw table cycles values range count loaded chain place c
     ∙ ap known (loads_sum config table cycles chain place range (omega (arith, within, count)) less)
 
 pub load_passes : LoadPasses
-load_passes l ports config chains w hw table clear load old p ps has range clearing carry pass passes chain place cell stands less =
+load_passes l ports config chains w hw table clear load old p ps has rises range clearing carry pass passes chain place cell stands less =
     sum_at_end config chains hw table (length load) (end_of p.new ps) range has.count
-    (loaded_all l ports config chains w hw table 0 (length load) load p.new ps has range carry passes (omega arith)
+    (loaded_all l ports config chains w hw table 0 (length load) load p.new ps has rises range carry passes (omega arith)
     (loaded_start config chains hw table p.new (cleared l ports config chains w hw clear old p has clearing pass))) chain place cell stands less
 
 pub load_in_rounds : LoadInRounds
-load_in_rounds l ports config chains w hw table clear load old r rs has range clearing carry round rounds chain place cell stands less =
+load_in_rounds l ports config chains w hw table clear load old r rs has rises range clearing carry round rounds chain place cell stands less =
     let next : ℕ → Tri = after_round l clear old r in
     let both = rounds_pass l next load rs rounds in
     sym (ap (λ (f : ℕ → Tri). f cell.0) both.1)
-    ∙ load_passes l ports config chains w hw table clear load old (pass_of_round l clear old r) (passes_of_rounds l next load rs) has range clearing carry (round_passes l clear old r round) both.0 chain place cell stands less
+    ∙ load_passes l ports config chains w hw table clear load old (pass_of_round l clear old r) (passes_of_rounds l next load rs) has rises range clearing carry (round_passes l clear old r round) both.0 chain place cell stands less
 
 pub known_one : (a b : Bool) → known a ≡ known b → a ≡ b
 known_one true true h = refl
@@ -172,10 +195,10 @@ known_one true false h = absurd cc
 known_one false true h = absurd cc
 
 pub load_in_runs : LoadInRuns
-load_in_runs l rank ports config chains w hw table before clear load start ts a us ranked has range clearing carry run turn turns chain place cell stands less =
+load_in_runs l rank ports config chains w hw table before clear load start ts a us ranked has rises range clearing carry run turn turns chain place cell stands less =
     let begun : Now = after_turns l start before ts in
     let low = (turns_pass l rank start before ts ranked run.low run.turns).2 in
     let next : Now = after_turn l clear begun a in
     let both = turns_pass l rank next load us ranked (low_after_turn l rank clear begun a ranked low turn) turns in
     known_one _ _ (sym (ap (λ (f : ℕ → Tri). f cell.0) both.1)
-    ∙ load_passes l ports config chains w hw table clear load (bits begun.state) (pass_of_turn l clear begun a) (passes_of_turns l next load us) has range clearing carry (turn_passes l rank clear begun a ranked low turn) both.0 chain place cell stands less)
+    ∙ load_passes l ports config chains w hw table clear load (bits begun.state) (pass_of_turn l clear begun a) (passes_of_turns l next load us) has rises range clearing carry (turn_passes l rank clear begun a ranked low turn) both.0 chain place cell stands less)

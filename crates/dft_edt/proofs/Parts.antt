@@ -1,5 +1,5 @@
 -- The parts in every settled assignment.
-use Rattle.std.proofs.Common.{ℕ, suc, Bool, true, false, List, [], ◌∷◌, ◌≡◌, ◌<◌, refl, ap, arith, map, length, ◌∙◌}
+use Rattle.std.proofs.Common.{ℕ, zero, suc, Bool, true, false, List, [], ◌∷◌, ◌≡◌, ◌<◌, refl, ap, arith, map, length, ◌∙◌}
 use Rattle.std.specs.Prelude.{not, ◌&&◌, if◌then◌else◌}
 use Rattle.std.specs.List.{All}
 use Rattle.dft_base.specs.declared.tri.Tri.{Tri}
@@ -8,7 +8,7 @@ use Rattle.dft_base.specs.Solutions.{xor}
 use Rattle.dft_cells.specs.declared.kind.Kind.TheVariants.{Buf, Inv, And, Or}
 use Rattle.dft_cells.specs.Gates.{bit_of, tri_of}
 use Rattle.dft_netlist.specs.declared.ids.InstanceId.{InstanceId}
-use Rattle.dft_netlist.specs.Drivers.{Net}
+use Rattle.dft_netlist.specs.Drivers.{Source, Net}
 use Rattle.dft_netlist.specs.Logic.{Logic, Ports, Cell, Gate}
 use Rattle.dft_netlist.specs.Settled.{Sources, bit_from, IsSettled, TriSources, value_from, IsTriSettled}
 use Rattle.dft_netlist.proofs.SettledLemmas.{value_at}
@@ -18,7 +18,7 @@ use Rattle.dft_config.specs.Ring.{sum_of, phase_of}
 use Rattle.dft_chains.specs.Hardware.{ChainNets}
 use Rattle.dft_edt.specs.Feeds.{at_feed, feeds}
 use Rattle.dft_parts.specs.SumTrees.{tri_sum}
-use Rattle.dft_edt.specs.Hardware.{EdtNets, HasStage, HasRing, HasHold, HasEnd, HasOutput, HasCompactor, group_of}
+use Rattle.dft_edt.specs.Hardware.{EdtNets, HasStage, HasPhase, HasRing, HasHold, HasEnd, HasOutput, HasCompactor, group_of}
 use Rattle.dft_edt.specs.Parts.{StageBits, PhaseBits, HoldBits, OutputBits, StageValues, PhaseValues, HoldValues, OutputValues, shown_by}
 use Rattle.dft_edt.proofs.Sums.{at_feeds, at_nets, sum_of_bits, feeds_step, same_sum}
 use Rattle.dft_parts.specs.SumTrees.{sum_bits}
@@ -56,10 +56,14 @@ stage_values l ports config chains w hw s values has settled i less =
       λ one_there. input ∙ ap (λ t. tri_of And (values h.sum ∷ t ∷ [])) (run ∙ ap (λ t. tri_of Inv (t ∷ [])) one_there) ∙ and_zero (values h.sum),
     )
 
+pub phase_value : (l : Logic) (config : Config) (hw : EdtNets) (into : Source) (falling : Bool) (s : TriSources) (values : ℕ → Tri) (chain : ℕ) → (h : HasPhase l config.ring hw into falling chain) → IsTriSettled l s values →
+    values h.sum ≡ tri_sum (map (λ k. values (hw.stage_net k)) (phase_of config.ring chain))
+phase_value l config hw into falling s values chain h settled =
+    sum_value l s values h.sum (map hw.stage_net (phase_of config.ring chain)) settled h.sums ∙ ap tri_sum (at_nets values hw.stage_net (phase_of config.ring chain))
+
 pub phase_values : PhaseValues
 phase_values l ports config chains w hw s values has settled chain cell stands =
-    let h = has.phases chain cell stands in
-    sum_value l s values h.sum (map hw.stage_net (phase_of config.ring chain)) settled h.sums ∙ ap tri_sum (at_nets values hw.stage_net (phase_of config.ring chain))
+    phase_value l config hw (w.into chain zero) (l.cell cell.0).falling s values chain (has.phases chain cell stands) settled
 
 -- the next hold bit, from edt_update, the mask bit and the hold bit
 unfoldable pub next_hold : Tri → Tri → Tri → Tri

@@ -1,5 +1,5 @@
 -- The hardware stands in every logic that means as much or more.
-use Rattle.std.proofs.Common.{ℕ, zero, false, List, [], ◌∷◌, inl, inr, sym, subst, ap, ◌∙◌}
+use Rattle.std.proofs.Common.{ℕ, zero, Bool, true, false, List, [], ◌∷◌, inl, inr, sym, subst, ap, ◌∙◌}
 use Rattle.dft_cells.specs.declared.kind.Kind.TheVariants.{Buf, Inv, And, Or, Xor}
 use Rattle.dft_netlist.specs.declared.ids.InstanceId.{InstanceId}
 use Rattle.dft_netlist.specs.Drivers.{Source, Net}
@@ -9,7 +9,7 @@ use Rattle.dft_config.specs.Config.{Config}
 use Rattle.dft_runs.specs.WiderPorts.{MeansMore}
 use Rattle.dft_chains.specs.Hardware.{ChainNets}
 use Rattle.dft_chains.proofs.Staying.{net_stays, chains_stay, cell_stays}
-use Rattle.dft_edt.specs.Hardware.{EdtNets, HasStage, HasPhase, HasRing, HasHold, HasEnd, HasOutput, HasCompactor, before_in, HardwareStays}
+use Rattle.dft_edt.specs.Hardware.{EdtNets, HasStage, IsEntered, HasPhase, HasRing, HeadsAre, HasHold, HasEnd, HasOutput, HasCompactor, before_in, HardwareStays}
 use Rattle.dft_config.specs.Segments.{chain_in}
 use Rattle.dft_parts.specs.SumTrees.{IsSum, Term, Joined}
 use Rattle.dft_parts.specs.Standing.{IsFlop}
@@ -41,15 +41,20 @@ stage_stays l m ring hw i more h = record {
   flop = flop_stays l m hw.clock (hw.stage i) (hw.stage_net i) h.kept more h.flop;
 }
 
-phase_stays : (l m : Logic) (ring : RingConfig) (hw : EdtNets) (into : Source) (chain : ℕ) → MeansMore l m → HasPhase l ring hw into chain → HasPhase m ring hw into chain
-phase_stays l m ring hw into chain more h = record {
+entry_stays : (l m : Logic) (hw : EdtNets) (into : Source) (sum : ℕ) (falling : Bool) → MeansMore l m → IsEntered l hw into sum falling → IsEntered m hw into sum falling
+entry_stays l m hw into sum true more h = h
+entry_stays l m hw into sum false more h = record { lockup = h.lockup; entry = h.entry; latch = net_stays l m h.entry (Lockup h.lockup hw.clock false (Net sum)) more h.latch (λ free. free); leads = h.leads }
+
+phase_stays : (l m : Logic) (ring : RingConfig) (hw : EdtNets) (into : Source) (falling : Bool) (chain : ℕ) → MeansMore l m → HasPhase l ring hw into falling chain → HasPhase m ring hw into falling chain
+phase_stays l m ring hw into falling chain more h = record {
   sum = h.sum;
-  lockup = h.lockup;
-  entry = h.entry;
   sums = sum_stays l m h.sum _ more h.sums;
-  latch = net_stays l m h.entry (Lockup h.lockup hw.clock false (Net h.sum)) more h.latch (λ free. free);
-  leads = h.leads;
+  entered = entry_stays l m hw into h.sum falling more h.entered;
 }
+
+pub heads_stay : (l m : Logic) (ports : Ports) (config : Config) (chains : List (List InstanceId)) (w : ChainNets) (hw : EdtNets) (falling : ℕ → Bool) → MeansMore l m → HasRing l ports config chains w hw → HeadsAre l chains falling → HeadsAre m chains falling
+heads_stay l m ports config chains w hw falling more h heads chain cell stands =
+    ap (λ (c : Cell). c.falling) (cell_stays l m cell.0 (record { enable = Net w.enable; input = w.into chain zero }) more (h.chained.cells chain zero cell stands).scan) ∙ heads chain cell stands
 
 ring_stays : (l m : Logic) (ports : Ports) (config : Config) (chains : List (List InstanceId)) (w : ChainNets) (hw : EdtNets) → MeansMore l m → HasRing l ports config chains w hw → HasRing m ports config chains w hw
 ring_stays l m ports config chains w hw more h = record {
@@ -59,9 +64,10 @@ ring_stays l m ports config chains w hw more h = record {
   channels = λ j less. net_stays l m (hw.channel j) Input more (h.channels j less) (λ free. free);
   run = net_stays l m hw.run (Gate Inv (Net hw.update ∷ [])) more h.run (λ free. free);
   stages = λ i less. stage_stays l m config.ring hw i more (h.stages i less);
-  heads = λ chain cell stands.
-      ap (λ (c : Cell). c.falling) (cell_stays l m cell.0 (record { enable = Net w.enable; input = w.into chain zero }) more (h.chained.cells chain zero cell stands).scan) ∙ h.heads chain cell stands;
-  phases = λ chain cell stands. phase_stays l m config.ring hw (w.into chain zero) chain more (h.phases chain cell stands);
+  phases = λ chain cell stands. (
+      let same = cell_stays l m cell.0 (record { enable = Net w.enable; input = w.into chain zero }) more (h.chained.cells chain zero cell stands).scan in
+      phase_stays l m config.ring hw (w.into chain zero) (m.cell cell.0).falling chain more
+      (subst (λ (c : Cell). HasPhase l config.ring hw (w.into chain zero) c.falling chain) (sym same) (h.phases chain cell stands)));
 }
 
 hold_stays : (l m : Logic) (hw : EdtNets) (chain : ℕ) → MeansMore l m → HasHold l hw chain → HasHold m hw chain

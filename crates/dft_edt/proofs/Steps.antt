@@ -12,8 +12,8 @@ use Rattle.dft_netlist.specs.Logic.{Logic, Ports, Cell, Flop, Lockup}
 use Rattle.dft_netlist.specs.Settled.{Sources, TriSources, value_from, IsTriSettled}
 use Rattle.dft_netlist.specs.Runs.{Now, Vector, next_now, set_step, set_ports, sources_of, port_bits, forced_by, takes}
 use Rattle.dft_netlist.proofs.SettledLemmas.{value_at}
-use Rattle.dft_abstract.specs.Cycle.{Pulse, tri_forced_by, tri_taken_by, view_sources, AreViews, after_pulse, rise_of, strobe_sources, Halves, AreHalves, after_halves}
-use Rattle.dft_abstract.proofs.Halves.{rising_after}
+use Rattle.dft_abstract.specs.Cycle.{Pulse, tri_forced_by, tri_taken_by, view_sources, AreViews, after_pulse, rise_of, fall_of, strobe_sources, Halves, AreHalves, after_halves}
+use Rattle.dft_abstract.proofs.Halves.{rising_after, falls_rest}
 use Rattle.dft_config.specs.declared.config.Tap.{Tap}
 use Rattle.dft_config.specs.declared.config.Injector.{Injector}
 use Rattle.dft_config.specs.declared.config.RingConfig.{RingConfig}
@@ -22,17 +22,17 @@ use Rattle.dft_config.specs.Range.{IsInRange}
 use Rattle.dft_config.specs.Ring.{sum_of, phase_of}
 use Rattle.dft_stitch.specs.Plans.{cell_at}
 use Rattle.dft_chains.specs.Hardware.{ChainNets}
-use Rattle.dft_chains.proofs.Shiftings.{own_net, port_value, not_forced, rise_takes, link_law}
+use Rattle.dft_chains.proofs.Shiftings.{own_net, rest_net, port_value, not_forced, rise_takes, fall_takes, link_law}
 use Rattle.dft_edt.specs.Feeds.{Feed, Stage, Channel, at_feed, tap_feeds, injector_feeds, feeds}
 use Rattle.dft_parts.specs.SumTrees.{tri_sum}
-use Rattle.dft_edt.specs.Hardware.{EdtNets, HasStage, HasRing, HasHold, HasEnd, HasCompactor, before_in, group_of}
+use Rattle.dft_edt.specs.Hardware.{EdtNets, HasStage, HasPhase, HasRing, HeadsAre, HasHold, HasEnd, HasCompactor, before_in, group_of}
 use Rattle.dft_config.specs.Segments.{segment_length, segment_start, chain_in}
 use Rattle.dft_parts.specs.Standing.{IsFlop}
 use Rattle.dft_edt.specs.Parts.{shown_by}
 use Rattle.dft_edt.specs.Vectors.{IsEdtShift, ShiftLaw, ClearLaw, MaskLaw, HoldLaw, RestLaw, OutputLaw, OutputInRuns}
 use Rattle.dft_edt.proofs.Sums.{AreThere, IsThere, same_feeds, known_sum, same_sum, same_sums}
 use Rattle.dft_parts.proofs.Trees.{bit_at}
-use Rattle.dft_edt.proofs.Parts.{stage_values, phase_values, hold_values, output_values, output_bits, group_below}
+use Rattle.dft_edt.proofs.Parts.{stage_values, phase_value, hold_values, output_values, output_bits, group_below}
 
 -- ---- what a configuration in range names is there
 
@@ -114,7 +114,7 @@ clear_law l ports config chains w hw x old halves has clearing are i less =
     ∙ (stage_values l ports config chains w hw (view_sources l p poss view hw.clock) (view hw.clock) has (views hw.clock) i less).1
     (port_value l p poss view hw.clock hw.update views has.update ∙ clearing.update)
 
-stage_after : (l : Logic) (ports : Ports) (config : Config) (chains : List (List InstanceId)) (w : ChainNets) (hw : EdtNets) (x : Vector) (old : ℕ → Tri) (halves : Halves) →
+pub stage_after : (l : Logic) (ports : Ports) (config : Config) (chains : List (List InstanceId)) (w : ChainNets) (hw : EdtNets) (x : Vector) (old : ℕ → Tri) (halves : Halves) →
     (has : HasRing l ports config chains w hw) → (range : IsInRange config) → (shift : IsEdtShift ports w hw x) → (are : AreHalves l x old halves) → (i : ℕ) → (less : i < config.ring.stages) →
     after_halves l x old halves (hw.stage i) ≡ tri_sum (map (at_feed (λ k. old (hw.stage k)) (λ j. x.ports (hw.channel j))) (feeds config.ring i))
 stage_after l ports config chains w hw x old halves has range shift are i less =
@@ -132,27 +132,53 @@ stage_after l ports config chains w hw x old halves has range shift are i less =
 
 -- ---- the first cells of chains
 
-first_after : (l : Logic) (ports : Ports) (config : Config) (chains : List (List InstanceId)) (w : ChainNets) (hw : EdtNets) (x : Vector) (old : ℕ → Tri) (halves : Halves) →
-    (has : HasRing l ports config chains w hw) → (range : IsInRange config) → (shift : IsEdtShift ports w hw x) → (are : AreHalves l x old halves) → (chain : ℕ) (cell : InstanceId) → (stands : cell_at chains chain zero ≡ Some cell) →
-    after_halves l x old halves cell.0 ≡ tri_sum (map (λ k. old (hw.stage k)) (phase_of config.ring chain))
-first_after l ports config chains w hw x old halves has range shift are chain cell stands =
+-- the nets of the stages in the falls: what the stages have after the vector
+stage_net_falls : (l : Logic) (ports : Ports) (config : Config) (chains : List (List InstanceId)) (w : ChainNets) (hw : EdtNets) (x : Vector) (old : ℕ → Tri) (halves : Halves) (d : ℕ) →
+    HasRing l ports config chains w hw → AreHalves l x old halves → (i : ℕ) → i < config.ring.stages → halves.fall.view d (hw.stage_net i) ≡ after_halves l x old halves (hw.stage i)
+stage_net_falls l ports config chains w hw x old halves d has are i less =
+    let h : HasStage l config.ring hw i = has.stages i less in
+    let q : Pulse = fall_of l x old halves.rise.view in
+    rest_net l q halves.fall.poss halves.fall.view d (hw.stage i) (hw.stage_net i) are.fall h.flop.net (falls_rest l q (hw.stage i) (ap (λ (c : Cell). c.falling) h.flop.cell) refl)
+    ∙ sym (flop_halves l x old halves hw.clock (hw.stage i) (hw.stage_net i) h.kept h.flop)
+
+first_by : (l : Logic) (ports : Ports) (config : Config) (chains : List (List InstanceId)) (w : ChainNets) (hw : EdtNets) (x : Vector) (old : ℕ → Tri) (halves : Halves) (chain : ℕ) (cell : InstanceId) (falling : Bool) →
+    (has : HasRing l ports config chains w hw) → IsInRange config → IsEdtShift ports w hw x → AreHalves l x old halves → cell_at chains chain zero ≡ Some cell → (l.cell cell.0).falling ≡ falling → HasPhase l config.ring hw (w.into chain zero) falling chain →
+    after_halves l x old halves cell.0 ≡ tri_sum (map (λ k. (if falling then after_halves l x old halves else old) (hw.stage k)) (phase_of config.ring chain))
+first_by l ports config chains w hw x old halves chain cell false has range shift are stands rises h =
     let poss : ℕ → Tri = halves.rise.poss in
     let view : ℕ → ℕ → Tri = halves.rise.view in
     let views : AreViews l (rise_of l x old) poss view = are.rise in
     let p : Pulse = rise_of l x old in
     let d : ℕ = (l.cell cell.0).domain in
-    let h = has.phases chain cell stands in
-    rise_takes l ports chains w x old halves (w.into chain zero) cell.0 has.chained shift.shift are (has.heads chain cell stands) (has.chained.cells chain zero cell stands)
-    ∙ ap (value_from (view d)) h.leads
-    ∙ value_at l (view_sources l p poss view d) (view d) h.entry (Lockup h.lockup hw.clock false (Net h.sum)) (views d) h.latch
-    ∙ phase_values l ports config chains w hw (view_sources l p poss view hw.clock) (view hw.clock) has (views hw.clock) chain cell stands
+    let latched = h.entered in
+    rise_takes l ports chains w x old halves (w.into chain zero) cell.0 has.chained shift.shift are rises (has.chained.cells chain zero cell stands)
+    ∙ ap (value_from (view d)) latched.leads
+    ∙ value_at l (view_sources l p poss view d) (view d) latched.entry (Lockup latched.lockup hw.clock false (Net h.sum)) (views d) latched.latch
+    ∙ phase_value l config hw (w.into chain zero) false (view_sources l p poss view hw.clock) (view hw.clock) chain h (views hw.clock)
     ∙ ap tri_sum (same_sum config.ring.stages (λ k. view hw.clock (hw.stage_net k)) (λ k. old (hw.stage k)) (phase_of config.ring chain) (phase_below config chain range)
     (stage_net_value l ports config chains w hw x old poss view has views))
+first_by l ports config chains w hw x old halves chain cell true has range shift are stands falls h =
+    let poss : ℕ → Tri = halves.fall.poss in
+    let view : ℕ → ℕ → Tri = halves.fall.view in
+    let q : Pulse = fall_of l x old halves.rise.view in
+    let d : ℕ = (l.cell cell.0).domain in
+    fall_takes l ports chains w x old halves (w.into chain zero) cell.0 has.chained shift.shift are falls (has.chained.cells chain zero cell stands)
+    ∙ ap (value_from (view d)) h.entered
+    ∙ phase_value l config hw (w.into chain zero) true (view_sources l q poss view d) (view d) chain h (are.fall d)
+    ∙ ap tri_sum (same_sum config.ring.stages (λ k. view d (hw.stage_net k)) (λ k. after_halves l x old halves (hw.stage k)) (phase_of config.ring chain) (phase_below config chain range)
+    (stage_net_falls l ports config chains w hw x old halves d has are))
+
+first_after : (l : Logic) (ports : Ports) (config : Config) (chains : List (List InstanceId)) (w : ChainNets) (hw : EdtNets) (falling : ℕ → Bool) (x : Vector) (old : ℕ → Tri) (halves : Halves) →
+    HasRing l ports config chains w hw → HeadsAre l chains falling → IsInRange config → IsEdtShift ports w hw x → AreHalves l x old halves → (chain : ℕ) (cell : InstanceId) → cell_at chains chain zero ≡ Some cell →
+    after_halves l x old halves cell.0 ≡ tri_sum (map (λ k. (if falling chain then after_halves l x old halves else old) (hw.stage k)) (phase_of config.ring chain))
+first_after l ports config chains w hw falling x old halves has heads range shift are chain cell stands =
+    first_by l ports config chains w hw x old halves chain cell (falling chain) has range shift are stands (heads chain cell stands)
+    (subst (λ (b : Bool). HasPhase l config.ring hw (w.into chain zero) b chain) (heads chain cell stands) (has.phases chain cell stands))
 
 pub shift_law : ShiftLaw
-shift_law l ports config chains w hw x old halves has range shift are = record {
+shift_law l ports config chains w hw falling x old halves has heads range shift are = record {
   stages = stage_after l ports config chains w hw x old halves has range shift are;
-  firsts = first_after l ports config chains w hw x old halves has range shift are;
+  firsts = first_after l ports config chains w hw falling x old halves has heads range shift are;
   others = link_law l ports chains w x old halves has.chained shift.shift are;
 }
 

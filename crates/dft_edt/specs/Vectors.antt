@@ -1,5 +1,5 @@
 -- What one vector does to the hardware, for the values of the flip-flops before and after it.
-use Rattle.std.specs.Prelude.{ℕ, zero, suc, ◌<◌, ◌≡◌, Bool, true, false, not, ◌&&◌, List, map, length, Some}
+use Rattle.std.specs.Prelude.{ℕ, zero, suc, ◌<◌, ◌≡◌, Bool, true, false, not, ◌&&◌, List, map, length, Some, if◌then◌else◌}
 use Rattle.dft_base.specs.declared.tri.Tri.{Tri}
 use Rattle.dft_base.specs.declared.tri.Tri.TheVariants.{Zero, One}
 use Rattle.dft_base.specs.Tri.{known}
@@ -17,7 +17,7 @@ use Rattle.dft_chains.specs.Hardware.{ChainNets}
 use Rattle.dft_chains.specs.Shifts.{IsShift, at_strobe}
 use Rattle.dft_edt.specs.Feeds.{at_feed, feeds}
 use Rattle.dft_parts.specs.SumTrees.{tri_sum}
-use Rattle.dft_edt.specs.Hardware.{EdtNets, HasRing, HasCompactor, before_in, group_of}
+use Rattle.dft_edt.specs.Hardware.{EdtNets, HasRing, HeadsAre, HasCompactor, before_in, group_of}
 use Rattle.dft_config.specs.Segments.{segment_length, chain_in}
 use Rattle.dft_edt.specs.Parts.{shown_by}
 
@@ -38,11 +38,11 @@ Carries config hw row x = (j : ℕ) → j < config.ring.channels → x.ports (hw
 
 -- ---- what a vector does
 
--- A shift vector: each stage takes the sum of its feeds, the first cell of each chain its phase sum, each other cell what the one
--- before it had.
-pub record Shifts (config : Config) (chains : List (List InstanceId)) (hw : EdtNets) (channels old new : ℕ → Tri) : Type 0 where
+-- A shift vector: each stage takes the sum of its feeds, the first cell of each chain its phase sum, of the stages before the vector where
+-- it is rising and of those after it where it is falling, each other cell what the one before it had.
+pub record Shifts (config : Config) (chains : List (List InstanceId)) (hw : EdtNets) (falling : ℕ → Bool) (channels old new : ℕ → Tri) : Type 0 where
   pub stages : (i : ℕ) → i < config.ring.stages → new (hw.stage i) ≡ tri_sum (map (at_feed (λ k. old (hw.stage k)) channels) (feeds config.ring i))
-  pub firsts : (chain : ℕ) (cell : InstanceId) → cell_at chains chain zero ≡ Some cell → new cell.0 ≡ tri_sum (map (λ k. old (hw.stage k)) (phase_of config.ring chain))
+  pub firsts : (chain : ℕ) (cell : InstanceId) → cell_at chains chain zero ≡ Some cell → new cell.0 ≡ tri_sum (map (λ k. (if falling chain then new else old) (hw.stage k)) (phase_of config.ring chain))
   pub others : (chain place : ℕ) (cell next : InstanceId) → cell_at chains chain place ≡ Some cell → cell_at chains chain (suc place) ≡ Some next → new next.0 ≡ old cell.0
 
 -- a clearing vector
@@ -66,9 +66,9 @@ HoldsTake config hw old new = (chain : ℕ) → chain < config.chains → new (h
 
 abbrev pub ShiftLaw : Type 0
 ShiftLaw =
-    (l : Logic) (ports : Ports) (config : Config) (chains : List (List InstanceId)) (w : ChainNets) (hw : EdtNets) (x : Vector) (old : ℕ → Tri) (h : Halves) →
-    HasRing l ports config chains w hw → IsInRange config → IsEdtShift ports w hw x → AreHalves l x old h →
-    Shifts config chains hw (λ j. x.ports (hw.channel j)) old (after_halves l x old h)
+    (l : Logic) (ports : Ports) (config : Config) (chains : List (List InstanceId)) (w : ChainNets) (hw : EdtNets) (falling : ℕ → Bool) (x : Vector) (old : ℕ → Tri) (h : Halves) →
+    HasRing l ports config chains w hw → HeadsAre l chains falling → IsInRange config → IsEdtShift ports w hw x → AreHalves l x old h →
+    Shifts config chains hw falling (λ j. x.ports (hw.channel j)) old (after_halves l x old h)
 
 abbrev pub ClearLaw : Type 0
 ClearLaw =
@@ -109,9 +109,9 @@ OutputLaw =
 
 abbrev pub ShiftInRuns : Type 0
 ShiftInRuns =
-    (l : Logic) (rank : ℕ → ℕ) (ports : Ports) (config : Config) (chains : List (List InstanceId)) (w : ChainNets) (hw : EdtNets) (row : ℕ → Bool) (x : Vector) (now : Now) (t : Turn) →
-    IsRanked l rank → HasRing l ports config chains w hw → IsInRange config → IsEdtShift ports w hw x → Carries config hw row x → AreLow now.state → IsTurn l x now t →
-    Shifts config chains hw (λ j. known (row j)) (bits now.state) (bits (after_turn l x now t).state)
+    (l : Logic) (rank : ℕ → ℕ) (ports : Ports) (config : Config) (chains : List (List InstanceId)) (w : ChainNets) (hw : EdtNets) (falling row : ℕ → Bool) (x : Vector) (now : Now) (t : Turn) →
+    IsRanked l rank → HasRing l ports config chains w hw → HeadsAre l chains falling → IsInRange config → IsEdtShift ports w hw x → Carries config hw row x → AreLow now.state → IsTurn l x now t →
+    Shifts config chains hw falling (λ j. known (row j)) (bits now.state) (bits (after_turn l x now t).state)
 
 -- a clearing vector
 abbrev pub ClearInRuns : Type 0

@@ -51,15 +51,16 @@ pub fn vectors_act_in_runs()
     ensures outputs { OutputInRuns }
 {}
 
-/// After any vectors, a clearing vector and shift vectors each cell holds the sum over its load equation.
+/// Where the first cell of each chain is rising: after any vectors, a clearing vector and shift vectors each cell holds the sum over its load
+/// equation.
 pub fn loads_reach_cells()
     ensures passes { LoadPasses }
     ensures rounds { LoadInRounds }
     ensures runs { LoadInRuns }
 {}
 
-/// After a load with masks and a clearing vector, in each shift vector an output shows the sum of the ends of the chains of its
-/// group that are not masked.
+/// Where the first cell of each chain is rising: after a load with masks and a clearing vector, in each shift vector an output shows the
+/// sum of the ends of the chains of its group that are not masked.
 pub fn unloads_reach_outputs()
     ensures masks { MasksPass }
     ensures passes { UnloadPasses }

@@ -71,20 +71,20 @@ record Passes (n : Netlist) (config : Config) (i : ℕ) : Type 0 where
   pub is_domain : domain_of n config i ≡ Some domain
   pub is_held : are_held_at n config i ≡ true
 
-passes_by : (n : Netlist) (config : Config) (i d : ℕ) (domain : Option ℕ) (held scans kept : Bool) → may_be_scanned (kind_at n i) ≡ true → domain_of n config i ≡ domain → are_held_at n config i ≡ held → judged_by domain held scans kept ≡ Some (Scanned d) → Passes n config i
-passes_by n config i d None held scans kept kind domain is e = absurd cc
-passes_by n config i d (Some p) false scans kept kind domain is e = absurd cc
-passes_by n config i d (Some p) true scans kept kind domain is e = record { kind = kind; domain = p; is_domain = domain; is_held = is }
+passes_by : (n : Netlist) (config : Config) (i d : ℕ) (f : Bool) (domain : Option ℕ) (held scans kept : Bool) → may_be_scanned (kind_at n i) ≡ true → domain_of n config i ≡ domain → are_held_at n config i ≡ held → judged_by domain held scans kept ≡ Some (Scanned d f) → Passes n config i
+passes_by n config i d f None held scans kept kind domain is e = absurd cc
+passes_by n config i d f (Some p) false scans kept kind domain is e = absurd cc
+passes_by n config i d f (Some p) true scans kept kind domain is e = record { kind = kind; domain = p; is_domain = domain; is_held = is }
 
-passes_if : (n : Netlist) (config : Config) (i d : ℕ) (b : Bool) → may_be_scanned (kind_at n i) ≡ b →
-    (if b then judged_by (domain_of n config i) (are_held_at n config i) (is_some (scan_cell_of n i)) (is_kept n config.keep i) else None) ≡ Some (Scanned d) → Passes n config i
-passes_if n config i d true kind e = passes_by n config i d (domain_of n config i) (are_held_at n config i) (is_some (scan_cell_of n i)) (is_kept n config.keep i) kind refl refl e
-passes_if n config i d false kind e = absurd (none-some (Scanned d) e)
+passes_if : (n : Netlist) (config : Config) (i d : ℕ) (f b : Bool) → may_be_scanned (kind_at n i) ≡ b →
+    (if b then judged_by (domain_of n config i) (are_held_at n config i) (is_some (scan_cell_of n i)) (is_kept n config.keep i) else None) ≡ Some (Scanned d f) → Passes n config i
+passes_if n config i d f true kind e = passes_by n config i d f (domain_of n config i) (are_held_at n config i) (is_some (scan_cell_of n i)) (is_kept n config.keep i) kind refl refl e
+passes_if n config i d f false kind e = absurd (none-some (Scanned d f) e)
 
 stands_scanned : (n : Netlist) (config : Config) (chain place : ℕ) (cell : InstanceId) → IsInRange config → cell_at (plan_of n config).chains chain place ≡ Some cell → Passes n config cell.0
 stands_scanned n config chain place cell range stands =
     let it : IsScanned n config cell.0 = cells_scanned n config chain place cell range stands in
-    passes_if n config cell.0 it.domain (may_be_scanned (kind_at n cell.0)) refl it.is
+    passes_if n config cell.0 it.domain it.falling (may_be_scanned (kind_at n cell.0)) refl it.is
 
 -- ---- its clock
 

@@ -131,7 +131,7 @@ module _ (size : ℕ) (words : List ℕ) (few : size ≤ 20000) (some : 0 < size
   -- the verdicts of these cells
   abbrev verdicts : (from count : ℕ) → List (Option Judged)
   verdicts from zero = []
-  verdicts from (suc count) = None ∷ Some (Scanned (from % 2)) ∷ verdicts (from + 1) count
+  verdicts from (suc count) = None ∷ Some (Scanned (from % 2) false) ∷ verdicts (from + 1) count
 
   judged_from : (count from : ℕ) → from + count ≤ size → map (judged (design size words) configuration) (range_with_len (from + from) (count + count)) ≡ verdicts from count
   judged_from zero from last = refl
@@ -142,7 +142,7 @@ module _ (size : ℕ) (words : List ℕ) (few : size ≤ 20000) (some : 0 < size
       ap (λ (c : ℕ). map (judged (design size words) configuration) (range_with_len (from + from) c)) two
       ∙ ap (λ (o : Option Judged). o ∷ judged (design size words) configuration (from + from + 1) ∷ map (judged (design size words) configuration) (range_with_len (from + from + 1 + 1) (count + count))) (judged_gate size words from (omega (arith, last)))
       ∙ ap (λ (o : Option Judged). None ∷ o ∷ map (judged (design size words) configuration) (range_with_len (from + from + 1 + 1) (count + count))) (ap (judged (design size words) configuration) one ∙ judged_flop size words from (omega (arith, last)))
-      ∙ ap (λ (js : List (Option Judged)). None ∷ Some (Scanned (from % 2)) ∷ js) (ap (λ (k : ℕ). map (judged (design size words) configuration) (range_with_len k (count + count))) next ∙ judged_from count (from + 1) (omega (arith, last)))
+      ∙ ap (λ (js : List (Option Judged)). None ∷ Some (Scanned (from % 2) false) ∷ js) (ap (λ (k : ℕ). map (judged (design size words) configuration) (range_with_len k (count + count))) next ∙ judged_from count (from + 1) (omega (arith, last)))
 
   judgements-are : judgements (design size words) configuration ≡ verdicts 0 size
   judgements-are =
@@ -153,7 +153,7 @@ module _ (size : ℕ) (words : List ℕ) (few : size ≤ 20000) (some : 0 < size
   scanned_count zero from = refl
   scanned_count (suc count) from =
       let i = scanned_count count (from + 1) in
-      omega (arith, i, sum_by-cons (λ (v : Option Judged). cond (is_scanned v) 1 0) None (Some (Scanned (from % 2)) ∷ verdicts (from + 1) count), sum_by-cons (λ (v : Option Judged). cond (is_scanned v) 1 0) (Some (Scanned (from % 2))) (verdicts (from + 1) count))
+      omega (arith, i, sum_by-cons (λ (v : Option Judged). cond (is_scanned v) 1 0) None (Some (Scanned (from % 2) false) ∷ verdicts (from + 1) count), sum_by-cons (λ (v : Option Judged). cond (is_scanned v) 1 0) (Some (Scanned (from % 2) false)) (verdicts (from + 1) count))
 
   -- each cell's flip-flop is scanned
   pub scanned_here : count_by is_scanned (judgements (design size words) configuration) ≡ size

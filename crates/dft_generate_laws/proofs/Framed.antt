@@ -1,11 +1,13 @@
 -- Insertion refuses nothing of a generated design, and no check before the cubes does.
-use Rattle.std.proofs.Common.{◌≡◌, ◌⊎◌, inl, inr, ℕ, zero, suc, ◌+◌, ◌*◌, ◌<◌, ◌≤◌, Bool, true, false, leb, List, [], ◌∷◌, ◌++◌, length, map, flat_map, get_or, take, drop, Option, None, Some, codes, decimal, refl, sym, ap, ◌∙◌, subst, arith, append_assoc, length-append}
+use Rattle.std.proofs.Common.{◌≡◌, ◌⊎◌, inl, inr, ℕ, zero, suc, ◌+◌, ◌*◌, ◌<◌, ◌≤◌, Bool, true, false, cond, leb, List, [], ◌∷◌, ◌++◌, length, map, flat_map, get_or, take, drop, Option, None, Some, is_some, option_and_then, slice_get, codes, decimal, refl, sym, ap, ◌∙◌, subst, arith, append_assoc, length-append}
 use Rattle.std.specs.Prelude.{slice_index_or, option_map}
 use Rattle.std.specs.List.{filter_map, cons_option, range_with_len}
 use Rattle.std.specs.Str.{bytes_eq}
 use Rattle.std.proofs.lemmas.Bool.Decides.{nat_tests}
 use Rattle.std.proofs.lemmas.Fmt.{decimal_digit}
-use Rattle.std.proofs.lemmas.List.FromFn.{length-range_with_len}
+use Rattle.std.proofs.lemmas.List.{get_or_past}
+use Rattle.std.proofs.lemmas.List.FromFn.{get_or-map-range_with_len, length-map-range_with_len, length-range_with_len}
+use Rattle.std.proofs.lemmas.Option.{none-some}
 use Rattle.dft_base.specs.Lexing.{Text}
 use Rattle.dft_base.proofs.TextLemmas.{differ}
 use Rattle.dft_cells.specs.WellFormed.{has_name}
@@ -15,13 +17,16 @@ use Rattle.dft_netlist.specs.declared.ids.InstanceId.{InstanceId}
 use Rattle.dft_netlist.specs.declared.instance.Instance.{Instance}
 use Rattle.dft_netlist.specs.declared.limits.TheConstants.{MAX_NETS}
 use Rattle.dft_netlist.specs.Names.{is_taken, instance_name}
+use Rattle.dft_netlist.specs.Drivers.{kind_at}
 use Rattle.dft_netlist.specs.Netlist.{Netlist}
+use Rattle.dft_netlist.proofs.LiveLemmas.{le_or_lt}
 use Rattle.dft_rules.specs.declared.judged.Judged.{Judged}
 use Rattle.dft_rules.specs.Refusals.{is_scanned}
-use Rattle.dft_rules.specs.Rules.{judged, judgements, scan_cell_in}
+use Rattle.dft_rules.specs.Rules.{judged, judged_by, judgements, may_be_scanned, domain_of, are_held_at, is_kept, scan_cell_in, scan_cell_of}
 use Rattle.dft_stitch.specs.declared.places.LockupPlace.{LockupPlace}
-use Rattle.dft_stitch.specs.Chains.{blocks, chain_lengths, chains_of, lockup_after, lockups_in, cells_of, plan_of}
+use Rattle.dft_stitch.specs.Chains.{blocks, chain_lengths, chains_of, clock_at, clock_in, clock_of, is_falling, lockup_after, lockups_in, cells_of, plan_of}
 use Rattle.dft_stitch.specs.Plans.{Plan}
+use Rattle.dft_stitch.proofs.LockupLemmas.{between_is, lockups_all}
 use Rattle.dft_parts.specs.Parts.{parts_refusal}
 use Rattle.dft_parts.specs.Recipes.{start_of}
 use Rattle.dft_scan_frame.specs.declared.error.InsertError.{InsertError}
@@ -43,7 +48,7 @@ use Rattle.dft_generate_laws.proofs.Places.{nets-few, instances-length}
 use Rattle.dft_generate_laws.proofs.Checks.{scanned_here, rules_pass}
 use Rattle.dft_generate_laws.proofs.Plans.{few_cells, plan_passes}
 use Rattle.dft_generate_laws.proofs.Sizes.{sum_of}
-use Rattle.dft_generate_laws.proofs.Added.{edt_most}
+use Rattle.dft_generate_laws.proofs.Added.{AreLow, edt_most}
 use Rattle.dft_generate_laws.proofs.Fresh.{none_append, none_take, none_drop, none_each, IsFree, IsFresh, parts_pass}
 
 -- ---- the plan
@@ -88,10 +93,36 @@ lockups_few verdicts (x ∷ rest) front =
     (let f = filter_few (lockup_after verdicts (length front) x) (range_with_len 0 (length x)) in omega (arith, f, length-range_with_len 0 (length x))) in
     omega (arith, more, here, length-append (lockups_in verdicts chains (length front)) (flat_map (lockups_in verdicts chains) (range_with_len (length front + 1) (length rest))))
 
+-- no cell falls, so each lock-up is low
+judged_rises : (t : Bool) (domain : Option ℕ) (held scans kept : Bool) → is_falling (clock_in (cond t (judged_by domain held scans kept) None)) ≡ false
+judged_rises false domain held scans kept = refl
+judged_rises true None held scans kept = refl
+judged_rises true (Some d) false scans kept = refl
+judged_rises true (Some d) true false kept = refl
+judged_rises true (Some d) true true true = refl
+judged_rises true (Some d) true true false = refl
+
+verdict_rises : (n : Netlist) (i : ℕ) → is_falling (clock_in (slice_index_or (judgements n configuration) i None)) ≡ false
+verdict_rises n i = elim (le_or_lt (length n.instances) i) [
+  | inl past ↦ ap (λ (o : Option Judged). is_falling (clock_in o)) (get_or_past (judgements n configuration) i None (omega (arith, past, length-map-range_with_len (judged n configuration) 0 (length n.instances))))
+  | inr less ↦ ap (λ (o : Option Judged). is_falling (clock_in o)) (get_or-map-range_with_len (judged n configuration) 0 (length n.instances) i i None less (omega arith))
+      ∙ judged_rises (may_be_scanned (kind_at n i)) (domain_of n configuration i) (are_held_at n configuration i) (is_some (scan_cell_of n i)) (is_kept n configuration.keep i)
+]
+
+low_at : (n : Netlist) (o : Option InstanceId) (l : LockupPlace) → option_and_then (clock_of (judgements n configuration)) o ≡ Some (record { domain = l.domain; falling = l.high }) → l.high ≡ false
+low_at n None l is = absurd (none-some (record { domain = l.domain; falling = l.high }) is)
+low_at n (Some cell) l is = sym (ap is_falling is) ∙ verdict_rises n cell.0
+
+low_after : (n : Netlist) (chain place : ℕ) (cells : List InstanceId) (l : LockupPlace) → lockup_after (judgements n configuration) chain cells place ≡ Some l → l.high ≡ false
+low_after n chain place cells l is =
+    let v : List (Option Judged) = judgements n configuration in
+    low_at n (slice_get cells place) l (between_is chain place (clock_at v cells place) (clock_at v cells (place + 1)) l is).clock_is
+
 -- how much there is in the plan at most
 pub record IsSmall (size : ℕ) (plan : Plan) : Type 0 where
   pub cells : sum_of (λ (cells : List InstanceId). length cells * 1) plan.chains ≤ size
   pub lockups : length plan.lockups ≤ size
+  pub low : AreLow plan.lockups
   pub chains : length plan.chains ≡ 16
 
 pub plan_small : (size : ℕ) (words : List ℕ) → size ≤ 20000 → 0 < size → IsSmall size (plan_of (design size words) configuration)
@@ -105,6 +136,7 @@ plan_small size words few some =
     record {
       cells = omega (arith, all, count, scanned);
       lockups = omega (arith, lockups, all, count, scanned);
+      low = lockups_all (λ l. l.high ≡ false) verdicts (chains_of cells 16) (λ chain place l less is. low_after (design size words) chain place (slice_index_or (chains_of cells 16) chain []) l is);
       chains = blocks_count (chain_lengths (length cells) 16) cells;
     }
 
@@ -191,7 +223,7 @@ module _ (size : ℕ) (words : List ℕ) (few : size ≤ 20000) (some : 0 < size
       let plan : Plan = plan_of n configuration in
       let small = plan_small size words few some in
       let gap : Gap = gap_in Edt n configuration in
-      let most = edt_most n plan gap (edt_nets gap.before configuration) (start_of (framed Edt n configuration)) in
+      let most = edt_most n plan gap (edt_nets gap.before configuration) small.low (start_of (framed Edt n configuration)) in
       let cells = small.cells in
       let lockups = small.lockups in
       let chains = small.chains in

@@ -49,7 +49,7 @@ judged_gate size words k lt =
     rw kind refl
 
 -- a flip-flop is scanned
-pub judged_flop : (size : ℕ) (words : List ℕ) (k : ℕ) → k < size → judged (design size words) configuration (suc (k + k)) ≡ Some (Scanned (k % 2))
+pub judged_flop : (size : ℕ) (words : List ℕ) (k : ℕ) → k < size → judged (design size words) configuration (suc (k + k)) ≡ Some (Scanned (k % 2) false)
 judged_flop size words k lt =
     let n = design size words in
     let i : ℕ = suc (k + k) in

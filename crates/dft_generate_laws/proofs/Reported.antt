@@ -172,7 +172,7 @@ unscanned_short name (Some (Unscanned rule)) l le is =
     rule_short S2 = omega arith
     rule_short S3 = omega arith
     rule_short S4 = omega arith
-unscanned_short name (Some (Scanned domain)) l le is = absurd (none-some l is)
+unscanned_short name (Some (Scanned domain falling)) l le is = absurd (none-some l is)
 unscanned_short name None l le is = absurd (none-some l is)
 
 module _ (size : ℕ) (words : List ℕ) (few : size ≤ 16240) (verdicts : List (Option Judged)) where

@@ -1,25 +1,23 @@
 -- A scanned netlist adds as many flip-flops and lock-ups as its style has.
-use Rattle.std.proofs.Common.{ℕ, zero, suc, ◌+◌, ◌≡◌, ◌==◌, ◌<◌, ◌≤◌, Bool, true, false, List, [], ◌∷◌, ◌++◌, length, drop, cond, Option, None, Some, refl, sym, subst, ap, arith, ◌∙◌}
-use Rattle.std.specs.Prelude.{count_by, flat_map, slice_index_or, if◌then◌else◌}
-use Rattle.std.specs.List.{AllByRecursion, cons_option, filter_map, range_with_len}
+use Rattle.std.proofs.Common.{ℕ, zero, suc, ◌+◌, ◌≡◌, ◌==◌, ◌<◌, Bool, true, false, List, [], ◌∷◌, ◌++◌, length, drop, cond, Some, refl, sym, ap, arith, ◌∙◌}
+use Rattle.std.specs.Prelude.{count_by, not, slice_index_or, if◌then◌else◌}
+use Rattle.std.specs.List.{AllByRecursion, range_with_len}
 use Rattle.std.proofs.lemmas.List.Sums.{sum_by-cons}
-use Rattle.std.proofs.lemmas.Option.{none-some, same_Some}
 use Rattle.std.proofs.Math.Seq.{drop-append_seam}
-use Rattle.std.proofs.lemmas.List.FromFn.{length-range_with_len}
+use Rattle.std.proofs.lemmas.List.{length-map}
 use Rattle.dft_cells.specs.declared.kind.Kind.{Kind}
 use Rattle.dft_cells.specs.declared.kind.Kind.TheVariants.{Dff, Lockup}
 use Rattle.dft_cells.specs.declared.cell.Cell.{Cell}
 use Rattle.dft_cells.specs.FlipFlops.{is_flip_flop}
-use Rattle.dft_netlist.specs.declared.ids.InstanceId.{InstanceId}
 use Rattle.dft_netlist.specs.declared.instance.Instance.{Instance}
 use Rattle.dft_netlist.specs.Drivers.{shape_of}
 use Rattle.dft_netlist.specs.Netlist.{Netlist}
 use Rattle.dft_config.specs.Config.{Config}
-use Rattle.dft_rules.specs.declared.judged.Judged.{Judged}
 use Rattle.dft_rules.specs.Rules.{judgements}
 use Rattle.dft_stitch.specs.declared.places.LockupPlace.{LockupPlace}
-use Rattle.dft_stitch.specs.Chains.{domain_at, lockup_between, lockup_after, plan_of}
-use Rattle.dft_stitch.specs.Chains as stitch
+use Rattle.dft_stitch.specs.Chains.{begins_falling, clock_at, plan_of}
+use Rattle.dft_stitch.specs.Plans.{falling_head}
+use Rattle.dft_stitch.proofs.LockupLemmas.{between_is, lockups_all}
 use Rattle.dft_config.specs.Segments.{segment_length, segment_start}
 use Rattle.dft_edt.proofs.Steps.{all_segments}
 use Rattle.dft_parts.specs.Cells.{is_lockup}
@@ -35,11 +33,10 @@ use Rattle.dft_scan_hardware.specs.declared.style.Style.TheVariants.{Plain, Edt}
 use Rattle.dft_scan_hardware.specs.Ports.{gap_in, edt_nets}
 use Rattle.dft_scan_hardware.specs.Scanned.{framed}
 use Rattle.dft_scan_hardware.specs.Statements.{made_in, scanned}
-use Rattle.dft_scan_hardware.proofs.Filling.{chains_planned}
 use Rattle.dft_scan_equivalence.proofs.Driving.{now_at, now_instances}
 use Rattle.dft_scan_equivalence.proofs.Merging.{news}
 use Rattle.dft_insert.specs.Counts.{count_behind, flip_flops_in, lockups_in, CountsAdded}
-use Rattle.dft_insert.proofs.Weights.{times, times_zero, times_one, times_two, sum_of, sum_add, sum_same, total}
+use Rattle.dft_insert.proofs.Weights.{times, times_zero, times_one, times_two, sum_of, sum_add, total}
 use Rattle.dft_insert.proofs.WeighedRecipes.{PassesNoGate, bit_weight, weight, plain_has, edt_has, crossings_all, segments_all}
 
 -- ---- made instances
@@ -76,39 +73,31 @@ counted test style n config ready =
 abbrev pub InChains : (chains : ℕ) → List LockupPlace → Type 0
 InChains chains ls = AllByRecursion (λ l. l.chain < chains) ls
 
-in_both : (chains : ℕ) (xs ys : List LockupPlace) → InChains chains xs → InChains chains ys → InChains chains (xs ++ ys)
-in_both chains [] ys h k = k
-in_both chains (x ∷ xs) ys h k = (h.0, in_both chains xs ys h.1 k)
-
-between_in : (chains chain after d e : ℕ) (b : Bool) (l : LockupPlace) → chain < chains → (if b then None else Some (record { chain = chain; after = after; domain = d })) ≡ Some l → l.chain < chains
-between_in chains chain after d e true l less is = absurd (none-some l is)
-between_in chains chain after d e false l less is = subst (λ (z : LockupPlace). z.chain < chains) (same_Some (record { chain = chain; after = after; domain = d }) l is) less
-
-lockup_in : (chains chain after : ℕ) (o next : Option ℕ) (l : LockupPlace) → chain < chains → lockup_between chain after o next ≡ Some l → l.chain < chains
-lockup_in chains chain after (Some d) (Some e) l less is = between_in chains chain after d e (d == e) l less is
-lockup_in chains chain after (Some d) None l less is = absurd (none-some l is)
-lockup_in chains chain after None next l less is = absurd (none-some l is)
-
-kept_in : (chains : ℕ) (o : Option LockupPlace) (rest : List LockupPlace) → ((l : LockupPlace) → o ≡ Some l → l.chain < chains) → InChains chains rest → InChains chains (cons_option o rest)
-kept_in chains None rest each more = more
-kept_in chains (Some l) rest each more = (each l refl, more)
-
-filtered_in : (chains : ℕ) (f : ℕ → Option LockupPlace) (xs : List ℕ) → ((x : ℕ) (l : LockupPlace) → f x ≡ Some l → l.chain < chains) → InChains chains (filter_map f xs)
-filtered_in chains f [] each = tt
-filtered_in chains f (x ∷ xs) each = kept_in chains (f x) (filter_map f xs) (each x) (filtered_in chains f xs each)
-
-chain_in : (chains : ℕ) (v : List (Option Judged)) (cs : List (List InstanceId)) (chain : ℕ) → chain < chains → InChains chains (stitch.lockups_in v cs chain)
-chain_in chains v cs chain less =
-    let cells : List InstanceId = slice_index_or cs chain [] in
-    filtered_in chains (lockup_after v chain cells) (range_with_len 0 (length cells)) (λ place l is. lockup_in chains chain place (domain_at v cells place) (domain_at v cells (place + 1)) l less is)
-
-chains_in : (chains : ℕ) (v : List (Option Judged)) (cs : List (List InstanceId)) (from count : ℕ) → from + count ≤ chains → InChains chains (flat_map (stitch.lockups_in v cs) (range_with_len from count))
-chains_in chains v cs from zero le = tt
-chains_in chains v cs from (suc count) le =
-    in_both chains (stitch.lockups_in v cs from) (flat_map (stitch.lockups_in v cs) (range_with_len (from + 1) count)) (chain_in chains v cs from (omega (arith, le))) (chains_in chains v cs (from + 1) count (omega (arith, le)))
-
 planned_in : (n : Netlist) (config : Config) → InChains (length (plan_of n config).chains) (plan_of n config).lockups
-planned_in n config = chains_in (length (plan_of n config).chains) (judgements n config) (plan_of n config).chains 0 (length (plan_of n config).chains) (omega arith)
+planned_in n config =
+    let v = judgements n config in
+    let cs = (plan_of n config).chains in
+    lockups_all (λ l. l.chain < length cs) v cs (λ chain place l less is. (
+    let cells = slice_index_or cs chain [] in
+    let it = between_is chain place (clock_at v cells place) (clock_at v cells (place + 1)) l is in
+    omega (arith, it.chain_is, less)))
+
+-- ---- chains whose first cell is rising
+
+sum_next : (f : ℕ → ℕ) (k m : ℕ) → sum_of f (range_with_len (suc k) m) ≡ sum_of (λ c. f (suc c)) (range_with_len k m)
+sum_next f k zero = refl
+sum_next f k (suc m) = (let e : suc k + 1 ≡ suc (k + 1) = omega arith in ap (λ j. f (suc k) + sum_of f (range_with_len j m)) e ∙ ap (λ t. f (suc k) + t) (sum_next f (k + 1) m))
+
+heads_by : (weight count whole : ℕ) (falling : Bool) → whole ≡ cond (not falling) 1 0 + count → (if falling then 0 else weight) + times count weight ≡ times whole weight
+heads_by weight count whole true e = (let same : whole ≡ count = omega (arith, e) in omega (arith, ap (λ k. times k weight) same))
+heads_by weight count whole false e = (let same : whole ≡ suc count = omega (arith, e) in sym (ap (λ k. times k weight) same))
+
+-- each of them weighs once
+heads_are : (weight : ℕ) (heads : List Bool) → sum_of (λ c. if slice_index_or heads c false then 0 else weight) (range_with_len 0 (length heads)) ≡ times (count_by not heads) weight
+heads_are weight [] = refl
+heads_are weight (falling ∷ heads) =
+    ap (λ t. (if falling then 0 else weight) + t) (sum_next (λ c. if slice_index_or (falling ∷ heads) c false then 0 else weight) 0 (length heads) ∙ heads_are weight heads)
+    ∙ heads_by weight (count_by not heads) (count_by not (falling ∷ heads)) falling (sum_by-cons (λ (h : Bool). cond (not h) 1 0) falling heads)
 
 -- ---- the weights of the recipes
 
@@ -131,10 +120,17 @@ module _ (test : Kind → Bool) (none : PassesNoGate test) (n : Netlist) (config
   plain_is : total (weight test n.library) (made_in Plain n config) ≡ times (length (plan_of n config).lockups) a_lock
   plain_is = plain_has test n.library ready.library none n config (plan_of n config) (gap_in Plain n config) (start_of (framed Plain n config)) refl ∙ crossings_are
 
-  late_are : sum_of (λ c. a_lock + crossed c) numbers ≡ times config.chains a_lock + times (length (plan_of n config).lockups) a_lock
-  late_are =
-      sum_add (λ (c : ℕ). a_lock) crossed numbers
-      ∙ omega (arith, sum_same a_lock numbers ∙ ap (λ k. times k a_lock) (length-range_with_len 0 (length (plan_of n config).chains) ∙ chains_planned n config (plan_of n config) refl), crossings_are)
+  -- the chains whose first cell is rising
+  abbrev rising : ℕ
+  rising = count_by not (plan_of n config).heads
+
+  abbrev entered : ℕ → ℕ
+  entered c = if falling_head (plan_of n config) c then 0 else a_lock
+
+  fed_are : sum_of (λ c. entered c + crossed c) numbers ≡ times rising a_lock + times (length (plan_of n config).lockups) a_lock
+  fed_are =
+      sum_add entered crossed numbers
+      ∙ omega (arith, ap (λ k. sum_of entered (range_with_len 0 k)) (sym (length-map (plan_of n config).chains (begins_falling (judgements n config)))) ∙ heads_are a_lock (plan_of n config).heads, crossings_are)
 
   masks_are : sum_of (λ s. times (segment_length config s) (a_flop + a_flop)) (range_with_len 0 config.compactor.mask_inputs) ≡ times config.chains (a_flop + a_flop)
   masks_are =
@@ -142,11 +138,11 @@ module _ (test : Kind → Bool) (none : PassesNoGate test) (n : Netlist) (config
       let from : 0 + m ≡ m = omega arith in
       omega (arith, segments_all config (a_flop + a_flop) 0 m, ap (λ k. times (segment_start config k) (a_flop + a_flop)) from ∙ ap (λ k. times k (a_flop + a_flop)) (all_segments config ready.range.compactor.mask_inputs.0))
 
-  edt_is : total (weight test n.library) (made_in Edt n config) ≡ times config.ring.stages a_flop + (times config.chains a_lock + times (length (plan_of n config).lockups) a_lock + times config.chains (a_flop + a_flop))
+  edt_is : total (weight test n.library) (made_in Edt n config) ≡ times config.ring.stages a_flop + (times rising a_lock + times (length (plan_of n config).lockups) a_lock + times config.chains (a_flop + a_flop))
   edt_is =
       let gap : Gap = gap_in Edt n config in
       edt_has test n.library ready.library none n config (plan_of n config) gap (edt_nets gap.before config) (start_of (framed Edt n config)) refl
-      ∙ omega (arith, late_are, masks_are)
+      ∙ omega (arith, fed_are, masks_are)
 
 -- ---- the law
 
@@ -160,13 +156,13 @@ flip_flops_are : (style : Style) (n : Netlist) (config : Config) → IsReady n c
 flip_flops_are Plain n config ready = plain_is is_flip_flop flip_flops_none n config ready ∙ times_zero (length (plan_of n config).lockups)
 flip_flops_are Edt n config ready =
     edt_is is_flip_flop flip_flops_none n config ready
-    ∙ omega (arith, times_one config.ring.stages, times_zero config.chains, times_zero (length (plan_of n config).lockups), times_two config.chains)
+    ∙ omega (arith, times_one config.ring.stages, times_zero (count_by not (plan_of n config).heads), times_zero (length (plan_of n config).lockups), times_two config.chains)
 
 lockups_are : (style : Style) (n : Netlist) (config : Config) → IsReady n config → total (weight is_lockup n.library) (made_in style n config) ≡ lockups_in style n config
 lockups_are Plain n config ready = plain_is is_lockup lockups_none n config ready ∙ times_one (length (plan_of n config).lockups)
 lockups_are Edt n config ready =
     edt_is is_lockup lockups_none n config ready
-    ∙ omega (arith, times_zero config.ring.stages, times_one config.chains, times_one (length (plan_of n config).lockups), times_zero config.chains)
+    ∙ omega (arith, times_zero config.ring.stages, times_one (count_by not (plan_of n config).heads), times_one (length (plan_of n config).lockups), times_zero config.chains)
 
 pub counts_added : CountsAdded
 counts_added style n config ready = record {

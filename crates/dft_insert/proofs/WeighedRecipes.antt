@@ -17,7 +17,7 @@ use Rattle.dft_netlist.specs.Netlist.{Netlist}
 use Rattle.dft_config.specs.Config.{Config}
 use Rattle.dft_config.specs.declared.config.RingConfig.{RingConfig}
 use Rattle.dft_stitch.specs.declared.places.LockupPlace.{LockupPlace}
-use Rattle.dft_stitch.specs.Plans.{Plan}
+use Rattle.dft_stitch.specs.Plans.{Plan, falling_head}
 use Rattle.dft_edt.specs.Hardware.{group_of}
 use Rattle.dft_config.specs.Segments.{segment_length, segment_start}
 use Rattle.dft_parts.specs.declared.edt_ports.EdtPorts.{EdtPorts}
@@ -33,7 +33,7 @@ use Rattle.dft_compact.specs.CompactorRecipe.{a_next, a_mask, a_segment, segment
 use Rattle.dft_scan_frame.specs.Moves.{Gap, moved}
 use Rattle.dft_scan_frame.specs.Pins.{domain_in, number_of, own_output}
 use Rattle.dft_scan_hardware.specs.Chained as chained
-use Rattle.dft_scan_hardware.specs.Chained.{scan_roles, a_numbered_pin, a_role_pin, a_scan_in, an_open_output, own_or_made, a_row, rows, a_crossing, crossing_in, a_step, a_chain, a_late_chain, cells_at, row_at, last_net}
+use Rattle.dft_scan_hardware.specs.Chained.{scan_roles, a_numbered_pin, a_role_pin, a_scan_in, an_open_output, own_or_made, a_row, rows, a_lockup_clock, a_lockup_behind, a_crossing, crossing_in, a_step, a_chain, a_late_chain, a_fed_chain, cells_at, row_at, last_net}
 use Rattle.dft_scan_hardware.specs.Ports.{plain_in, plain_out}
 use Rattle.dft_scan_hardware.specs.Scanned.{a_plain_chain, a_plain_end, plain_recipe, an_edt_chain, behind_rows, edt_recipe}
 use Rattle.dft_insert.proofs.Weights.{times, times_add, sum_of, sum_add, sum_zero, sum_same, Weighs, weighs_as, weighs_pure, weighs_bind, weighs_each, none_each, none_collect, one_in_range}
@@ -258,14 +258,23 @@ module _ (test : Kind → Bool) (library : List Cell) (well : IsWellFormed libra
     rows_have : Has (rows n gap plan.chains) 0
     rows_have = none_collect (weight test library) library (a_row n gap) plan.chains (λ cells. none_collect (weight test library) library (chained.an_output n gap) cells (λ cell. own_has cell (own_output n cell)))
 
+    clock_has : (port : NetId) (high : Bool) → Has (a_lockup_clock port high) 0
+    clock_has port false = weighs_pure {A = NetId} (weight test library) library port
+    clock_has port true = driving_has Inv (port ∷ []) none.inv
+
+    behind_cell_has : (cells : List InstanceId) (outputs : List NetId) (after : ℕ) (clock : NetId) → Has (a_lockup_behind n cells outputs after clock) (0 + (lock + 0))
+    unfolding a_lockup_behind
+    behind_cell_has cells outputs after clock =
+        weighs_bind (weight test library) library a_net (λ net. a_lockup clock (net_at outputs after) net >> a_scan_in n (slice_get cells (after + 1)) net) 0 (lock + 0) net_has
+        (λ net. weighs_bind (weight test library) library (a_lockup clock (net_at outputs after) net) (λ _. a_scan_in n (slice_get cells (after + 1)) net) lock 0 (lockup_has clock (net_at outputs after) net)
+        (λ _. scan_in_has (slice_get cells (after + 1)) net))
+
     crossing_has : (cells : List InstanceId) (outputs : List NetId) (l : LockupPlace) → Has (a_crossing n config gap cells outputs l) lock
     unfolding a_crossing
     crossing_has cells outputs l =
-        weighs_as (weight test library) library (a_crossing n config gap cells outputs l) (0 + (lock + 0)) lock (omega arith)
-        (weighs_bind (weight test library) library a_net (λ net. a_lockup (record { 0 = domain_in n gap config l.domain }) (net_at outputs l.after) net >> a_scan_in n (slice_get cells (l.after + 1)) net) 0 (lock + 0) net_has
-        (λ net. weighs_bind (weight test library) library (a_lockup (record { 0 = domain_in n gap config l.domain }) (net_at outputs l.after) net) (λ _. a_scan_in n (slice_get cells (l.after + 1)) net) lock 0
-        (lockup_has (record { 0 = domain_in n gap config l.domain }) (net_at outputs l.after) net)
-        (λ _. scan_in_has (slice_get cells (l.after + 1)) net)))
+        weighs_as (weight test library) library (a_crossing n config gap cells outputs l) (0 + (0 + (lock + 0))) lock (omega arith)
+        (weighs_bind (weight test library) library (a_lockup_clock (record { 0 = domain_in n gap config l.domain }) l.high) (λ clock. a_lockup_behind n cells outputs l.after clock) 0 (0 + (lock + 0))
+        (clock_has (record { 0 = domain_in n gap config l.domain }) l.high) (λ clock. behind_cell_has cells outputs l.after clock))
 
     -- a lock-up counts where it stands in the chain
     either_has : (b : Bool) (r : Recipe (Unit {0})) → Has r lock → Has (if b then r else pure tt) (if b then lock else 0)
@@ -298,6 +307,14 @@ module _ (test : Kind → Bool) (library : List Cell) (well : IsWellFormed libra
         (weighs_bind (weight test library) library a_net (λ entry. a_lockup clock phase entry >> a_chain n config gap plan.lockups chain cells outputs entry) 0 (lock + crossings chain) net_has
         (λ entry. weighs_bind (weight test library) library (a_lockup clock phase entry) (λ _. a_chain n config gap plan.lockups chain cells outputs entry) lock (crossings chain) (lockup_has clock phase entry) (λ _. chain_has chain cells outputs entry)))
 
+    -- a chain behind its phase sum has a lock-up more where its first cell rises
+    abbrev entered : (falling : Bool) → ℕ
+    entered falling = if falling then 0 else lock
+
+    fed_has : (falling : Bool) (chain : ℕ) (cells : List InstanceId) (outputs : List NetId) (clock phase : NetId) → Has (a_fed_chain falling n config gap plan.lockups chain cells outputs clock phase) (entered falling + crossings chain)
+    fed_has true chain cells outputs clock phase = weighs_as (weight test library) library (a_chain n config gap plan.lockups chain cells outputs phase) (crossings chain) (0 + crossings chain) (omega arith) (chain_has chain cells outputs phase)
+    fed_has false chain cells outputs clock phase = late_has chain cells outputs clock phase
+
     -- ---- the recipes
 
     abbrev chain_numbers : List ℕ
@@ -312,19 +329,19 @@ module _ (test : Kind → Bool) (library : List Cell) (well : IsWellFormed libra
         (weighs_each (weight test library) library (a_plain_chain n config plan gap outputs) crossings chain_numbers (λ chain. chain_has chain (cells_at plan.chains chain) (row_at outputs chain) (plain_in gap.before chain)))
         (λ _. none_each (weight test library) library (a_plain_end config gap outputs) chain_numbers (λ chain. gate_has Buf (last_net (row_at outputs chain) ∷ []) (plain_out gap.before config.chains chain) none.buf))))
 
-    abbrev late : (chain : ℕ) → ℕ
-    late chain = lock + crossings chain
+    abbrev fed : (chain : ℕ) → ℕ
+    fed chain = entered (falling_head plan chain) + crossings chain
 
     abbrev edt_weight : ℕ
-    edt_weight = times config.ring.stages flop + (sum_of late chain_numbers + masks_weight config)
+    edt_weight = times config.ring.stages flop + (sum_of fed chain_numbers + masks_weight config)
 
     behind_has : (ports : EdtPorts) (outputs : List (List NetId)) → Has (behind_rows n config plan gap ports outputs) edt_weight
     unfolding behind_rows
     behind_has ports outputs =
-        weighs_bind (weight test library) library (a_ring config ports) (λ ring. each (an_edt_chain n config plan gap ports ring.phases outputs) chain_numbers >> a_compactor config ports ring.run (map last_net outputs)) (times config.ring.stages flop) (sum_of late chain_numbers + masks_weight config)
+        weighs_bind (weight test library) library (a_ring config ports) (λ ring. each (an_edt_chain n config plan gap ports ring.phases outputs) chain_numbers >> a_compactor config ports ring.run (map last_net outputs)) (times config.ring.stages flop) (sum_of fed chain_numbers + masks_weight config)
         (ring_has config ports)
-        (λ ring. weighs_bind (weight test library) library (each (an_edt_chain n config plan gap ports ring.phases outputs) chain_numbers) (λ _. a_compactor config ports ring.run (map last_net outputs)) (sum_of late chain_numbers) (masks_weight config)
-        (weighs_each (weight test library) library (an_edt_chain n config plan gap ports ring.phases outputs) late chain_numbers (λ chain. late_has chain (cells_at plan.chains chain) (row_at outputs chain) ports.edt_clock (net_at ring.phases chain)))
+        (λ ring. weighs_bind (weight test library) library (each (an_edt_chain n config plan gap ports ring.phases outputs) chain_numbers) (λ _. a_compactor config ports ring.run (map last_net outputs)) (sum_of fed chain_numbers) (masks_weight config)
+        (weighs_each (weight test library) library (an_edt_chain n config plan gap ports ring.phases outputs) fed chain_numbers (λ chain. fed_has (falling_head plan chain) chain (cells_at plan.chains chain) (row_at outputs chain) ports.edt_clock (net_at ring.phases chain)))
         (λ _. compactor_has config ports ring.run (map last_net outputs)))
 
     pub edt_has : (ports : EdtPorts) → Has (edt_recipe n config plan gap ports) edt_weight

@@ -1,5 +1,5 @@
 -- How many flip-flops and lock-ups insertion adds.
-use Rattle.std.specs.Prelude.{ℕ, ◌+◌, ◌*◌, ◌≡◌, Bool, length, drop, count_by}
+use Rattle.std.specs.Prelude.{ℕ, ◌+◌, ◌*◌, ◌≡◌, Bool, not, length, drop, count_by}
 use Rattle.dft_cells.specs.declared.kind.Kind.{Kind}
 use Rattle.dft_cells.specs.FlipFlops.{is_flip_flop}
 use Rattle.dft_netlist.specs.Drivers.{shape_of}
@@ -21,10 +21,10 @@ abbrev pub flip_flops_in : Style → Config → ℕ
 flip_flops_in Plain config = 0
 flip_flops_in Edt config = config.ring.stages + 2 * config.chains
 
--- each style adds the planned lock-ups between domains; style Edt adds one on edt_clock for each chain
+-- each style adds the planned lock-ups between domains; style Edt adds one on edt_clock for each chain whose first cell is rising
 abbrev pub lockups_in : Style → Netlist → Config → ℕ
 lockups_in Plain n config = length (plan_of n config).lockups
-lockups_in Edt n config = length (plan_of n config).lockups + config.chains
+lockups_in Edt n config = length (plan_of n config).lockups + count_by not (plan_of n config).heads
 
 -- so many flip-flops and lock-ups stand behind the design's instances
 pub record HasCounts (style : Style) (n : Netlist) (config : Config) : Type 0 where

@@ -3,8 +3,8 @@
 ghost use Rattle.dft_insert.specs.Counts.{CountsAdded};
 
 /// Behind the design's instances a scanned netlist has as many flip-flops and lock-ups as its style adds: in style Edt the stages of
-/// the ring and two flip-flops for each chain, in style Plain none; and the planned lock-ups between domains, with one for each chain
-/// on edt_clock in style Edt.
+/// the ring and two flip-flops for each chain, in style Plain none; and the planned lock-ups between domains, in style Edt with one on
+/// edt_clock for each chain whose first cell is rising.
 pub fn scanned_counts()
     ensures { CountsAdded }
 {}

@@ -83,7 +83,7 @@ primitive_drives kind.Opaque i ins h = absurd cc
 abbrev pub driven_as : Shape → (i : ℕ) → List Signal → List Driven
 driven_as s i pins = let cs = connections_from 0 s.roles pins in driven_by_pins s.kind i (inputs_of i cs) cs
 
-gate_driven : (library : List Cell) (i : ℕ) (k : Kind) (xs : List NetId) (o : NetId) (x : Instance) → IsTrue (is_primitive k) → x.cell ≡ cell_ref.Gate k (length xs) → AreKept (at_nets xs ++ AtNet o ∷ []) x.pins →
+pub gate_driven : (library : List Cell) (i : ℕ) (k : Kind) (xs : List NetId) (o : NetId) (x : Instance) → IsTrue (is_primitive k) → x.cell ≡ cell_ref.Gate k (length xs) → AreKept (at_nets xs ++ AtNet o ∷ []) x.pins →
     slice_get (driven_by library i x) 0 ≡ Some (o.0, Gate k (sources_at xs))
 gate_driven library i k xs o x is cell kept =
     let cs = connections_from 0 (gate_roles (length xs)) (at_nets xs ++ AtNet o ∷ []) in

@@ -1,5 +1,5 @@
 -- What made flip-flops and lock-ups do in a finished netlist.
-use Rattle.std.proofs.Common.{ℕ, zero, suc, ◌+◌, ◌≡◌, ◌⊎◌, inl, inr, Bool, true, false, List, [], ◌∷◌, length, map, Option, None, Some, slice_get, refl, sym, subst, ap, arith, ◌∙◌}
+use Rattle.std.proofs.Common.{ℕ, zero, suc, ◌+◌, ◌-◌, ◌≡◌, ◌⊎◌, inl, inr, Bool, true, false, List, [], ◌∷◌, length, map, Option, None, Some, slice_get, refl, sym, subst, ap, arith, ◌∙◌}
 use Rattle.std.specs.Prelude.{if◌then◌else◌}
 use Rattle.std.proofs.lemmas.Option.{none-some, same_Some}
 use Rattle.dft_cells.specs.declared.kind.Kind.{Kind}
@@ -18,15 +18,15 @@ use Rattle.dft_netlist.specs.declared.instance.CellRef.TheVariants.{Library}
 use Rattle.dft_netlist.specs.declared.instance.Instance.{Instance}
 use Rattle.dft_netlist.specs.Netlist.{Netlist}
 use Rattle.dft_netlist.specs.NetDrivers.{IsSingle}
-use Rattle.dft_netlist.specs.Drivers.{Shape, Net, Connection, Input, Flop, Lockup, connections_from, pins_at, kind_of, driver, shape_of, shape_of_cell}
-use Rattle.dft_netlist.specs.ClockRoots.{ClockRoot, port_root, clock_root_of, clock_within, clock_of_driver}
+use Rattle.dft_netlist.specs.Drivers.{Shape, Net, Connection, Input, Gate, Flop, Lockup, connections_from, pins_at, kind_of, driver, shape_of, shape_of_cell}
+use Rattle.dft_netlist.specs.ClockRoots.{ClockRoot, port_root, inverse_root, clock_root_of, clock_within, clock_of_driver}
 use Rattle.dft_netlist.specs.Logic as logic
 use Rattle.dft_netlist.specs.Logic.{Ports, domain_of, domain_at, modelled, modelled_of, flip_flop, flop_meaning, lockup_meaning, logic_of, meaning_of, or_loose, pin_of}
 use Rattle.dft_netlist.proofs.StoredLemmas.{flop_cell}
 use Rattle.dft_parts.specs.Cells.{is_dff, is_lockup, first_from, numbered_cell, first_cell, pin_between, pins_between}
 use Rattle.dft_parts.specs.Growth.{AreKept, Stands}
-use Rattle.dft_parts.specs.Standing.{IsClockNet, plain_cell, IsFlop, FlopStands, LockupStands}
-use Rattle.dft_parts.proofs.Standing.{instance_drives, driven_as}
+use Rattle.dft_parts.specs.Standing.{IsClockNet, IsClockedBy, plain_cell, IsFlop, FlopStands, PortShowsItself, InverseStands, LockupStands}
+use Rattle.dft_parts.proofs.Standing.{gate_driven, instance_drives, driven_as}
 
 -- ---- the first cell of a kind
 
@@ -134,12 +134,32 @@ lockup_shape library well =
 clock_root : (n : Netlist) (clock : ℕ) → driver n clock ≡ Input → clock_root_of n (Net clock) ≡ Some (port_root clock)
 clock_root n clock at = ap (clock_of_driver (clock_within n (length n.nets)) clock) at
 
+pub port_shows : PortShowsItself
+port_shows n ports net is = record { root = clock_root n net is.input; clock = is.clock }
+
+inverse_walk : (n : Netlist) (port output m : ℕ) → length n.nets ≡ suc m → driver n port ≡ Input → driver n output ≡ Gate kind.Inv (Net port ∷ []) → clock_root_of n (Net output) ≡ Some (record { port = port; inverted = true })
+inverse_walk n port output m size at drives =
+    ap (clock_of_driver (clock_within n (length n.nets)) output) drives
+    ∙ ap (λ (k : ℕ). inverse_root (clock_within n k (Net port))) size
+    ∙ ap (λ d. inverse_root (clock_of_driver (clock_within n m) port d)) at
+
+pub inverse_stands : InverseStands
+inverse_stands n ports i port output single live is h = record {
+  root = inverse_walk n port.0 output.0 (length n.nets - 1) (omega (arith, live)) is.input
+      (instance_drives n i 0 h.instance (output.0, Gate kind.Inv (Net port.0 ∷ [])) single h.at (gate_driven n.library i kind.Inv (port ∷ []) output h.instance refl h.cell_is h.kept));
+  clock = is.clock;
+}
+
 picked : (b : Bool) (root : ClockRoot) → b ≡ true → (if b then Some root else None) ≡ Some root
 picked true root h = refl
 picked false root h = absurd cc
 
+-- the clock that a net shows
+shown_domain : (n : Netlist) (ports : Ports) (net port : ℕ) (inverted : Bool) → IsClockedBy n ports net port inverted → domain_of ports (clock_root_of n (Net net)) ≡ Some (record { port = port; inverted = inverted })
+shown_domain n ports net port inverted is = ap (domain_of ports) is.root ∙ picked (ports.is_clock port) (record { port = port; inverted = inverted }) is.clock
+
 clock_domain : (n : Netlist) (ports : Ports) (clock : ℕ) → IsClockNet n ports clock → domain_of ports (clock_root_of n (Net clock)) ≡ Some (port_root clock)
-clock_domain n ports clock is = ap (domain_of ports) (clock_root n clock is.input) ∙ picked (ports.is_clock clock) (port_root clock) is.clock
+clock_domain n ports clock is = shown_domain n ports clock clock false (port_shows n ports clock is)
 
 -- the signals of the three pins that a store has at least
 pub record HasFront (clock input output : NetId) (pins : List Signal) : Type 0 where
@@ -213,7 +233,7 @@ abbrev lockup_with : Netlist → Ports → (i : ℕ) → List Connection → log
 lockup_with n ports i cs = lockup_meaning i (domain_at n ports (pin_of AClock i cs)) (or_loose i (pin_of Din i cs))
 
 pub lockup_stands : LockupStands
-lockup_stands n ports i clock input output single well is h =
+lockup_stands n ports i clock input output port inverted single well is h =
     let x : Instance = h.instance in
     let id : CellId = first_cell is_lockup n.library in
     let s : Shape = shape_as kind.Lockup (AClock ∷ Din ∷ Output ∷ []) in
@@ -229,4 +249,4 @@ lockup_stands n ports i clock input output single well is h =
     ∙ ap (λ (c : CellRef). lockup_with n ports i (connections_from 0 (shape_of n.library c).roles x.pins)) h.cell_is
     ∙ ap (λ (v : Shape). lockup_with n ports i (connections_from 0 v.roles x.pins)) shape
     ∙ ap (λ (ps : List Signal). lockup_with n ports i (connections_from 0 s.roles ps)) front.are
-    ∙ ap (λ (d : Option ClockRoot). lockup_meaning i d (Net input.0)) (clock_domain n ports clock.0 is)
+    ∙ ap (λ (d : Option ClockRoot). lockup_meaning i d (Net input.0)) (shown_domain n ports clock.0 port inverted is)

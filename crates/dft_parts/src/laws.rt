@@ -4,7 +4,7 @@ ghost use Rattle.dft_parts.specs.Growth.{PartsGrow, PartsStay};
 ghost use Rattle.dft_parts.specs.Order.{OrderStays};
 ghost use Rattle.dft_parts.specs.Ranks.{FlipFlopRanked, GateRanked, LockupRanked, OrderRanks, PartsRank, RanksOrder};
 ghost use Rattle.dft_parts.specs.Single.{NewIsFree, StaysSingle, TimesAddUp};
-ghost use Rattle.dft_parts.specs.Standing.{FlopStands, GateStands, LockupStands};
+ghost use Rattle.dft_parts.specs.Standing.{FlopStands, GateStands, InverseStands, LockupStands, PortShowsItself};
 ghost use Rattle.dft_parts.specs.SumTrees.{SumBit, SumStands, SumValue};
 
 /// What was there stays, and behind it stand the parts, under made names in order; parts go on standing.
@@ -37,11 +37,13 @@ pub fn ranks_order()
     ensures lockup { LockupRanked }
 {}
 
-/// In a finished netlist a made gate drives its net from its inputs, a made flip-flop takes its input and shows its bit, and a made
-/// lock-up holds its input.
+/// In a finished netlist a made gate drives its net from its inputs, a made flip-flop takes its input and shows its bit, a made `not`
+/// of a clock port shows its inverse, and a made lock-up holds its input, high on such an inverse and low on the port.
 pub fn made_parts_drive()
     ensures gate { GateStands }
     ensures flop { FlopStands }
+    ensures port { PortShowsItself }
+    ensures inverse { InverseStands }
     ensures lockup { LockupStands }
 {}
 

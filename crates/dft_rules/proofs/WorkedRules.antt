@@ -1,5 +1,5 @@
 -- A netlist with two clocks and how it is judged, worked by hand.
-use Rattle.std.proofs.Common.{◌≡◌, ℕ, List, [], ◌∷◌, codes, pos, Some, None, refl}
+use Rattle.std.proofs.Common.{◌≡◌, ℕ, List, [], ◌∷◌, codes, pos, false, Some, None, refl}
 use Rattle.dft_base.specs.Lexing.{Text}
 use Rattle.dft_cells.specs.declared.cell.Cell.{Cell}
 use Rattle.dft_cells.specs.declared.kind.Kind.TheVariants as kind
@@ -71,13 +71,13 @@ example_config domains keep chains = record {
 abbrev pub two_clocks : List Text
 two_clocks = codes "ca" ∷ codes "cb" ∷ []
 
-all_scanned : judgements (example 1) (example_config two_clocks [] 1) ≡ Some (Scanned 0) ∷ Some (Scanned 1) ∷ Some (Scanned 0) ∷ Some (Scanned 1) ∷ None ∷ []
+all_scanned : judgements (example 1) (example_config two_clocks [] 1) ≡ Some (Scanned 0 false) ∷ Some (Scanned 1 false) ∷ Some (Scanned 0 false) ∷ Some (Scanned 1 false) ∷ None ∷ []
 all_scanned = refl
 
-behind_a_gate : judgements (example 7) (example_config two_clocks [] 1) ≡ Some (Scanned 0) ∷ Some (Scanned 1) ∷ Some (Scanned 0) ∷ Some (Unscanned S1) ∷ None ∷ []
+behind_a_gate : judgements (example 7) (example_config two_clocks [] 1) ≡ Some (Scanned 0 false) ∷ Some (Scanned 1 false) ∷ Some (Scanned 0 false) ∷ Some (Unscanned S1) ∷ None ∷ []
 behind_a_gate = refl
 
-kept : judgements (example 1) (example_config two_clocks (codes "f3" ∷ []) 1) ≡ Some (Scanned 0) ∷ Some (Scanned 1) ∷ Some (Scanned 0) ∷ Some (Unscanned S4) ∷ None ∷ []
+kept : judgements (example 1) (example_config two_clocks (codes "f3" ∷ []) 1) ≡ Some (Scanned 0 false) ∷ Some (Scanned 1 false) ∷ Some (Scanned 0 false) ∷ Some (Unscanned S4) ∷ None ∷ []
 kept = refl
 
 -- the same with another instance before all others

@@ -108,7 +108,7 @@ quoted_port ports = option_map (λ port. PortName port.name) (find (λ port. has
 
 abbrev pub is_scanned : Option Judged → Bool
 is_scanned None = false
-is_scanned (Some (Scanned domain)) = true
+is_scanned (Some (Scanned domain falling)) = true
 is_scanned (Some (Unscanned rule)) = false
 
 -- fewer cells are scanned than this

@@ -95,10 +95,10 @@ fails domain held scans kept S2 = not held
 fails domain held scans kept S3 = not scans
 fails domain held scans kept S4 = kept
 
--- a flip-flop that no rule keeps out is scanned in its domain
+-- a flip-flop that no rule keeps out is scanned in its domain, at the rises of its clock
 abbrev pub judgement : (domain : Option ℕ) → (failing : Option Rule) → Option Judged
 judgement None None = None
-judgement (Some domain) None = Some (Scanned domain)
+judgement (Some domain) None = Some (Scanned domain false)
 judgement None (Some rule) = Some (Unscanned rule)
 judgement (Some domain) (Some rule) = Some (Unscanned rule)
 

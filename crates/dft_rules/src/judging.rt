@@ -107,7 +107,10 @@ fn judgement(domain: Option<u8>, held: bool, scans: bool, kept: bool) -> Option<
             } else if kept {
                 Some(Judged::Unscanned { rule: Rule::S4 })
             } else {
-                Some(Judged::Scanned { domain })
+                Some(Judged::Scanned {
+                    domain,
+                    falling: false,
+                })
             }
         }
     }

@@ -77,11 +77,11 @@ is_there n i s = elim (le_or_lt (length n.instances) i) [
 
 -- ---- domains
 
-domain_named : (n : Netlist) (config : Config) (i d : ℕ) → judged n config i ≡ Some (Scanned d) → IsSome (domain_name config (judgements n config) (record { 0 = i }))
-domain_named n config i d h =
-    let less = is_there n i (is_flip_flop n config i (Scanned d) h) in
-    let verdict : get_or (judgements n config) i None ≡ Some (Scanned d) = get_or-map-range_with_len (judged n config) 0 (length n.instances) i i None less (omega arith) ∙ h in
-    let name : slice_get config.domains d ≡ Some (get_or config.domains d []) = slice_get-get_or config.domains d [] (domain_within n config i d h) in
+domain_named : (n : Netlist) (config : Config) (i d : ℕ) (f : Bool) → judged n config i ≡ Some (Scanned d f) → IsSome (domain_name config (judgements n config) (record { 0 = i }))
+domain_named n config i d f h =
+    let less = is_there n i (is_flip_flop n config i (Scanned d f) h) in
+    let verdict : get_or (judgements n config) i None ≡ Some (Scanned d f) = get_or-map-range_with_len (judged n config) 0 (length n.instances) i i None less (omega arith) ∙ h in
+    let name : slice_get config.domains d ≡ Some (get_or config.domains d []) = slice_get-get_or config.domains d [] (domain_within n config i d f h) in
     let is : domain_name config (judgements n config) (record { 0 = i }) ≡ Some (get_or config.domains d []) = ap (λ (o : Option Judged). option_and_then (slice_get config.domains) (domain_in o)) verdict ∙ name in
     ap is_some is
 
@@ -98,9 +98,9 @@ unscanned_some None rule x = x
 
 has_line : (n : Netlist) (config : Config) (i : ℕ) (verdict : Option Judged) → IsReady n config → judged n config i ≡ verdict → HasLine n config i verdict
 has_line n config i None ready e = _
-has_line n config i (Some (Scanned d)) ready e = λ chain place.
+has_line n config i (Some (Scanned d f)) ready e = λ chain place.
     scanned_some chain place (name_of n i) (domain_name config (judgements n config) (record { 0 = i }))
-    (named_by n i (slice_get n.instances i) ready.netlist refl (is_flip_flop n config i (Scanned d) e)) (domain_named n config i d e)
+    (named_by n i (slice_get n.instances i) ready.netlist refl (is_flip_flop n config i (Scanned d f) e)) (domain_named n config i d f e)
 has_line n config i (Some (Unscanned rule)) ready e =
     unscanned_some (name_of n i) rule (named_by n i (slice_get n.instances i) ready.netlist refl (is_flip_flop n config i (Unscanned rule) e))
 

@@ -50,13 +50,13 @@ scanned_lines n config verdicts chains = flat_map (λ at. scanned_in n config ve
 
 abbrev pub is_unscanned : Option Judged → Bool
 is_unscanned None = false
-is_unscanned (Some (Scanned domain)) = false
+is_unscanned (Some (Scanned domain falling)) = false
 is_unscanned (Some (Unscanned rule)) = true
 
 -- the line of a flip-flop that is judged so, by its name
 abbrev pub unscanned_as : (name : Option Text) → Option Judged → Option UnscannedLine
 unscanned_as (Some name) (Some (Unscanned rule)) = Some (record { name = name; rule = rule })
-unscanned_as (Some name) (Some (Scanned domain)) = None
+unscanned_as (Some name) (Some (Scanned domain falling)) = None
 unscanned_as (Some name) None = None
 unscanned_as None verdict = None
 

@@ -1,10 +1,11 @@
 -- The net that the parts of a chain's recipe join a scan input to.
-use Rattle.std.proofs.Common.{ℕ, suc, ◌+◌, ◌<◌, ◌≡◌, ◌==◌, ◌&&◌, inl, Bool, true, false, List, length, Option, None, Some, slice_get, refl, sym, subst, ap, arith, ◌∙◌}
+use Rattle.std.proofs.Common.{ℕ, suc, ◌+◌, ◌<◌, ◌≡◌, ◌==◌, ◌&&◌, inl, Bool, true, false, List, [], ◌∷◌, length, Option, None, Some, slice_get, refl, sym, subst, ap, arith, ◌∙◌}
 use Rattle.std.specs.Prelude.{if◌then◌else◌}
 use Rattle.std.specs.List.{range_with_len}
 use Rattle.std.proofs.lemmas.Bool.{eqb-true, eq-eqb}
 use Rattle.dft_base.proofs.ListLemmas.{get_range}
 use Rattle.dft_cells.specs.declared.cell.Cell.{Cell}
+use Rattle.dft_cells.specs.declared.kind.Kind.TheVariants.{Inv}
 use Rattle.dft_cells.specs.declared.kind.Role.TheVariants.{ScanIn}
 use Rattle.dft_netlist.specs.declared.ids.NetId.{NetId}
 use Rattle.dft_netlist.specs.declared.ids.InstanceId.{InstanceId}
@@ -12,12 +13,18 @@ use Rattle.dft_netlist.specs.Logic.{same_role}
 use Rattle.dft_netlist.specs.Netlist.{Netlist}
 use Rattle.dft_config.specs.Config.{Config}
 use Rattle.dft_stitch.specs.declared.places.LockupPlace.{LockupPlace}
-use Rattle.dft_parts.specs.Recipes.{Start, Recipe, pure, ◌>>◌, behind, each, net_at, a_net, a_lockup}
+use Rattle.dft_parts.specs.Recipes.{Start, Recipe, pure, ◌>>=◌, ◌>>◌, behind, each, net_at, a_net, a_lockup}
+use Rattle.dft_parts.specs.Sums.{a_driving_gate}
 use Rattle.dft_scan_frame.specs.Moves.{Gap}
 use Rattle.dft_scan_frame.specs.Pins.{number_of, domain_in}
-use Rattle.dft_scan_hardware.specs.Chained.{scan_roles, a_numbered_pin, a_scan_in, a_crossing, crossing_in, a_step, a_chain, a_late_chain}
+use Rattle.dft_scan_hardware.specs.Chained.{scan_roles, a_numbered_pin, a_scan_in, a_lockup_clock, a_lockup_behind, a_crossing, crossing_in, a_step, a_chain, a_late_chain, a_fed_chain}
 use Rattle.dft_scan_behavior.proofs.FirstNets.{first_at, Found, Fits, part_fits, part_found, FitsIn, FoundIn, fits_bind, found_bind, found_then, fits_each, found_each}
-use Rattle.dft_scan_behavior.proofs.Lockups.{LockupStands, range_is}
+use Rattle.dft_scan_behavior.proofs.Lockups.{LockupStands, IsMadeClock, range_is}
+
+-- how a chain's entry stands behind its phase sum: it is the sum itself where the first cell is falling, else the net of a lock-up that takes it
+abbrev pub IsFed : Netlist → (falling : Bool) → (clock phase entry : NetId) → Type 0
+IsFed w true clock phase entry = entry ≡ phase
+IsFed w false clock phase entry = (number : ℕ) × (library : List Cell) × (library ≡ w.library) × LockupStands w number library clock phase entry
 
 module _ (n w : Netlist) (config : Config) (gap : Gap) (i p : ℕ) (P : NetId → Type 0) where
   -- a cell, where it is the one with this pin
@@ -41,25 +48,54 @@ module _ (n w : Netlist) (config : Config) (gap : Gap) (i p : ℕ) (P : NetId �
 
   -- ---- links
 
-  -- what the net of a made lock-up has to be
+  -- what the net of a made lock-up has to be, behind the net that clocks it
+  abbrev pub CrossesOn : (outputs : List NetId) → (after : ℕ) → (clock : NetId) → Type 0
+  CrossesOn outputs after clock = (number : ℕ) (library : List Cell) (net : NetId) → library ≡ w.library → LockupStands w number library clock (net_at outputs after) net → P net
+
   abbrev pub Crosses : (outputs : List NetId) → LockupPlace → Type 0
-  Crosses outputs l = (number : ℕ) (library : List Cell) (net : NetId) → library ≡ w.library → LockupStands w number library (record { 0 = domain_in n gap config l.domain }) (net_at outputs l.after) net → P net
+  Crosses outputs l = (clock : NetId) → IsMadeClock w (record { 0 = domain_in n gap config l.domain }) l.high clock → CrossesOn outputs l.after clock
+
+  lockup_fits : (cells : List InstanceId) (outputs : List NetId) (after : ℕ) (clock : NetId) → IfHere (slice_get cells (after + 1)) (CrossesOn outputs after clock) → FitsIn w i p P (a_lockup_behind n cells outputs after clock)
+  unfolding a_lockup_behind
+  lockup_fits cells outputs after clock h at k lib has =
+      let net : NetId = record { 0 = at.next } in
+      let a = behind at (a_net at).parts in
+      let b = behind a (a_lockup clock (net_at outputs after) net a).parts in
+      scan_in_fits (slice_get cells (after + 1)) net (λ c is same. h c is same k at.library net lib has.0) b (suc k) lib has.1
+
+  lockup_found : (cells : List InstanceId) (outputs : List NetId) (after : ℕ) (clock : NetId) (c : InstanceId) → slice_get cells (after + 1) ≡ Some c → number_of (same_role ScanIn) 0 (scan_roles n c) ≡ Some p → c.0 ≡ i → CrossesOn outputs after clock →
+      FoundIn w i p P (a_lockup_behind n cells outputs after clock)
+  unfolding a_lockup_behind
+  lockup_found cells outputs after clock c is number same h at k lib has =
+      let net : NetId = record { 0 = at.next } in
+      let a = behind at (a_net at).parts in
+      let b = behind a (a_lockup clock (net_at outputs after) net a).parts in
+      scan_in_found (slice_get cells (after + 1)) c net is number same (h k at.library net lib has.0) b (suc k) lib has.1
+
+  -- a lock-up behind what clocks it
+  clocked_fits : (port : NetId) (high : Bool) (cells : List InstanceId) (outputs : List NetId) (after : ℕ) → IfHere (slice_get cells (after + 1)) ((clock : NetId) → IsMadeClock w port high clock → CrossesOn outputs after clock) →
+      FitsIn w i p P (a_lockup_clock port high >>= a_lockup_behind n cells outputs after)
+  unfolding a_driving_gate
+  clocked_fits port false cells outputs after h at k lib has = lockup_fits cells outputs after port (λ c is same. h c is same port refl) (behind at []) k lib has
+  clocked_fits port true cells outputs after h at k lib has =
+      let clock : NetId = record { 0 = at.next } in
+      lockup_fits cells outputs after clock (λ c is same. h c is same clock (k, has.0)) (behind at (a_driving_gate Inv (port ∷ []) at).parts) (suc k) lib has.1
+
+  clocked_found : (port : NetId) (high : Bool) (cells : List InstanceId) (outputs : List NetId) (after : ℕ) (c : InstanceId) → slice_get cells (after + 1) ≡ Some c → number_of (same_role ScanIn) 0 (scan_roles n c) ≡ Some p → c.0 ≡ i →
+      ((clock : NetId) → IsMadeClock w port high clock → CrossesOn outputs after clock) → FoundIn w i p P (a_lockup_clock port high >>= a_lockup_behind n cells outputs after)
+  unfolding a_driving_gate
+  clocked_found port false cells outputs after c is number same h at k lib has = lockup_found cells outputs after port c is number same (h port refl) (behind at []) k lib has
+  clocked_found port true cells outputs after c is number same h at k lib has =
+      let clock : NetId = record { 0 = at.next } in
+      lockup_found cells outputs after clock c is number same (h clock (k, has.0)) (behind at (a_driving_gate Inv (port ∷ []) at).parts) (suc k) lib has.1
 
   crossing_fits : (cells : List InstanceId) (outputs : List NetId) (l : LockupPlace) → IfHere (slice_get cells (l.after + 1)) (Crosses outputs l) → FitsIn w i p P (a_crossing n config gap cells outputs l)
   unfolding a_crossing
-  crossing_fits cells outputs l h at k lib has =
-      let net : NetId = record { 0 = at.next } in
-      let a = behind at (a_net at).parts in
-      let b = behind a (a_lockup (record { 0 = domain_in n gap config l.domain }) (net_at outputs l.after) net a).parts in
-      scan_in_fits (slice_get cells (l.after + 1)) net (λ c is same. h c is same k at.library net lib has.0) b (suc k) lib has.1
+  crossing_fits cells outputs l h = clocked_fits (record { 0 = domain_in n gap config l.domain }) l.high cells outputs l.after h
 
   crossing_found : (cells : List InstanceId) (outputs : List NetId) (l : LockupPlace) (c : InstanceId) → slice_get cells (l.after + 1) ≡ Some c → number_of (same_role ScanIn) 0 (scan_roles n c) ≡ Some p → c.0 ≡ i → Crosses outputs l → FoundIn w i p P (a_crossing n config gap cells outputs l)
   unfolding a_crossing
-  crossing_found cells outputs l c is number same h at k lib has =
-      let net : NetId = record { 0 = at.next } in
-      let a = behind at (a_net at).parts in
-      let b = behind a (a_lockup (record { 0 = domain_in n gap config l.domain }) (net_at outputs l.after) net a).parts in
-      scan_in_found (slice_get cells (l.after + 1)) c net is number same (h k at.library net lib has.0) b (suc k) lib has.1
+  crossing_found cells outputs l c is number same h = clocked_found (record { 0 = domain_in n gap config l.domain }) l.high cells outputs l.after c is number same h
 
   fits_if : (b : Bool) (r : Recipe (Unit {0})) → (b ≡ true → FitsIn w i p P r) → FitsIn w i p P (if b then r else pure tt)
   fits_if true r h = h refl
@@ -136,21 +172,28 @@ module _ (n w : Netlist) (config : Config) (gap : Gap) (i p : ℕ) (P : NetId �
         (λ _. fits_bind w i p P crossed (λ _. stepped) (crossed_fits (λ m l there at c is same. absurd (none (l.after + 1) c is same)))
         (λ _. stepped_fits (λ place less c is same. absurd (none (place + 1) c is same))))
 
-    -- ---- behind a lock-up
+    -- ---- behind a phase sum
 
-    pub late_found : (clock phase : NetId) → ((number : ℕ) (library : List Cell) (entry : NetId) → library ≡ w.library → LockupStands w number library clock phase entry → FoundIn w i p P (a_chain n config gap lockups chain cells outputs entry)) →
-        FoundIn w i p P (a_late_chain n config gap lockups chain cells outputs clock phase)
+    late_found : (clock phase : NetId) → ((entry : NetId) → IsFed w false clock phase entry → FoundIn w i p P (a_chain n config gap lockups chain cells outputs entry)) → FoundIn w i p P (a_late_chain n config gap lockups chain cells outputs clock phase)
     unfolding a_late_chain
     late_found clock phase h at k lib has =
         let entry : NetId = record { 0 = at.next } in
         let a = behind at (a_net at).parts in
         let b = behind a (a_lockup clock phase entry a).parts in
-        h k at.library entry lib has.0 b (suc k) lib has.1
+        h entry (k, at.library, lib, has.0) b (suc k) lib has.1
 
-    pub late_fits : (clock phase : NetId) → ((entry : NetId) → FitsIn w i p P (a_chain n config gap lockups chain cells outputs entry)) → FitsIn w i p P (a_late_chain n config gap lockups chain cells outputs clock phase)
+    late_fits : (clock phase : NetId) → ((entry : NetId) → FitsIn w i p P (a_chain n config gap lockups chain cells outputs entry)) → FitsIn w i p P (a_late_chain n config gap lockups chain cells outputs clock phase)
     unfolding a_late_chain
     late_fits clock phase h at k lib has =
         let entry : NetId = record { 0 = at.next } in
         let a = behind at (a_net at).parts in
         let b = behind a (a_lockup clock phase entry a).parts in
         h entry b (suc k) lib has.1
+
+    pub fed_found : (falling : Bool) (clock phase : NetId) → ((entry : NetId) → IsFed w falling clock phase entry → FoundIn w i p P (a_chain n config gap lockups chain cells outputs entry)) → FoundIn w i p P (a_fed_chain falling n config gap lockups chain cells outputs clock phase)
+    fed_found true clock phase h = h phase refl
+    fed_found false clock phase h = late_found clock phase h
+
+    pub fed_fits : (falling : Bool) (clock phase : NetId) → ((entry : NetId) → FitsIn w i p P (a_chain n config gap lockups chain cells outputs entry)) → FitsIn w i p P (a_fed_chain falling n config gap lockups chain cells outputs clock phase)
+    fed_fits true clock phase h = h phase
+    fed_fits false clock phase h = late_fits clock phase h

@@ -1,24 +1,25 @@
 -- What one vector does to a scanned netlist of style Edt.
 use Rattle.std.proofs.Common.{ℕ, zero, suc, ◌-◌, ◌<◌, ◌≡◌, Bool, false, List, [], length, map, None, Some, get_or, option_and_then, slice_get, refl, sym, ap, arith, ◌∙◌}
+use Rattle.std.specs.Prelude.{if◌then◌else◌}
 use Rattle.std.proofs.lemmas.Option.{slice_get_within, get_or_from_slice_get}
 use Rattle.dft_base.specs.Tri.{known}
 use Rattle.dft_netlist.specs.declared.ids.InstanceId.{InstanceId}
 use Rattle.dft_netlist.specs.Logic.{Logic, Ports, IsRanked}
 use Rattle.dft_netlist.specs.Netlist.{Netlist}
 use Rattle.dft_netlist.specs.Runs.{Now, Vector, Turn, IsTurn, after_turn, AreLow}
-use Rattle.dft_abstract.specs.Cycle.{rise_of}
+use Rattle.dft_abstract.specs.Cycle.{rise_of, after_halves}
 use Rattle.dft_abstract.specs.Laws.{bits}
 use Rattle.dft_abstract.proofs.Lifts.{known_after_turn}
 use Rattle.dft_config.specs.Config.{Config}
 use Rattle.dft_config.specs.Range.{IsInRange}
 use Rattle.dft_config.specs.Ring.{step, phase_sum, phase_of}
 use Rattle.dft_stitch.specs.Chains.{plan_of}
-use Rattle.dft_stitch.specs.Plans.{cell_at}
+use Rattle.dft_stitch.specs.Plans.{cell_at, falling_head}
 use Rattle.dft_chains.specs.Hardware.{ChainNets}
 use Rattle.dft_chains.specs.Shifts.{at_strobe}
 use Rattle.dft_parts.specs.SumTrees.{tri_sum}
 use Rattle.dft_edt.specs.Feeds.{at_feed, feeds}
-use Rattle.dft_edt.specs.Hardware.{EdtNets, IsEdt}
+use Rattle.dft_edt.specs.Hardware.{EdtNets, HeadsAre, IsEdt}
 use Rattle.dft_config.specs.Segments.{chain_in}
 use Rattle.dft_edt.specs.Vectors.{Carries, Shifts}
 use Rattle.dft_edt.proofs.Loads.{shift_in_runs, holds_in_runs, known_one}
@@ -29,7 +30,7 @@ use Rattle.dft_scan_hardware.specs.declared.style.Style.TheVariants.{Edt}
 use Rattle.dft_scan_equivalence.specs.Agreeing.{ports_in}
 use Rattle.dft_scan_behavior.specs.EdtVectors.{SuitsEdt, edt_logic, IsShift, AreShifted, AreStepped, last_cell, VectorsActInRuns, VectorsAct}
 use Rattle.dft_scan_behavior.specs.Facts.{chain_nets, edt_hardware}
-use Rattle.dft_scan_behavior.proofs.EdtUnder.{edt_under, edt_rank}
+use Rattle.dft_scan_behavior.proofs.EdtUnder.{edt_under, edt_heads, edt_rank}
 use Rattle.dft_scan_behavior.proofs.Outputs.{has_chain}
 use Rattle.dft_scan_behavior.proofs.PlainChains.{none_past}
 
@@ -70,23 +71,34 @@ module _ (n : Netlist) (config : Config) (ports : Ports) (ready : IsReady n conf
   has : IsEdt l q config chains w hw
   has = edt_under n config ports ready suits
 
+  heads : HeadsAre l chains (falling_head (plan_of n config))
+  heads = edt_heads n config ports ready suits
+
   rank : (rank : ℕ → ℕ) × IsRanked l rank
   rank = edt_rank n config ports ready
 
   stepped : (row : ℕ → Bool) (x : Vector) (now : Now) (t : Turn) → IsShift n config x → Carries config hw row x → AreLow now.state → IsTurn l x now t → AreStepped n config row now.state.flops (after_turn l x now t).state.flops
-  stepped row x now t shift carries low turn i less =
-      let its : Shifts config chains hw (λ j. known (row j)) (bits now.state) (bits (after_turn l x now t).state) = shift_in_runs l rank.0 q config chains w hw row x now t rank.1 has.ring ready.range shift carries low turn in
+  stepped row x now t shift carries low turn =
+      let falling : ℕ → Bool = falling_head (plan_of n config) in
+      let new : ℕ → Bool = (after_turn l x now t).state.flops in
+      let its : Shifts config chains hw falling (λ j. known (row j)) (bits now.state) (bits (after_turn l x now t).state) = shift_in_runs l rank.0 q config chains w hw falling row x now t rank.1 has.ring heads ready.range shift carries low turn in
       let s : ℕ → Bool = λ k. now.state.flops (hw.stage k) in
-      known_one ((after_turn l x now t).state.flops (hw.stage i)) (step config.ring row s i) (its.stages i less ∙ stage_known config i row s ready.range less)
+      record {
+        stages = λ i less. known_one (new (hw.stage i)) (step config.ring row s i) (its.stages i less ∙ stage_known config i row s ready.range less);
+        firsts = λ chain cell stands falls. known_one (new cell.0) (phase_sum config.ring chain (λ k. new (hw.stage k)))
+            (its.firsts chain cell stands ∙ ap (λ (b : Bool). tri_sum (map (λ k. (if b then bits (after_turn l x now t).state else bits now.state) (hw.stage k)) (phase_of config.ring chain))) falls
+            ∙ phase_known config chain (λ k. new (hw.stage k)) ready.range);
+      }
 
   shifted : (x : Vector) (now : Now) (t : Turn) → IsShift n config x → AreLow now.state → IsTurn l x now t → AreShifted n config now.state.flops (after_turn l x now t).state.flops
   shifted x now t shift low turn =
       let s : ℕ → Bool = λ k. now.state.flops (hw.stage k) in
       record {
-        firsts = λ chain cell stands. known_after_turn l rank.0 x now t rank.1 low turn cell.0 (phase_sum config.ring chain s)
-            (λ h halves. (shift_law l q config chains w hw x (bits now.state) h has.ring ready.range shift halves).firsts chain cell stands ∙ phase_known config chain s ready.range);
+        firsts = λ chain cell stands rises. known_after_turn l rank.0 x now t rank.1 low turn cell.0 (phase_sum config.ring chain s)
+            (λ h halves. (shift_law l q config chains w hw (falling_head (plan_of n config)) x (bits now.state) h has.ring heads ready.range shift halves).firsts chain cell stands
+            ∙ ap (λ (b : Bool). tri_sum (map (λ k. (if b then after_halves l x (bits now.state) h else bits now.state) (hw.stage k)) (phase_of config.ring chain))) rises ∙ phase_known config chain s ready.range);
         others = λ chain place cell next stands follows. known_after_turn l rank.0 x now t rank.1 low turn next.0 (now.state.flops cell.0)
-            (λ h halves. (shift_law l q config chains w hw x (bits now.state) h has.ring ready.range shift halves).others chain place cell next stands follows);
+            (λ h halves. (shift_law l q config chains w hw (falling_head (plan_of n config)) x (bits now.state) h has.ring heads ready.range shift halves).others chain place cell next stands follows);
       }
 
 pub vectors_act_in_runs : VectorsActInRuns
@@ -129,7 +141,7 @@ vectors_act n config ports ready suits =
     let q : Ports = ports_in Edt n config in
     let its = has n config ports ready suits in
     record {
-      shift = λ x old h shift halves. shift_law l q config chains w hw x old h its.ring ready.range shift halves;
+      shift = λ x old h shift halves. shift_law l q config chains w hw (falling_head (plan_of n config)) x old h its.ring (edt_heads n config ports ready suits) ready.range shift halves;
       clear = λ x old h clearing halves. clear_law l q config chains w hw x old h its.ring clearing halves;
       masks = λ x old h pulsed halves. mask_law l config chains hw x old h its.compactor pulsed halves;
       stay = λ x old h pulsed off halves. (hold_law l q config chains w hw x old h its.ring its.compactor ready.range pulsed halves).0 off;

@@ -1,18 +1,21 @@
 -- In style Edt a scanned netlist has all of the compression hardware.
-use Rattle.std.proofs.Common.{ℕ, zero, suc, ◌+◌, ◌-◌, ◌<◌, ◌≡◌, List, length, map, None, Some, option_map, option_and_then, slice_get, sym, subst, ap, arith, ◌∙◌}
+use Rattle.std.proofs.Common.{ℕ, zero, suc, ◌+◌, ◌-◌, ◌<◌, ◌≡◌, Bool, true, false, List, length, map, None, Some, option_map, option_and_then, slice_get, sym, subst, ap, arith, ◌∙◌}
 use Rattle.std.proofs.lemmas.Option.{slice_get-map, get_or_from_slice_get, slice_get_past}
 use Rattle.dft_base.proofs.ListLemmas.{get_there}
 use Rattle.dft_netlist.specs.declared.ids.NetId.{NetId}
 use Rattle.dft_netlist.specs.declared.ids.InstanceId.{InstanceId}
 use Rattle.dft_netlist.specs.Netlist.{Netlist}
+use Rattle.dft_netlist.specs.Drivers.{Source, Net}
 use Rattle.dft_netlist.specs.Logic.{Logic, Input, logic_of}
 use Rattle.dft_config.specs.Config.{Config}
+use Rattle.dft_rules.specs.Rules.{judgements}
 use Rattle.dft_stitch.specs.Chains.{cells_of, plan_of}
-use Rattle.dft_stitch.specs.Plans.{cell_at}
+use Rattle.dft_stitch.specs.Plans.{cell_at, falling_head}
 use Rattle.dft_stitch.proofs.BlockLemmas.{chain_count}
+use Rattle.dft_stitch.proofs.OrderLemmas.{head_is}
 use Rattle.dft_parts.specs.Recipes.{net_at}
 use Rattle.dft_parts.specs.Standing.{IsClockNet}
-use Rattle.dft_edt.specs.Hardware.{EdtNets, HasPhase, HasEnd}
+use Rattle.dft_edt.specs.Hardware.{EdtNets, IsEntered, HasPhase, HasEnd}
 use Rattle.dft_ring.specs.RingStands.{with_ring, HasRingParts}
 use Rattle.dft_compact.specs.CompactorStands.{HasGated, HasCompactorParts}
 use Rattle.dft_scan_frame.specs.Statements.{IsReady}
@@ -25,12 +28,13 @@ use Rattle.dft_scan_equivalence.proofs.MadeGood.{from_at}
 use Rattle.dft_scan_behavior.specs.Facts.{chain_nets, rows_in, ports_of, ring_start, ring_parts, ring_number, no_nets, edt_hardware, HasEdtHardware}
 use Rattle.dft_scan_behavior.proofs.ChainsFilled.{chain_filled}
 use Rattle.dft_scan_behavior.proofs.ChainsHave.{into_is, chains_have}
-use Rattle.dft_scan_behavior.proofs.Outputs.{at_chain, IsShown, shown, means}
+use Rattle.dft_scan_behavior.proofs.Lockups.{clock_of_planned, cell_clock}
+use Rattle.dft_scan_behavior.proofs.Outputs.{has_chain, at_chain, IsShown, shown, means}
 use Rattle.dft_scan_behavior.proofs.PartsThere.{ring_has, compactor_has}
 use Rattle.dft_scan_behavior.proofs.PlainChains.{chain_less, last_place}
-use Rattle.dft_scan_behavior.proofs.Planned.{IsPlanned, planned, cell_rises}
+use Rattle.dft_scan_behavior.proofs.Planned.{IsPlanned, planned, cell_edge}
 use Rattle.dft_scan_behavior.proofs.PortsDriven.{edt_means, edt_clock_is}
-use Rattle.dft_scan_behavior.proofs.ScanInputs.{entry_joined}
+use Rattle.dft_scan_behavior.proofs.ScanInputs.{IsSumEntry, entry_joined}
 
 -- ---- lists
 
@@ -81,18 +85,29 @@ module _ (n : Netlist) (config : Config) (ready : IsReady n config) where
 
   -- ---- into and out of the chains
 
-  phase : (chain : ℕ) (cell : InstanceId) → cell_at chains chain zero ≡ Some cell → HasPhase l config.ring hw ((chain_nets Edt n config).into chain zero) chain
+  -- the first cell of a chain takes its bit at the edge that the plan tells, which is the rise as yet
+  pub head_edge : (chain : ℕ) (cell : InstanceId) → cell_at chains chain zero ≡ Some cell → ((l.cell cell.0).falling ≡ falling_head (plan_of n config) chain) × (falling_head (plan_of n config) chain ≡ false)
+  head_edge chain cell stands =
+      let s : IsPlanned Edt n config cell.0 = planned Edt n config chain zero cell ready stands in
+      let has = has_chain chains chain zero cell stands in
+      let head : falling_head (plan_of n config) chain ≡ s.falling = head_is (judgements n config) chains chain has.cells (clock_of_planned Edt n config cell.0 s) has.at (cell_clock Edt n config zero cell has.cells s has.here) in
+      (cell_edge Edt n config cell.0 s ∙ sym head, head ∙ s.rises)
+
+  -- its scan input takes the phase sum, or what a lock-up holds of it
+  entered : (falling : Bool) (chain : ℕ) (into : Source) (net : NetId) → into ≡ Net net.0 → IsSumEntry n config falling chain net → IsEntered l hw into (net_at (ring_parts n config).value.phases chain).0 falling
+  entered true chain into net leads is = leads ∙ ap (λ (k : NetId). Net k.0) is
+  entered false chain into net leads is = record { lockup = is.0; entry = net.0; latch = is.1; leads = leads }
+
+  phase : (chain : ℕ) (cell : InstanceId) → cell_at chains chain zero ≡ Some cell → HasPhase l config.ring hw ((chain_nets Edt n config).into chain zero) (l.cell cell.0).falling chain
   phase chain cell stands =
       let s : IsPlanned Edt n config cell.0 = planned Edt n config chain zero cell ready stands in
       let it = entry_joined Edt n config chain cell s ready stands in
-      record {
+      subst (λ (falling : Bool). HasPhase l config.ring hw ((chain_nets Edt n config).into chain zero) falling chain) (sym (head_edge chain cell stands).0)
+      (record {
         sum = (net_at (ring_parts n config).value.phases chain).0;
-        lockup = it.2.0;
-        entry = it.0.0;
         sums = ring.phases chain (chain_less n config chain zero cell stands);
-        latch = it.2.1;
-        leads = into_is Edt n config chain zero cell s it.0 stands it.1;
-      }
+        entered = entered (falling_head (plan_of n config) chain) chain ((chain_nets Edt n config).into chain zero) it.0 (into_is Edt n config chain zero cell s it.0 stands it.1) it.2;
+      })
 
   end : (chain : ℕ) → chain < config.chains → HasEnd l chains hw chain
   end chain less =
@@ -130,7 +145,6 @@ edt_has n config ready = record {
     channels = channel n config ready;
     run = (ring n config ready).run;
     stages = (ring n config ready).stages;
-    heads = λ chain cell stands. cell_rises Edt n config cell.0 (planned Edt n config chain zero cell ready stands);
     phases = phase n config ready;
   };
   compactor = record {

@@ -1,19 +1,21 @@
 -- The hardware under all ports that suit, and a rank of its nets.
-use Rattle.std.proofs.Common.{ℕ}
+use Rattle.std.proofs.Common.{ℕ, ◌∙◌}
 use Rattle.dft_netlist.specs.Logic.{Ports, IsRanked}
 use Rattle.dft_netlist.specs.Netlist.{Netlist}
 use Rattle.dft_config.specs.Config.{Config}
 use Rattle.dft_runs.proofs.WiderPortsLemmas.{ports_widen}
 use Rattle.dft_stitch.specs.Chains.{plan_of}
-use Rattle.dft_edt.proofs.Staying.{hardware_stays}
+use Rattle.dft_stitch.specs.Plans.{falling_head}
+use Rattle.dft_edt.specs.Hardware.{HeadsAre, HeadsRise}
+use Rattle.dft_edt.proofs.Staying.{hardware_stays, heads_stay}
 use Rattle.dft_scan_frame.specs.Statements.{IsReady}
 use Rattle.dft_scan_hardware.specs.declared.style.Style.TheVariants.{Edt}
 use Rattle.dft_scan_hardware.specs.Statements.{scanned}
 use Rattle.dft_scan_equivalence.proofs.Finished.{scanned_orderable}
 use Rattle.dft_scan_equivalence.specs.Agreeing.{ports_in}
-use Rattle.dft_scan_behavior.specs.EdtVectors.{edt_logic, HasEdtUnder}
+use Rattle.dft_scan_behavior.specs.EdtVectors.{SuitsEdt, edt_logic, HasEdtUnder}
 use Rattle.dft_scan_behavior.specs.Facts.{chain_nets, edt_hardware}
-use Rattle.dft_scan_behavior.proofs.EdtHave.{edt_has}
+use Rattle.dft_scan_behavior.proofs.EdtHave.{head_edge, edt_has}
 use Rattle.dft_scan_behavior.proofs.Heights.{ranked}
 
 pub edt_under : HasEdtUnder
@@ -22,6 +24,16 @@ edt_under n config ports ready suits =
     (ports_widen (scanned Edt n config) (ports_in Edt n config) ports suits).logic in
     let has = edt_has n config ready in
     record { ring = stay.0 has.ring; compactor = stay.1 has.compactor }
+
+-- which chains begin with a falling cell
+pub edt_heads : (n : Netlist) (config : Config) (ports : Ports) → IsReady n config → SuitsEdt n config ports → HeadsAre (edt_logic n config ports) (plan_of n config).chains (falling_head (plan_of n config))
+edt_heads n config ports ready suits =
+    heads_stay (edt_logic n config (ports_in Edt n config)) (edt_logic n config ports) (ports_in Edt n config) config (plan_of n config).chains (chain_nets Edt n config) (edt_hardware n config) (falling_head (plan_of n config))
+    (ports_widen (scanned Edt n config) (ports_in Edt n config) ports suits).logic (edt_has n config ready).ring (λ chain cell stands. (head_edge n config ready chain cell stands).0)
+
+-- none does, as long as the scan rules pass no falling flip-flop
+pub edt_rises : (n : Netlist) (config : Config) (ports : Ports) → IsReady n config → SuitsEdt n config ports → HeadsRise (edt_logic n config ports) (plan_of n config).chains
+edt_rises n config ports ready suits chain cell stands = edt_heads n config ports ready suits chain cell stands ∙ (head_edge n config ready chain cell stands).1
 
 pub edt_rank : (n : Netlist) (config : Config) (ports : Ports) → IsReady n config → (rank : ℕ → ℕ) × IsRanked (edt_logic n config ports) rank
 edt_rank n config ports ready = ranked (scanned Edt n config) ports (λ net. scanned_orderable Edt n config ready net)

@@ -8,6 +8,7 @@ use Rattle.dft_netlist.specs.declared.instance.CellRef.TheVariants.{Library}
 use Rattle.dft_netlist.specs.Drivers.{Shape, kind_at, shape_of}
 use Rattle.dft_netlist.specs.Netlist.{Netlist}
 use Rattle.dft_stitch.specs.Chains.{plan_of}
+use Rattle.dft_stitch.specs.Plans.{falling_head}
 use Rattle.dft_parts.specs.Cells.{is_dff, first_cell}
 use Rattle.dft_parts.specs.Growth.{instances_in}
 use Rattle.dft_parts.specs.Parts.{Part}
@@ -23,7 +24,7 @@ use Rattle.dft_scan_behavior.specs.Facts.{rows_in, ports_of, ring_start, ring_pa
 use Rattle.dft_scan_behavior.specs.FlopOrder.{FlopsInOrder}
 use Rattle.dft_scan_behavior.proofs.Cuts.{compactor_list, rest_of, made_cut, all_there}
 use Rattle.dft_scan_behavior.proofs.FlopsListed.{flops_in, flops-append, flops_there, quiet_each}
-use Rattle.dft_scan_behavior.proofs.FlopsPlaced.{ring_listed, compactor_listed, pairs_from, pairs_are, rows_quiet, late_quiet}
+use Rattle.dft_scan_behavior.proofs.FlopsPlaced.{ring_listed, compactor_listed, pairs_from, pairs_are, rows_quiet, fed_quiet}
 
 first_is : (library : List Cell) → IsWellFormed library → is_flip_flop (shape_of library (Library (first_cell is_dff library))).kind ≡ true
 first_is library well = elim (dff_shape library well) [
@@ -47,7 +48,7 @@ flops_in_order n config ready =
     let some : 1 ≤ config.compactor.mask_inputs = ready.range.compactor.mask_inputs.0 in
     let chained : flops_in library (ring_number n config + instances_in ring) chains ≡ [] =
     quiet_each library (an_edt_chain n config (plan_of n config) gap ports (ring_parts n config).value.phases (rows_in Edt n config).value) (range_with_len 0 (length (plan_of n config).chains))
-    (λ chain. late_quiet library ready.library n config gap (plan_of n config).lockups chain (cells_at (plan_of n config).chains chain) (row_at (rows_in Edt n config).value chain) ports.edt_clock (net_at (ring_parts n config).value.phases chain))
+    (λ chain. fed_quiet library ready.library n (falling_head (plan_of n config) chain) config gap (plan_of n config).lockups chain (cells_at (plan_of n config).chains chain) (row_at (rows_in Edt n config).value chain) ports.edt_clock (net_at (ring_parts n config).value.phases chain))
     (chains_start n config) (ring_number n config + instances_in ring) refl in
     let stages : List ℕ = map (edt_hardware n config).stage (range_with_len 0 config.ring.stages) in
     let pairs : List ℕ = pairs_from library dff (compactor_number n config) config.chains in

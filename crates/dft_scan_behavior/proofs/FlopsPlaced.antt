@@ -34,7 +34,7 @@ use Rattle.dft_compact.proofs.MaskFacts.{segment_count, cut_count}
 use Rattle.dft_edt.proofs.Steps.{all_segments}
 use Rattle.dft_scan_frame.specs.Moves.{Gap}
 use Rattle.dft_scan_frame.specs.Pins.{domain_in, own_output}
-use Rattle.dft_scan_hardware.specs.Chained.{a_numbered_pin, a_role_pin, a_scan_in, an_open_output, own_or_made, an_output, a_row, rows, a_crossing, crossing_in, a_step, a_chain, a_late_chain}
+use Rattle.dft_scan_hardware.specs.Chained.{a_numbered_pin, a_role_pin, a_scan_in, an_open_output, own_or_made, an_output, a_row, rows, a_lockup_clock, a_lockup_behind, a_crossing, crossing_in, a_step, a_chain, a_late_chain, a_fed_chain}
 use Rattle.dft_scan_behavior.proofs.FlopsListed.{flops_in, flops-append, Quiet, quiet_bind, quiet_pure, quiet_each, quiet_collect, quiet_net, quiet_gate, quiet_driving, quiet_lockup, quiet_sum}
 
 -- ---- one flip-flop
@@ -247,12 +247,22 @@ module _ (library : List Cell) (well : IsWellFormed library) (n : Netlist) where
   pub rows_quiet : (gap : Gap) (chains : List (List InstanceId)) → Quiet library (rows n gap chains)
   rows_quiet gap chains = quiet_collect library (a_row n gap) chains (λ cells. quiet_collect library (an_output n gap) cells (λ cell. own_quiet gap cell (own_output n cell)))
 
+  clock_quiet : (port : NetId) (high : Bool) → Quiet library (a_lockup_clock port high)
+  clock_quiet port false = quiet_pure library port
+  clock_quiet port true = quiet_driving library Inv (port ∷ []) refl
+
+  lockup_quiet : (cells : List InstanceId) (outputs : List NetId) (after : ℕ) (clock : NetId) → Quiet library (a_lockup_behind n cells outputs after clock)
+  unfolding a_lockup_behind
+  lockup_quiet cells outputs after clock at i same =
+      quiet_bind library a_net (λ net. a_lockup clock (net_at outputs after) net >> a_scan_in n (slice_get cells (after + 1)) net) (quiet_net library)
+      (λ net. quiet_bind library (a_lockup clock (net_at outputs after) net) (λ _. a_scan_in n (slice_get cells (after + 1)) net) (quiet_lockup library clock (net_at outputs after) net well)
+      (λ _. scan_in_quiet (slice_get cells (after + 1)) net)) at i same
+
   crossing_quiet : (config : Config) (gap : Gap) (cells : List InstanceId) (outputs : List NetId) (l : LockupPlace) → Quiet library (a_crossing n config gap cells outputs l)
   unfolding a_crossing
   crossing_quiet config gap cells outputs l at i same =
-      quiet_bind library a_net (λ net. a_lockup (record { 0 = domain_in n gap config l.domain }) (net_at outputs l.after) net >> a_scan_in n (slice_get cells (l.after + 1)) net) (quiet_net library)
-      (λ net. quiet_bind library (a_lockup (record { 0 = domain_in n gap config l.domain }) (net_at outputs l.after) net) (λ _. a_scan_in n (slice_get cells (l.after + 1)) net)
-      (quiet_lockup library (record { 0 = domain_in n gap config l.domain }) (net_at outputs l.after) net well) (λ _. scan_in_quiet (slice_get cells (l.after + 1)) net)) at i same
+      quiet_bind library (a_lockup_clock (record { 0 = domain_in n gap config l.domain }) l.high) (λ clock. a_lockup_behind n cells outputs l.after clock)
+      (clock_quiet (record { 0 = domain_in n gap config l.domain }) l.high) (λ clock. lockup_quiet cells outputs l.after clock) at i same
 
   if_quiet : (b : Bool) (r : Recipe (Unit {0})) → Quiet library r → Quiet library (if b then r else pure tt)
   if_quiet true r h = h
@@ -266,8 +276,12 @@ module _ (library : List Cell) (well : IsWellFormed library) (n : Netlist) where
       (quiet_each library (crossing_in n config gap chain cells outputs) lockups (λ l. if_quiet (l.chain == chain) (a_crossing n config gap cells outputs l) (crossing_quiet config gap cells outputs l)))
       (λ _. quiet_each library (a_step n cells outputs) (range_with_len 0 (length cells)) (λ place. scan_in_quiet (slice_get cells (place + 1)) (net_at outputs place)))) at i same
 
-  pub late_quiet : (config : Config) (gap : Gap) (lockups : List LockupPlace) (chain : ℕ) (cells : List InstanceId) (outputs : List NetId) (clock phase : NetId) → Quiet library (a_late_chain n config gap lockups chain cells outputs clock phase)
+  late_quiet : (config : Config) (gap : Gap) (lockups : List LockupPlace) (chain : ℕ) (cells : List InstanceId) (outputs : List NetId) (clock phase : NetId) → Quiet library (a_late_chain n config gap lockups chain cells outputs clock phase)
   unfolding a_late_chain
   late_quiet config gap lockups chain cells outputs clock phase at i same =
       quiet_bind library a_net (λ entry. a_lockup clock phase entry >> a_chain n config gap lockups chain cells outputs entry) (quiet_net library)
       (λ entry. quiet_bind library (a_lockup clock phase entry) (λ _. a_chain n config gap lockups chain cells outputs entry) (quiet_lockup library clock phase entry well) (λ _. chain_quiet config gap lockups chain cells outputs entry)) at i same
+
+  pub fed_quiet : (falling : Bool) (config : Config) (gap : Gap) (lockups : List LockupPlace) (chain : ℕ) (cells : List InstanceId) (outputs : List NetId) (clock phase : NetId) → Quiet library (a_fed_chain falling n config gap lockups chain cells outputs clock phase)
+  fed_quiet true config gap lockups chain cells outputs clock phase = chain_quiet config gap lockups chain cells outputs phase
+  fed_quiet false config gap lockups chain cells outputs clock phase = late_quiet config gap lockups chain cells outputs clock phase

@@ -59,7 +59,7 @@ at_chain chains chain place cells cell there here = ap (option_and_then (λ (cs 
 pub one_place : (n : Netlist) (config : Config) (chain place other after : ℕ) (cell c : InstanceId) → IsReady n config → cell_at (plan_of n config).chains chain place ≡ Some cell → cell_at (plan_of n config).chains other after ≡ Some c → c.0 ≡ cell.0 → (other ≡ chain) × (after ≡ place)
 one_place n config chain place other after cell c ready stands is same =
     let it = cells_scanned n config chain place cell ready.range stands in
-    let once = cells_once n config cell.0 it.domain ready.range it.is in
+    let once = cells_once n config cell.0 it.domain it.falling ready.range it.is in
     let here = once.only chain place stands in
     let there = once.only other after (is ∙ ap (λ k. Some (record { 0 = k })) same) in
     (there.0 ∙ sym here.0, there.1 ∙ sym here.1)

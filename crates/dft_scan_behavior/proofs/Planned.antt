@@ -64,7 +64,8 @@ pub record IsPlanned (style : Style) (n : Netlist) (config : Config) (i : ℕ) :
   pub instance : Instance
   pub at : slice_get n.instances i ≡ Some instance
   pub domain : ℕ
-  pub judgement : judged n config i ≡ Some (Scanned domain)
+  pub falling : Bool
+  pub judgement : judged n config i ≡ Some (Scanned domain falling)
   pub clock : IsClocked n config i domain
   pub id : CellId
   pub roles : (shape_of n.library (Library id)).roles ≡ scan_roles n (record { 0 = i })
@@ -75,7 +76,9 @@ pub record IsPlanned (style : Style) (n : Netlist) (config : Config) (i : ℕ) :
   pub is : flip_flop (scanned style n config) (ports_in style n config) i ≡ Some flop
   pub scan : flop.scan ≡ scan_of (pin_of ScanEnable i (pins_of (scanned style n config) i)) (pin_of ScanIn i (pins_of (scanned style n config) i))
   pub on : flop.domain ≡ clock.net
-  pub rises : flop.falling ≡ false
+  pub edge : flop.falling ≡ falling
+  -- until scan rules pass falling flip-flops
+  pub rises : falling ≡ false
   pub acts : ActsByPort (ports_in style n config) flop.force
 
 -- ---- how it comes about
@@ -126,15 +129,15 @@ stands_in style n config i x ready at on =
     }
 
 -- the flip-flop as it is modelled
-record IsModelled (style : Style) (n : Netlist) (config : Config) (i : ℕ) (net : ℕ) : Type 0 where
+record IsModelled (style : Style) (n : Netlist) (config : Config) (i : ℕ) (net : ℕ) (falling : Bool) : Type 0 where
   pub flop : Cell
   pub is : flip_flop (scanned style n config) (ports_in style n config) i ≡ Some flop
   pub scan : flop.scan ≡ scan_of (pin_of ScanEnable i (pins_of (scanned style n config) i)) (pin_of ScanIn i (pins_of (scanned style n config) i))
   pub on : flop.domain ≡ net
-  pub rises : flop.falling ≡ false
+  pub edge : flop.falling ≡ falling
   pub acts : ActsByPort (ports_in style n config) flop.force
 
-modelled_in : (style : Style) (n : Netlist) (config : Config) (i : ℕ) (x : Instance) (it : IsScannedFlop n config i) (clock : IsClocked n config i it.domain) → IsReady n config → slice_get n.instances i ≡ Some x → IsModelled style n config i clock.net
+modelled_in : (style : Style) (n : Netlist) (config : Config) (i : ℕ) (x : Instance) (it : IsScannedFlop n config i) (clock : IsClocked n config i it.domain) → IsReady n config → slice_get n.instances i ≡ Some x → IsModelled style n config i clock.net it.falling
 modelled_in style n config i x it clock ready at =
     let p : Ports = config_ports n config in
     let q : Ports = ports_in style n config in
@@ -152,7 +155,7 @@ modelled_in style n config i x it clock ready at =
       is = new.1;
       scan = modelled_scan _ _ _ _ new.0 (if_some (is_flip_flop (kind_at w i)) (modelled_of w q i (pins_of w i)) new.0 new.1);
       on = new.2.domain ∙ root_stays style n config clock.source clock.net ready clock.root;
-      rises = new.2.falling;
+      edge = new.2.falling ∙ sym it.passed.rises;
       acts = acts_alike p q new.0.force (ports_alike style n config).resets (subst (ActsByPort p) (sym new.2.force) force.acts);
     }
 
@@ -165,7 +168,7 @@ planned style n config chain place cell ready stands =
     let x : Instance = found.0 in
     let clock : IsClocked n config i it.domain = clocked n config i it.domain it.passed.is_domain in
     let in_place : StandsIn style n config i x = stands_in style n config i x ready found.1 (ap is_scanned it.judgement) in
-    let its : IsModelled style n config i clock.net = modelled_in style n config i x it clock ready found.1 in
+    let its : IsModelled style n config i clock.net it.falling = modelled_in style n config i x it clock ready found.1 in
     let id : CellId = in_place.id in
     let s : Shape = shape_of n.library x.cell in
     let t : Shape = shape_of n.library (Library id) in
@@ -176,6 +179,7 @@ planned style n config chain place cell ready stands =
       instance = x;
       at = found.1;
       domain = it.domain;
+      falling = it.falling;
       judgement = it.judgement;
       clock = clock;
       id = id;
@@ -191,7 +195,8 @@ planned style n config chain place cell ready stands =
       is = its.is;
       scan = its.scan;
       on = its.on;
-      rises = its.rises;
+      edge = its.edge;
+      rises = it.passed.rises;
       acts = its.acts;
     }
 
@@ -217,9 +222,9 @@ enable_source style n config i s =
 pub flop_is : (style : Style) (n : Netlist) (config : Config) (i : ℕ) (s : IsPlanned style n config i) → (logic_of (scanned style n config) (ports_in style n config)).cell i ≡ s.flop
 flop_is style n config i s = flop_cell (scanned style n config) (ports_in style n config) i s.flop s.is
 
--- it takes its bit at the rise of its clock
-pub cell_rises : (style : Style) (n : Netlist) (config : Config) (i : ℕ) (s : IsPlanned style n config i) → ((logic_of (scanned style n config) (ports_in style n config)).cell i).falling ≡ false
-cell_rises style n config i s = ap (λ (c : Cell). c.falling) (flop_is style n config i s) ∙ s.rises
+-- it takes its bit at the edge that it is scanned at
+pub cell_edge : (style : Style) (n : Netlist) (config : Config) (i : ℕ) (s : IsPlanned style n config i) → ((logic_of (scanned style n config) (ports_in style n config)).cell i).falling ≡ s.falling
+cell_edge style n config i s = ap (λ (c : Cell). c.falling) (flop_is style n config i s) ∙ s.edge
 
 pub clock_in : (style : Style) (n : Netlist) (config : Config) (i domain : ℕ) → IsReady n config → (c : IsClocked n config i domain) → (ports_in style n config).is_clock c.net ≡ true
 clock_in style n config i domain ready c = (ports_alike style n config).clocks c.net (root_among n config c.source c.net ready c.root) ∙ clock_is n config i domain c

@@ -14,12 +14,16 @@ use Rattle.dft_netlist.specs.Netlist.{Netlist}
 use Rattle.dft_config.specs.Config.{Config}
 use Rattle.dft_rules.specs.Rules.{judgements}
 use Rattle.dft_stitch.specs.Chains.{plan_of}
-use Rattle.dft_stitch.specs.Plans.{cell_at}
+use Rattle.dft_stitch.specs.Plans.{cell_at, falling_head}
 use Rattle.dft_stitch.proofs.CellPlaces.{chain_within}
+use Rattle.dft_stitch.proofs.LockupLemmas.{Neighbours, OneClock, FallsFirst, WithLockup, neighbours}
+use Rattle.dft_stitch.proofs.OnceLemmas.{domain_within}
+use Rattle.dft_stitch.proofs.OrderLemmas.{falling_first}
 use Rattle.dft_chains.specs.Hardware.{Leads}
 use Rattle.dft_parts.specs.Parts.{Part}
 use Rattle.dft_parts.specs.Recipes.{Recipe, net_at}
 use Rattle.dft_parts.proofs.Growing.{parts_grow}
+use Rattle.dft_parts.proofs.Stores.{port_shows}
 use Rattle.dft_scan_frame.specs.Moves.{at_net, moved_signal}
 use Rattle.dft_scan_frame.specs.Pins.{number_of}
 use Rattle.dft_scan_frame.specs.Statements.{IsReady}
@@ -33,10 +37,10 @@ use Rattle.dft_scan_hardware.proofs.Free.{ring_free}
 use Rattle.dft_scan_hardware.proofs.Joins.{JoinsAt}
 use Rattle.dft_scan_equivalence.specs.Agreeing.{ports_in}
 use Rattle.dft_scan_behavior.specs.Facts.{rows_in, ports_of, ring_start, ring_parts, chains_start, chain_parts}
-use Rattle.dft_scan_behavior.proofs.ChainNets.{IfHere, AllCross, AllStep, entry_found, crossing_first, step_first, chain_apart, late_found, late_fits}
+use Rattle.dft_scan_behavior.proofs.ChainNets.{IsFed, IfHere, AllCross, AllStep, entry_found, crossing_first, step_first, chain_apart, fed_found, fed_fits}
 use Rattle.dft_scan_behavior.proofs.Cuts.{plain_start, plain_chain_parts, end_parts, compactor_list, rest_of, made_cut, all_there}
 use Rattle.dft_scan_behavior.proofs.FirstNets.{first_at, Found, joined_first, none_first, FitsIn, FoundIn, found_front, found_back, found_each}
-use Rattle.dft_scan_behavior.proofs.Lockups.{cell_domain, same_or_lockup, by_lockup, directly, lockup_means}
+use Rattle.dft_scan_behavior.proofs.Lockups.{verdict, clock_of_planned, cell_clock, by_lockup, directly, across, lockup_means}
 use Rattle.dft_scan_behavior.proofs.Outputs.{has_chain, one_place, IsShown, shown, input_free}
 use Rattle.dft_scan_behavior.proofs.Planned.{cell_pins, now_pins, IsPlanned}
 use Rattle.dft_scan_behavior.proofs.PortsDriven.{edt_clock_is}
@@ -69,7 +73,7 @@ module _ (n : Netlist) (config : Config) (i p : ℕ) (P : NetId → Type 0) wher
       chain_apart n (scanned Plain n config) config (gap_in Plain n config) i p P (plan_of n config).lockups other (cells_at (plan_of n config).chains other) (row_at (rows_in Plain n config).value other) (plain_in (gap_in Plain n config).before other)
       (λ k c is same. apart (only other k c is same))
   other_fits Edt chain other only apart =
-      late_fits n (scanned Edt n config) config (gap_in Edt n config) i p P (plan_of n config).lockups other (cells_at (plan_of n config).chains other) (row_at (rows_in Edt n config).value other) (ports_of n config).edt_clock (net_at (ring_parts n config).value.phases other)
+      fed_fits n (scanned Edt n config) config (gap_in Edt n config) i p P (plan_of n config).lockups other (cells_at (plan_of n config).chains other) (row_at (rows_in Edt n config).value other) (falling_head (plan_of n config) other) (ports_of n config).edt_clock (net_at (ring_parts n config).value.phases other)
       (λ entry. chain_apart n (scanned Edt n config) config (gap_in Edt n config) i p P (plan_of n config).lockups other (cells_at (plan_of n config).chains other) (row_at (rows_in Edt n config).value other) entry (λ k c is same. apart (only other k c is same)))
 
   either_fits : (style : Style) (chain other : ℕ) (b : Bool) → (other == chain) ≡ b → Elsewhere chain → FoundIn (scanned style n config) i p P (chain_recipe style n config chain) → FitsIn (scanned style n config) i p P (chain_recipe style n config other)
@@ -143,14 +147,18 @@ module _ (style : Style) (n : Netlist) (config : Config) (ready : IsReady n conf
   behind : (k : ℕ) (c : InstanceId) → slice_get cells k ≡ Some c → c.0 ≡ next.0 → k ≡ suc place
   behind k c is same = (one_place n config chain (suc place) chain k next c ready follows (index_cell (plan_of n config).chains chain k c is) same).1
 
-  cross : AllCross n (scanned style n config) config (gap_in style n config) next.0 t.shape.input Leading (plan_of n config).lockups chain cells row
-  cross m lockup there chain_is c is same number library net lib h =
-      by_lockup style n config ready chain place cell next.0 s out t number m library lockup net lib there chain_is (let e = behind (lockup.after + 1) c is same in omega (arith, e)) h
+  later : slice_get out.cells (suc place) ≡ Some next
+  later = sym (ap (option_and_then (λ (cs : List InstanceId). slice_get cs (suc place))) out.chained) ∙ follows
 
-  step : s.domain ≡ t.domain → AllStep n (scanned style n config) config (gap_in style n config) next.0 t.shape.input Leading (plan_of n config).lockups chain cells row
-  step equal k less c is same =
+  cross : AllCross n (scanned style n config) config (gap_in style n config) next.0 t.shape.input Leading (plan_of n config).lockups chain cells row
+  cross m lockup there chain_is c is same clock made number library net lib h =
+      by_lockup style n config ready chain place cell next.0 s out t number m library lockup clock net lib there chain_is (let e = behind (lockup.after + 1) c is same in omega (arith, e)) later made h
+
+  -- the output of the cell leads here
+  step : Leading (net_at row place) → AllStep n (scanned style n config) config (gap_in style n config) next.0 t.shape.input Leading (plan_of n config).lockups chain cells row
+  step leads k less c is same =
       let at : place ≡ k = (let e = behind (k + 1) c is same in omega (arith, e)) in
-      subst (λ j. Leading (net_at row j)) at (directly style n config ready chain place cell next.0 s out t equal)
+      subst (λ j. Leading (net_at row j)) at leads
 
   here : slice_get cells (place + 1) ≡ Some next
   here = let e : place + 1 ≡ suc place = omega arith in ap (slice_get cells) e ∙ cell_index (plan_of n config).chains chain (suc place) next follows
@@ -158,17 +166,30 @@ module _ (style : Style) (n : Netlist) (config : Config) (ready : IsReady n conf
   not_first : (entry : NetId) → IfHere n (scanned style n config) config (gap_in style n config) next.0 t.shape.input Leading (slice_get cells 0) (Leading entry)
   not_first entry c is same = absurd (let e = behind 0 c is same in omega (arith, e))
 
-  later : slice_get out.cells (suc place) ≡ Some next
-  later = sym (ap (option_and_then (λ (cs : List InstanceId). slice_get cs (suc place))) out.chained) ∙ follows
+  step_found : (entry : NetId) → Leading (net_at row place) → FoundIn (scanned style n config) next.0 t.shape.input Leading (a_chain n config (gap_in style n config) (plan_of n config).lockups chain cells row entry)
+  step_found entry leads =
+      step_first n (scanned style n config) config (gap_in style n config) next.0 t.shape.input Leading (plan_of n config).lockups chain cells row entry place next (not_first entry)
+      (slice_get_within cells place cell (cell_index (plan_of n config).chains chain place cell stands)) here (input_number style n config next t) refl cross (step leads)
+
+  -- a falling cell does not stand behind a rising one
+  falls_first : t.falling ≡ true → s.falling ≡ true
+  falls_first falls =
+      falling_first (judgements n config) config chain place cell next (clock_of_planned style n config cell.0 s) (clock_of_planned style n config next.0 t) ready.range.chains.0 stands follows
+      (verdict n config cell.0 s.domain s.falling s.instance s.at s.judgement) (verdict n config next.0 t.domain t.falling t.instance t.at t.judgement) (domain_within n config next.0 t.domain t.falling t.judgement) falls
+
+  by_neighbours : (entry : NetId) → Neighbours (plan_of n config).lockups chain place (clock_of_planned style n config cell.0 s) (clock_of_planned style n config next.0 t) →
+      FoundIn (scanned style n config) next.0 t.shape.input Leading (a_chain n config (gap_in style n config) (plan_of n config).lockups chain cells row entry)
+  by_neighbours entry (OneClock domain edge) = step_found entry (directly style n config ready chain place cell next.0 s out t domain edge)
+  by_neighbours entry (FallsFirst falls rises) = step_found entry (across style n config ready chain place cell next.0 s out t falls rises)
+  by_neighbours entry (WithLockup number listed) =
+      crossing_first n (scanned style n config) config (gap_in style n config) next.0 t.shape.input Leading (plan_of n config).lockups chain cells row entry number
+      (record { chain = chain; after = place; domain = s.domain; high = s.falling }) next (not_first entry) listed refl here (input_number style n config next t) refl cross
 
   chain_found : (entry : NetId) → FoundIn (scanned style n config) next.0 t.shape.input Leading (a_chain n config (gap_in style n config) (plan_of n config).lockups chain cells row entry)
   chain_found entry =
-      elim (same_or_lockup (judgements n config) (plan_of n config).chains out.cells chain place s.domain t.domain cell out.chained out.stands (cell_domain style n config place cell out.cells s out.stands) (cell_domain style n config (suc place) next out.cells t later)) [
-        | inl equal ↦ step_first n (scanned style n config) config (gap_in style n config) next.0 t.shape.input Leading (plan_of n config).lockups chain cells row entry place next (not_first entry)
-            (slice_get_within cells place cell (cell_index (plan_of n config).chains chain place cell stands)) here (input_number style n config next t) refl cross (step equal)
-        | inr it ↦ crossing_first n (scanned style n config) config (gap_in style n config) next.0 t.shape.input Leading (plan_of n config).lockups chain cells row entry it.0 (record { chain = chain; after = place; domain = s.domain }) next (not_first entry)
-            it.1 refl here (input_number style n config next t) refl cross
-      ]
+      by_neighbours entry
+      (neighbours (judgements n config) (plan_of n config).chains out.cells chain place cell (clock_of_planned style n config cell.0 s) (clock_of_planned style n config next.0 t) out.chained out.stands
+      (cell_clock style n config place cell out.cells s out.stands) (cell_clock style n config (suc place) next out.cells t later) falls_first)
 
 pub link_joined : (style : Style) (n : Netlist) (config : Config) (ready : IsReady n config) (chain place : ℕ) (cell next : InstanceId) (s : IsPlanned style n config cell.0) (t : IsPlanned style n config next.0) → cell_at (plan_of n config).chains chain place ≡ Some cell →
     cell_at (plan_of n config).chains chain (suc place) ≡ Some next → IsJoined style n config next t (λ net. Leads (logic_of (scanned style n config) (ports_in style n config)) cell.0 next.0 (Net net.0))
@@ -177,16 +198,29 @@ link_joined Plain n config ready chain place cell next s t stands follows =
     (chain_found Plain n config ready chain place cell next s t stands follows (plain_in (gap_in Plain n config).before chain))
 link_joined Edt n config ready chain place cell next s t stands follows =
     joined_by Edt n config chain (suc place) next t (λ net. Leads (logic_of (scanned Edt n config) (ports_in Edt n config)) cell.0 next.0 (Net net.0)) ready follows
-    (late_found n (scanned Edt n config) config (gap_in Edt n config) next.0 t.shape.input (λ net. Leads (logic_of (scanned Edt n config) (ports_in Edt n config)) cell.0 next.0 (Net net.0)) (plan_of n config).lockups chain
-    (cells_at (plan_of n config).chains chain) (row_at (rows_in Edt n config).value chain) (ports_of n config).edt_clock (net_at (ring_parts n config).value.phases chain)
-    (λ number library entry lib h. chain_found Edt n config ready chain place cell next s t stands follows entry))
+    (fed_found n (scanned Edt n config) config (gap_in Edt n config) next.0 t.shape.input (λ net. Leads (logic_of (scanned Edt n config) (ports_in Edt n config)) cell.0 next.0 (Net net.0)) (plan_of n config).lockups chain
+    (cells_at (plan_of n config).chains chain) (row_at (rows_in Edt n config).value chain) (falling_head (plan_of n config) chain) (ports_of n config).edt_clock (net_at (ring_parts n config).value.phases chain)
+    (λ entry fed. chain_found Edt n config ready chain place cell next s t stands follows entry))
 
 -- ---- at the head of a chain
 
--- in style Plain the net of the chain's scan input port, in style Edt that of a lock-up on edt_clock behind the chain's phase sum
+-- Behind a phase sum: where the first cell is falling the net is the sum itself, else that of a lock-up on edt_clock that takes it.
+abbrev pub IsSumEntry : Netlist → Config → (falling : Bool) → (chain : ℕ) → NetId → Type 0
+IsSumEntry n config true chain net = net ≡ net_at (ring_parts n config).value.phases chain
+IsSumEntry n config false chain net = (lockup : ℕ) × ((logic_of (scanned Edt n config) (ports_in Edt n config)).net net.0 ≡ Lockup lockup (ports_of n config).edt_clock.0 false (Net (net_at (ring_parts n config).value.phases chain).0))
+
+-- in style Plain it is the net of the chain's scan input port, in style Edt one behind the chain's phase sum
 abbrev pub IsEntry : (style : Style) → Netlist → Config → (chain : ℕ) → NetId → Type 0
 IsEntry Plain n config chain net = net ≡ plain_in (gap_in Plain n config).before chain
-IsEntry Edt n config chain net = (lockup : ℕ) × ((logic_of (scanned Edt n config) (ports_in Edt n config)).net net.0 ≡ Lockup lockup (ports_of n config).edt_clock.0 false (Net (net_at (ring_parts n config).value.phases chain).0))
+IsEntry Edt n config chain net = IsSumEntry n config (falling_head (plan_of n config) chain) chain net
+
+sum_entry : (n : Netlist) (config : Config) (falling : Bool) (chain : ℕ) (entry : NetId) → IsReady n config → IsFed (scanned Edt n config) falling (ports_of n config).edt_clock (net_at (ring_parts n config).value.phases chain) entry → IsSumEntry n config falling chain entry
+sum_entry n config true chain entry ready fed = fed
+sum_entry n config false chain entry ready fed = (
+  fed.0,
+  lockup_means Edt n config fed.0 fed.1 (ports_of n config).edt_clock (net_at (ring_parts n config).value.phases chain) entry (ports_of n config).edt_clock.0 false ready fed.2
+      (port_shows (scanned Edt n config) (ports_in Edt n config) (ports_of n config).edt_clock.0 (edt_clock_is n config ready)) fed.3,
+)
 
 pub entry_joined : (style : Style) (n : Netlist) (config : Config) (chain : ℕ) (cell : InstanceId) (s : IsPlanned style n config cell.0) → IsReady n config → cell_at (plan_of n config).chains chain zero ≡ Some cell → IsJoined style n config cell s (IsEntry style n config chain)
 entry_joined Plain n config chain cell s ready stands =
@@ -195,8 +229,8 @@ entry_joined Plain n config chain cell s ready stands =
     (plain_in (gap_in Plain n config).before chain) (cell_index (plan_of n config).chains chain zero cell stands) (input_number Plain n config cell s) refl refl)
 entry_joined Edt n config chain cell s ready stands =
     joined_by Edt n config chain zero cell s (IsEntry Edt n config chain) ready stands
-    (late_found n (scanned Edt n config) config (gap_in Edt n config) cell.0 s.shape.input (IsEntry Edt n config chain) (plan_of n config).lockups chain (cells_at (plan_of n config).chains chain) (row_at (rows_in Edt n config).value chain)
-    (ports_of n config).edt_clock (net_at (ring_parts n config).value.phases chain)
-    (λ number library entry lib h. entry_found n (scanned Edt n config) config (gap_in Edt n config) cell.0 s.shape.input (IsEntry Edt n config chain) (plan_of n config).lockups chain (cells_at (plan_of n config).chains chain) (row_at (rows_in Edt n config).value chain) cell
+    (fed_found n (scanned Edt n config) config (gap_in Edt n config) cell.0 s.shape.input (IsEntry Edt n config chain) (plan_of n config).lockups chain (cells_at (plan_of n config).chains chain) (row_at (rows_in Edt n config).value chain)
+    (falling_head (plan_of n config) chain) (ports_of n config).edt_clock (net_at (ring_parts n config).value.phases chain)
+    (λ entry fed. entry_found n (scanned Edt n config) config (gap_in Edt n config) cell.0 s.shape.input (IsEntry Edt n config chain) (plan_of n config).lockups chain (cells_at (plan_of n config).chains chain) (row_at (rows_in Edt n config).value chain) cell
     entry (cell_index (plan_of n config).chains chain zero cell stands) (input_number Edt n config cell s) refl
-    (number, lockup_means Edt n config number library (ports_of n config).edt_clock (net_at (ring_parts n config).value.phases chain) entry ready lib (edt_clock_is n config ready) h)))
+    (sum_entry n config (falling_head (plan_of n config) chain) chain entry ready fed)))

@@ -14,7 +14,7 @@ use Rattle.dft_config.specs.Config.{Config}
 use Rattle.dft_config.specs.Ring.{step, phase_sum, sum_of}
 use Rattle.dft_runs.specs.WiderPorts.{Suits}
 use Rattle.dft_stitch.specs.Chains.{plan_of}
-use Rattle.dft_stitch.specs.Plans.{cell_at}
+use Rattle.dft_stitch.specs.Plans.{cell_at, falling_head}
 use Rattle.dft_chains.specs.Shifts.{at_strobe}
 use Rattle.dft_parts.specs.SumTrees.{tri_sum}
 use Rattle.dft_edt.specs.Hardware.{IsEdt, group_of}
@@ -49,16 +49,17 @@ IsShift n config x = IsEdtShift (ports_in Edt n config) (chain_nets Edt n config
 
 -- ---- in every run
 
--- What a shift vector leaves in the cells, whatever its channels carry: the first cell of a chain has the chain's phase sum of the stages
--- before, each other cell what the one before it had.
+-- What a shift vector leaves in the cells, whatever its channels carry: the first cell of a chain, where it is rising, has the chain's phase
+-- sum of the stages before, each other cell what the one before it had.
 pub record AreShifted (n : Netlist) (config : Config) (old new : ℕ → Bool) : Type 0 where
-  pub firsts : (chain : ℕ) (cell : InstanceId) → cell_at (plan_of n config).chains chain zero ≡ Some cell → new cell.0 ≡ phase_sum config.ring chain (λ k. old ((edt_hardware n config).stage k))
+  pub firsts : (chain : ℕ) (cell : InstanceId) → cell_at (plan_of n config).chains chain zero ≡ Some cell → falling_head (plan_of n config) chain ≡ false → new cell.0 ≡ phase_sum config.ring chain (λ k. old ((edt_hardware n config).stage k))
   pub others : (chain place : ℕ) (cell next : InstanceId) → cell_at (plan_of n config).chains chain place ≡ Some cell → cell_at (plan_of n config).chains chain (suc place) ≡ Some next → new next.0 ≡ old cell.0
 
--- and in the ring, where its channels carry a row of bits: each stage has the step of the ring from the stages before
-abbrev pub AreStepped : Netlist → Config → (row old new : ℕ → Bool) → Type 0
-AreStepped n config row old new =
-    (i : ℕ) → i < config.ring.stages → new ((edt_hardware n config).stage i) ≡ step config.ring row (λ k. old ((edt_hardware n config).stage k)) i
+-- And where its channels carry a row of bits: each stage of the ring has its step from the stages before, and the first cell of a chain,
+-- where it is falling, the chain's phase sum of the stages after.
+pub record AreStepped (n : Netlist) (config : Config) (row old new : ℕ → Bool) : Type 0 where
+  pub stages : (i : ℕ) → i < config.ring.stages → new ((edt_hardware n config).stage i) ≡ step config.ring row (λ k. old ((edt_hardware n config).stage k)) i
+  pub firsts : (chain : ℕ) (cell : InstanceId) → cell_at (plan_of n config).chains chain zero ≡ Some cell → falling_head (plan_of n config) chain ≡ true → new cell.0 ≡ phase_sum config.ring chain (λ k. new ((edt_hardware n config).stage k))
 
 -- each mask bit has what the one before it in its segment had
 abbrev pub AreMoved : Netlist → Config → (old new : ℕ → Bool) → Type 0
@@ -112,7 +113,7 @@ VectorsActInRuns = (n : Netlist) (config : Config) (ports : Ports) → IsReady n
 
 pub record Acts (n : Netlist) (config : Config) (ports : Ports) : Type 0 where
   pub shift : (x : Vector) (old : ℕ → Tri) (h : Halves) → IsShift n config x → AreHalves (edt_logic n config ports) x old h →
-      Shifts config (plan_of n config).chains (edt_hardware n config) (λ j. x.ports ((edt_hardware n config).channel j)) old (after_halves (edt_logic n config ports) x old h)
+      Shifts config (plan_of n config).chains (edt_hardware n config) (falling_head (plan_of n config)) (λ j. x.ports ((edt_hardware n config).channel j)) old (after_halves (edt_logic n config ports) x old h)
   pub clear : (x : Vector) (old : ℕ → Tri) (h : Halves) → IsClearing (edt_hardware n config) x → AreHalves (edt_logic n config ports) x old h →
       Clears config (edt_hardware n config) (after_halves (edt_logic n config ports) x old h)
   pub masks : (x : Vector) (old : ℕ → Tri) (h : Halves) → x.pulsed (edt_hardware n config).clock ≡ true → AreHalves (edt_logic n config ports) x old h →

@@ -3,6 +3,7 @@ use Rattle.std.proofs.Common.{ℕ, zero, suc, ◌+◌, ◌≡◌, ◌≤◌, ◌
 use Rattle.std.specs.Prelude.{if◌then◌else◌}
 use Rattle.std.specs.List.{AllByRecursion, range_with_len}
 use Rattle.dft_ring.proofs.PartLists.{nets_in-append}
+use Rattle.dft_cells.specs.declared.kind.Kind.TheVariants.{Inv}
 use Rattle.dft_cells.specs.declared.kind.Role.{Role}
 use Rattle.dft_cells.specs.declared.kind.Role.TheVariants.{Input, Clock, Din, Reset, Preset, ScanIn, ScanEnable, Output, Inverted}
 use Rattle.dft_netlist.specs.declared.ids.NetId.{NetId}
@@ -16,10 +17,10 @@ use Rattle.dft_parts.specs.Parts.{Part}
 use Rattle.dft_parts.specs.Recipes.{Start, Recipe, pure, nets_in, behind, each, net_at, a_net, a_lockup}
 use Rattle.dft_scan_frame.specs.Moves.{Gap, moved}
 use Rattle.dft_scan_frame.specs.Pins.{domain_in, number_of, own_output}
-use Rattle.dft_scan_hardware.specs.Chained.{scan_roles, a_numbered_pin, a_role_pin, a_scan_in, an_open_output, own_or_made, an_output, a_row, rows, a_crossing, crossing_in, a_step, a_chain, a_late_chain}
+use Rattle.dft_scan_hardware.specs.Chained.{scan_roles, a_numbered_pin, a_role_pin, a_scan_in, an_open_output, own_or_made, an_output, a_row, rows, a_lockup_clock, a_lockup_behind, a_crossing, crossing_in, a_step, a_chain, a_late_chain, a_fed_chain}
 use Rattle.dft_scan_equivalence.proofs.Claims.{claimed, IsFlopIn}
 use Rattle.dft_scan_equivalence.proofs.Goods.{Setting, IsBelow, AreBelow, made_below, none_below, below_more, below_at, none, one, IsGood, good_nil, good_both, good_as, good_net, good_lockup, good_pin, good_input, good_after, good_end}
-use Rattle.dft_scan_equivalence.proofs.GoodSums.{Collected, collect_good}
+use Rattle.dft_scan_equivalence.proofs.GoodSums.{Gives, Collected, gate_gives, collect_good}
 use Rattle.dft_scan_equivalence.proofs.GoodRing.{any}
 
 -- ---- where chains are made
@@ -136,23 +137,39 @@ rows_give n w config gap rank base at chains s from are =
 
 -- ---- links
 
-crossing_good : (n w : Netlist) (config : Config) (gap : Gap) (rank : ℕ → ℕ) (base : ℕ) (at : Start) (cells : List InstanceId) (outputs : List NetId) (l : LockupPlace) → ChainSetting n w config gap rank base → base ≤ at.next → at.library ≡ w.library →
-    AllByRecursion (IsScanCell n w) cells → AreBelow rank at.next outputs → IsGood w rank at (a_crossing n config gap cells outputs l at).parts none none
-unfolding a_crossing
-crossing_good n w config gap rank base at cells outputs l s from same are below =
+lockup_good : (n w : Netlist) (rank : ℕ → ℕ) (base : ℕ) (at : Start) (cells : List InstanceId) (outputs : List NetId) (after : ℕ) (clock : NetId) → Setting w.library rank base → base ≤ at.next → at.library ≡ w.library →
+    AllByRecursion (IsScanCell n w) cells → AreBelow rank at.next outputs → IsBelow rank at.next clock → IsGood w rank at (a_lockup_behind n cells outputs after clock at).parts none none
+unfolding a_lockup_behind
+lockup_good n w rank base at cells outputs after clock s from same are below clocked =
     let net : NetId = record { 0 = at.next } in
-    let clock : NetId = record { 0 = domain_in n gap config l.domain } in
-    let input = net_at outputs l.after in
+    let input = net_at outputs after in
     let first = (a_net at).parts in
     let a = behind at first in
     let lockup = (a_lockup clock input net a).parts in
     let b = behind a lockup in
-    let pin = (a_scan_in n (slice_get cells (l.after + 1)) net b).parts in
+    let pin = (a_scan_in n (slice_get cells (after + 1)) net b).parts in
     good_as w rank at (first ++ (lockup ++ pin)) (λ k. one at.next k + (none k + none k)) none (λ k. none k + (one at.next k + none k)) none (λ k. omega arith)
     (good_both w rank at first (lockup ++ pin) (one at.next) none none (λ k. one at.next k + none k) (good_net w rank at)
     (good_both w rank a lockup pin none none (one at.next) none
-    (good_lockup w rank a clock input net s.setting.well same (s.domains l.domain at.next from) (below_at rank at.next outputs l.after (none_below w.library rank base at.next s.setting from) below at.next (omega arith)))
-    (scan_in_good n w rank b (slice_get cells (l.after + 1)) net (cell_of n w cells (l.after + 1) are))))
+    (good_lockup w rank a clock input net s.well same (clocked at.next (omega arith)) (below_at rank at.next outputs after (none_below w.library rank base at.next s from) below at.next (omega arith)))
+    (scan_in_good n w rank b (slice_get cells (after + 1)) net (cell_of n w cells (after + 1) are))))
+
+-- the clock of a lock-up is good, and stands below what is made behind it
+clock_gives : (w : Netlist) (rank : ℕ → ℕ) (base : ℕ) (at : Start) (port : NetId) (high : Bool) → Setting w.library rank base → base ≤ at.next → IsBelow rank at.next port →
+    Gives w rank at (a_lockup_clock port high at).parts ((a_lockup_clock port high at).value ∷ [])
+clock_gives w rank base at port false s from below = record { good = good_nil w rank at; below = below_more rank at.next (at.next + 0) (port ∷ []) (omega arith) (below, tt) }
+clock_gives w rank base at port true s from below = gate_gives w rank base at Inv (port ∷ []) s from (below, tt)
+
+crossing_good : (n w : Netlist) (config : Config) (gap : Gap) (rank : ℕ → ℕ) (base : ℕ) (at : Start) (cells : List InstanceId) (outputs : List NetId) (l : LockupPlace) → ChainSetting n w config gap rank base → base ≤ at.next → at.library ≡ w.library →
+    AllByRecursion (IsScanCell n w) cells → AreBelow rank at.next outputs → IsGood w rank at (a_crossing n config gap cells outputs l at).parts none none
+unfolding a_crossing
+crossing_good n w config gap rank base at cells outputs l s from same are below =
+    let port : NetId = record { 0 = domain_in n gap config l.domain } in
+    let clock = a_lockup_clock port l.high at in
+    let a = behind at clock.parts in
+    let given = clock_gives w rank base at port l.high s.setting from (λ k past. s.domains l.domain k (omega (arith, from, past))) in
+    good_after w rank at clock.parts (a_lockup_behind n cells outputs l.after clock.value a).parts none none given.good
+    (lockup_good n w rank base a cells outputs l.after clock.value s.setting (omega (arith, from)) same are (below_more rank at.next a.next outputs (omega arith) below) given.below.0)
 
 crossing_if : (w : Netlist) (rank : ℕ → ℕ) (at : Start) (b : Bool) (r : Recipe (Unit {0})) → IsGood w rank at (r at).parts none none → IsGood w rank at ((if b then r else pure tt) at).parts none none
 crossing_if w rank at true r h = h
@@ -190,3 +207,9 @@ late_chain_good n w config gap rank base at lockups chain cells outputs clock ph
     (good_both w rank a lockup chained none none (one at.next) none
     (good_lockup w rank a clock phase entry s.setting.well same (clocked at.next (omega arith)) (phased at.next (omega arith)))
     (chain_good n w config gap rank base b lockups chain cells outputs entry s (omega (arith, from)) same are (below_more rank at.next b.next outputs (omega arith) below))))
+
+-- a chain behind its phase sum
+pub fed_chain_good : (falling : Bool) (n w : Netlist) (config : Config) (gap : Gap) (rank : ℕ → ℕ) (base : ℕ) (at : Start) (lockups : List LockupPlace) (chain : ℕ) (cells : List InstanceId) (outputs : List NetId) (clock phase : NetId) → ChainSetting n w config gap rank base →
+    base ≤ at.next → at.library ≡ w.library → AllByRecursion (IsScanCell n w) cells → AreBelow rank at.next outputs → IsBelow rank at.next clock → IsBelow rank at.next phase → IsGood w rank at (a_fed_chain falling n config gap lockups chain cells outputs clock phase at).parts none none
+fed_chain_good true n w config gap rank base at lockups chain cells outputs clock phase s from same are below clocked phased = chain_good n w config gap rank base at lockups chain cells outputs phase s from same are below
+fed_chain_good false n w config gap rank base at lockups chain cells outputs clock phase s from same are below clocked phased = late_chain_good n w config gap rank base at lockups chain cells outputs clock phase s from same are below clocked phased

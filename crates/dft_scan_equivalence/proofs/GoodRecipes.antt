@@ -6,7 +6,7 @@ use Rattle.dft_netlist.specs.declared.ids.NetId.{NetId}
 use Rattle.dft_netlist.specs.declared.ids.InstanceId.{InstanceId}
 use Rattle.dft_netlist.specs.Netlist.{Netlist}
 use Rattle.dft_config.specs.Config.{Config}
-use Rattle.dft_stitch.specs.Plans.{Plan}
+use Rattle.dft_stitch.specs.Plans.{Plan, falling_head}
 use Rattle.dft_parts.specs.declared.edt_ports.EdtPorts.{EdtPorts}
 use Rattle.dft_parts.specs.Recipes.{Start, nets_in, behind, each, net_at}
 use Rattle.dft_ring.specs.RingRecipe.{a_ring}
@@ -20,7 +20,7 @@ use Rattle.dft_scan_equivalence.proofs.Goods.{IsBelow, AreBelow, none_below, bel
 use Rattle.dft_scan_equivalence.proofs.GoodSums.{all_of, each_good, all_more}
 use Rattle.dft_scan_equivalence.proofs.GoodRing.{any, ring_gives}
 use Rattle.dft_scan_equivalence.proofs.GoodCompactor.{numbers_below, outputs_of, compactor_good}
-use Rattle.dft_scan_equivalence.proofs.GoodChains.{IsScanCell, ChainSetting, each_none, rows_give, chain_good, late_chain_good}
+use Rattle.dft_scan_equivalence.proofs.GoodChains.{IsScanCell, ChainSetting, each_none, rows_give, chain_good, fed_chain_good}
 
 -- ---- chains and rows by their numbers
 
@@ -108,7 +108,7 @@ behind_good n w config plan gap ports outputs rank base limit at s from same are
     good_after w rank at ring.parts (chains ++ compactor) none (outputs_of config ports) first.good
     (good_after w rank a chains compactor none (outputs_of config ports)
     (each_none (an_edt_chain n config plan gap ports ring.value.phases outputs) w rank (λ (_ : ℕ). Unit {0}) a (range_with_len 0 count) (any (range_with_len 0 count))
-    (λ chain d _ lib past. late_chain_good n w config gap rank base d plan.lockups chain (cells_at plan.chains chain) (row_at outputs chain) ports.edt_clock (net_at ring.value.phases chain) s (omega (arith, from, past)) (lib ∙ same) (chain_cells n w plan.chains chain are)
+    (λ chain d _ lib past. fed_chain_good (falling_head plan chain) n w config gap rank base d plan.lockups chain (cells_at plan.chains chain) (row_at outputs chain) ports.edt_clock (net_at ring.value.phases chain) s (omega (arith, from, past)) (lib ∙ same) (chain_cells n w plan.chains chain are)
     (row_below rank d.next outputs chain (rows_more rank at.next d.next outputs (omega (arith, past)) below)) (ports_more rank at.next d.next ports (omega (arith, past)) entries).clock
     (below_at rank d.next ring.value.phases chain (none_below w.library rank base d.next s.setting (omega (arith, from, past))) (below_more rank a.next d.next ring.value.phases past first.phases))))
     (compactor_good w rank base limit b config ports ring.value.run (map last_net outputs) s.setting (omega (arith, from)) same (ports_more rank at.next b.next ports late entries).update running.0

@@ -57,7 +57,7 @@ use Rattle.dft_scan_equivalence.proofs.ScanPins.{not_fixed, output_off, input_of
 
 -- ---- roots
 
-longer : (style : Style) (n : Netlist) (config : Config) → length n.nets ≤ length (scanned style n config).nets
+pub longer : (style : Style) (n : Netlist) (config : Config) → length n.nets ≤ length (scanned style n config).nets
 longer style n config =
     let made : List Part = made_in style n config in
     let grown = parts_grow (framed style n config) made in

@@ -1,5 +1,5 @@
 -- What a library keeps makes a flip-flop and its scan cell a pair; and a scanned flip-flop has a scan cell.
-use Rattle.std.proofs.Common.{ℕ, ◌≡◌, Bool, true, false, List, ◌∷◌, map, Option, None, Some, refl, sym, subst, ap, arith, inl, inr, []}
+use Rattle.std.proofs.Common.{ℕ, ◌≡◌, Bool, true, false, List, ◌∷◌, map, Option, None, Some, refl, sym, subst, ap, inl, inr, []}
 use Rattle.std.specs.Prelude.{if◌then◌else◌}
 use Rattle.std.proofs.lemmas.Option.{none-some, same_Some}
 use Rattle.dft_cells.specs.declared.kind.Kind.{Kind}
@@ -65,19 +65,21 @@ pair_of Sdffs scan old new fits roles is = absurd (none-some scan fits)
 pair_of Lockup scan old new fits roles is = absurd (none-some scan fits)
 pair_of Opaque scan old new fits roles is = absurd (none-some scan fits)
 
--- a flip-flop that is scanned in a domain has it for its clock's, its set and reset are held, and it names a scan cell
-pub record PassesRules (domain : Option ℕ) (held scans : Bool) (its : ℕ) : Type 0 where
+-- a flip-flop that is scanned in a domain has it for its clock's and takes its bits at its rises, its set and reset are held, and it names a
+-- scan cell
+pub record PassesRules (domain : Option ℕ) (held scans : Bool) (its : ℕ) (falling : Bool) : Type 0 where
   pub is_domain : domain ≡ Some its
+  pub rises : falling ≡ false
   pub is_held : held ≡ true
   pub is_scan : scans ≡ true
 
--- the number in a judgement
-scanned_in : (a b : ℕ) → Some (Scanned a) ≡ Some (Scanned b) → a ≡ b
-scanned_in = grind arith
+-- the number and the edge in a judgement
+scanned_in : (a b : ℕ) (f g : Bool) → Some (Scanned a f) ≡ Some (Scanned b g) → (a ≡ b) × (g ≡ f)
+scanned_in a b f g is = ((let e : a ≡ b = cc in e), (let e : g ≡ f = cc in e))
 
-pub passes : (domain : Option ℕ) (held scans kept : Bool) (its : ℕ) → judged_by domain held scans kept ≡ Some (Scanned its) → PassesRules domain held scans its
-passes None held scans kept its is = absurd cc
-passes (Some d) false scans kept its is = absurd cc
-passes (Some d) true false kept its is = absurd cc
-passes (Some d) true true true its is = absurd cc
-passes (Some d) true true false its is = record { is_domain = ap Some (scanned_in d its is); is_held = refl; is_scan = refl }
+pub passes : (domain : Option ℕ) (held scans kept : Bool) (its : ℕ) (falling : Bool) → judged_by domain held scans kept ≡ Some (Scanned its falling) → PassesRules domain held scans its falling
+passes None held scans kept its falling is = absurd cc
+passes (Some d) false scans kept its falling is = absurd cc
+passes (Some d) true false kept its falling is = absurd cc
+passes (Some d) true true true its falling is = absurd cc
+passes (Some d) true true false its falling is = (let e = scanned_in d its false falling is in record { is_domain = ap Some e.0; rises = e.1; is_held = refl; is_scan = refl })

@@ -3,7 +3,7 @@ use Rattle.std.proofs.Common.{ℕ, zero, suc, ◌+◌, ◌≡◌, ◌==◌, ◌�
 use Rattle.std.specs.Prelude.{slice_index_or, if◌then◌else◌}
 use Rattle.std.specs.List.{range_with_len}
 use Rattle.std.proofs.lemmas.Option.{none-some}
-use Rattle.dft_cells.specs.declared.kind.Kind.TheVariants.{Buf}
+use Rattle.dft_cells.specs.declared.kind.Kind.TheVariants.{Buf, Inv}
 use Rattle.dft_cells.specs.declared.kind.Role.TheVariants.{Output, ScanIn}
 use Rattle.dft_netlist.specs.declared.ids.NetId.{NetId}
 use Rattle.dft_netlist.specs.declared.ids.InstanceId.{InstanceId}
@@ -15,7 +15,7 @@ use Rattle.dft_rules.specs.Refusals.{is_scanned}
 use Rattle.dft_rules.specs.Rules.{judged}
 use Rattle.dft_stitch.specs.declared.places.LockupPlace.{LockupPlace}
 use Rattle.dft_stitch.specs.Chains.{plan_of}
-use Rattle.dft_stitch.specs.Plans.{Plan, cell_at}
+use Rattle.dft_stitch.specs.Plans.{Plan, cell_at, falling_head}
 use Rattle.dft_stitch.proofs.OnceLemmas.{cells_scanned}
 use Rattle.dft_parts.specs.declared.edt_ports.EdtPorts.{EdtPorts}
 use Rattle.dft_parts.specs.Parts.{Part, APin}
@@ -26,10 +26,10 @@ use Rattle.dft_scan_frame.specs.Moves.{Gap, moved}
 use Rattle.dft_scan_frame.specs.Pins.{domain_in, number_of, own_output}
 use Rattle.dft_scan_hardware.specs.declared.style.Style.{Style}
 use Rattle.dft_scan_hardware.specs.declared.style.Style.TheVariants.{Plain, Edt}
-use Rattle.dft_scan_hardware.specs.Chained.{scan_roles, a_numbered_pin, a_role_pin, a_scan_in, an_open_output, own_or_made, an_output, a_row, rows, a_crossing, crossing_in, a_step, a_chain, a_late_chain, cells_at, row_at, last_net}
+use Rattle.dft_scan_hardware.specs.Chained.{scan_roles, a_numbered_pin, a_role_pin, a_scan_in, an_open_output, own_or_made, an_output, a_row, rows, a_lockup_clock, a_lockup_behind, a_crossing, crossing_in, a_step, a_chain, a_late_chain, a_fed_chain, cells_at, row_at, last_net}
 use Rattle.dft_scan_hardware.specs.Ports.{gap_in, edt_nets, plain_in, plain_out}
 use Rattle.dft_scan_hardware.specs.Scanned.{a_plain_chain, a_plain_end, plain_recipe, an_edt_chain, behind_rows, edt_recipe, recipe, framed, parts_of}
-use Rattle.dft_scan_hardware.proofs.Free.{HoldsFree, net_free, gate_free, lockup_free, ring_free, compactor_free}
+use Rattle.dft_scan_hardware.proofs.Free.{HoldsFree, net_free, driving_free, gate_free, lockup_free, ring_free, compactor_free}
 use Rattle.dft_scan_hardware.proofs.Joins.{Each, Holds, JoinsAt, holds_pure, holds_bind, holds_each, holds_collect}
 
 -- a pin of a scanned flip-flop's scan cell: its output, or its scan input
@@ -88,15 +88,22 @@ module _ (n : Netlist) (config : Config) (P : Part → Type 0) (free : HoldsFree
     cells_on : (chain place : ℕ) (cell : InstanceId) → slice_get (cells_at plan.chains chain) place ≡ Some cell → Scans n config cell
     cells_on chain place cell h = cells_scan chain place cell (index_by chain place cell plan.chains h)
 
+    clock_on : (port : NetId) (high : Bool) → Holds P (a_lockup_clock port high)
+    clock_on port false = holds_pure {A = NetId} P port
+    clock_on port true = driving_free P Inv (port ∷ []) free
+
+    lockup_on : (chain : ℕ) (outputs : List NetId) (after : ℕ) (clock : NetId) → Holds P (a_lockup_behind n (cells_at plan.chains chain) outputs after clock)
+    unfolding a_lockup_behind
+    lockup_on chain outputs after clock =
+        holds_bind P a_net (λ net. a_lockup clock (net_at outputs after) net >> a_scan_in n (slice_get (cells_at plan.chains chain) (after + 1)) net) (net_free P free)
+        (λ net. holds_bind P (a_lockup clock (net_at outputs after) net) (λ _. a_scan_in n (slice_get (cells_at plan.chains chain) (after + 1)) net) (lockup_free P clock (net_at outputs after) net free)
+        (λ _. scan_in_on (slice_get (cells_at plan.chains chain) (after + 1)) net (λ cell h. cells_on chain (after + 1) cell h)))
+
     crossing_on : (gap : Gap) (chain : ℕ) (outputs : List NetId) (l : LockupPlace) → Holds P (a_crossing n config gap (cells_at plan.chains chain) outputs l)
     unfolding a_crossing
     crossing_on gap chain outputs l =
-        holds_bind P a_net
-        (λ net. a_lockup (record { 0 = domain_in n gap config l.domain }) (net_at outputs l.after) net >> a_scan_in n (slice_get (cells_at plan.chains chain) (l.after + 1)) net)
-        (net_free P free)
-        (λ net. holds_bind P (a_lockup (record { 0 = domain_in n gap config l.domain }) (net_at outputs l.after) net) (λ _. a_scan_in n (slice_get (cells_at plan.chains chain) (l.after + 1)) net)
-        (lockup_free P (record { 0 = domain_in n gap config l.domain }) (net_at outputs l.after) net free)
-        (λ _. scan_in_on (slice_get (cells_at plan.chains chain) (l.after + 1)) net (λ cell h. cells_on chain (l.after + 1) cell h)))
+        holds_bind P (a_lockup_clock (record { 0 = domain_in n gap config l.domain }) l.high) (λ clock. a_lockup_behind n (cells_at plan.chains chain) outputs l.after clock)
+        (clock_on (record { 0 = domain_in n gap config l.domain }) l.high) (λ clock. lockup_on chain outputs l.after clock)
 
     either_on : (b : Bool) (r : Recipe (Unit {0})) → Holds P r → Holds P (if b then r else pure tt)
     either_on true r h = h
@@ -125,6 +132,10 @@ module _ (n : Netlist) (config : Config) (P : Part → Type 0) (free : HoldsFree
         (λ entry. holds_bind P (a_lockup clock phase entry) (λ _. a_chain n config gap plan.lockups chain (cells_at plan.chains chain) outputs entry) (lockup_free P clock phase entry free)
         (λ _. chain_on gap chain outputs entry))
 
+    fed_on : (falling : Bool) (gap : Gap) (chain : ℕ) (outputs : List NetId) (clock phase : NetId) → Holds P (a_fed_chain falling n config gap plan.lockups chain (cells_at plan.chains chain) outputs clock phase)
+    fed_on true gap chain outputs clock phase = chain_on gap chain outputs phase
+    fed_on false gap chain outputs clock phase = late_on gap chain outputs clock phase
+
     plain_on : (gap : Gap) → Holds P (plain_recipe n config plan gap)
     unfolding plain_recipe
     plain_on gap =
@@ -142,7 +153,7 @@ module _ (n : Netlist) (config : Config) (P : Part → Type 0) (free : HoldsFree
         (λ ring. each (an_edt_chain n config plan gap ports ring.phases outputs) (range_with_len 0 (length plan.chains)) >> a_compactor config ports ring.run (map last_net outputs))
         (ring_free P config ports free)
         (λ ring. holds_bind P (each (an_edt_chain n config plan gap ports ring.phases outputs) (range_with_len 0 (length plan.chains))) (λ _. a_compactor config ports ring.run (map last_net outputs))
-        (holds_each P (an_edt_chain n config plan gap ports ring.phases outputs) (range_with_len 0 (length plan.chains)) (λ k chain there. late_on gap chain (row_at outputs chain) ports.edt_clock (net_at ring.phases chain)))
+        (holds_each P (an_edt_chain n config plan gap ports ring.phases outputs) (range_with_len 0 (length plan.chains)) (λ k chain there. fed_on (falling_head plan chain) gap chain (row_at outputs chain) ports.edt_clock (net_at ring.phases chain)))
         (λ _. compactor_free P config ports ring.run (map last_net outputs) free))
 
     edt_on : (gap : Gap) (ports : EdtPorts) → Holds P (edt_recipe n config plan gap ports)

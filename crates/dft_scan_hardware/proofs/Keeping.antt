@@ -328,7 +328,7 @@ scans_by n config i true e = scanned_passes (judged_by (domain_of n config i) (a
     scanned_passes : (o : Option Judged) → judged_by (domain_of n config i) (are_held_at n config i) (is_some (scan_cell_of n i)) (is_kept n config.keep i) ≡ o → is_scanned o ≡ true → is_some (scan_cell_of n i) ≡ true
     scanned_passes None is f = absurd cc
     scanned_passes (Some (Unscanned rule)) is f = absurd cc
-    scanned_passes (Some (Scanned its)) is f = (passes (domain_of n config i) (are_held_at n config i) (is_some (scan_cell_of n i)) (is_kept n config.keep i) its is).is_scan
+    scanned_passes (Some (Scanned its falling)) is f = (passes (domain_of n config i) (are_held_at n config i) (is_some (scan_cell_of n i)) (is_kept n config.keep i) its falling is).is_scan
 
 pub scans_of : (n : Netlist) (config : Config) (i : ℕ) → is_scanned (judged n config i) ≡ true → is_some (scan_cell_of n i) ≡ true
 scans_of n config i on = scans_by n config i (may_be_scanned (kind_at n i)) on

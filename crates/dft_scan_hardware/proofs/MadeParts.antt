@@ -6,6 +6,7 @@ use Rattle.std.proofs.lemmas.Bool.{eqb-true}
 use Rattle.std.proofs.lemmas.List.{drop_more}
 use Rattle.std.proofs.lemmas.List.Elements.{All-append}
 use Rattle.dft_base.specs.Lexing.{Text}
+use Rattle.dft_cells.specs.declared.kind.Kind.TheVariants.{Inv}
 use Rattle.dft_cells.specs.declared.kind.Role.{Role}
 use Rattle.dft_cells.specs.declared.kind.Role.TheVariants.{Output}
 use Rattle.dft_netlist.specs.declared.ids.NetId.{NetId}
@@ -22,6 +23,7 @@ use Rattle.dft_stitch.specs.Plans.{Plan}
 use Rattle.dft_parts.specs.declared.edt_ports.EdtPorts.{EdtPorts}
 use Rattle.dft_parts.specs.Parts.{Making, with_pin}
 use Rattle.dft_parts.specs.Recipes.{Recipe, AreThere, pure, ◌>>=◌, each, collect, net_at, a_net, a_lockup, a_pin, outcome, IsRefusal, Makes}
+use Rattle.dft_parts.specs.Sums.{a_driving_gate}
 use Rattle.dft_parts.proofs.Fitting.{there_on}
 use Rattle.dft_parts.proofs.Loops.{goes_on, goes_start, collect_step, collect_refused, collect_end}
 use Rattle.dft_parts.proofs.Outcomes.{then_ok, then_refused, same_makes, pure_made}
@@ -32,7 +34,7 @@ use Rattle.dft_scan_frame.specs.Moves.{Gap, moved}
 use Rattle.dft_scan_frame.specs.Pins.{domain_in, number_of, own_output, moved_or_none}
 use Rattle.dft_scan_frame.proofs.LiveNets.{moved_less, input_live}
 use Rattle.dft_scan_hardware.specs.Bounds.{EdtThere}
-use Rattle.dft_scan_hardware.specs.Chained.{scan_roles, a_numbered_pin, a_role_pin, a_scan_in, an_open_output, own_or_made, an_output, rows, a_crossing, crossing_in, a_step, a_chain, a_late_chain, row_at, last_net}
+use Rattle.dft_scan_hardware.specs.Chained.{scan_roles, a_numbered_pin, a_role_pin, a_scan_in, an_open_output, own_or_made, an_output, rows, a_lockup_clock, a_lockup_behind, a_crossing, crossing_in, a_step, a_chain, a_late_chain, a_fed_chain, row_at, last_net}
 use Rattle.dft_scan_hardware.specs.Scanned.{a_plain_chain, a_plain_end, plain_recipe, an_edt_chain, behind_rows, edt_recipe}
 
 -- ---- pins
@@ -149,32 +151,53 @@ domain_there n config gap domain all le some =
     let name : Text = slice_index_or config.domains domain [] in
     domain_by gap (option_map (λ (k : NetId). k.0) (input_net n name)) (length n.nets) all le some (λ net e. input_live n name (find_net n name) net refl e)
 
+-- ---- a lock-up behind a cell
+
+abbrev joined_behind : Netlist → (cells : List InstanceId) → (after : ℕ) → (net : NetId) → (Unit {0}) → Recipe (Unit {0})
+joined_behind n cells after net done = a_scan_in n (slice_get cells (after + 1)) net
+
+abbrev latched : Netlist → (clock : NetId) → (cells : List InstanceId) → (outputs : List NetId) → (after : ℕ) → (net : NetId) → Recipe (Unit {0})
+latched n clock cells outputs after net = a_lockup clock (net_at outputs after) net >>= joined_behind n cells after net
+
+pub net_refused : (n : Netlist) (cells : List InstanceId) (outputs : List NetId) (after : ℕ) (clock : NetId) (s : Making) (e : NetlistError) → IsRefusal (outcome a_net s) e → IsRefusal (outcome (a_lockup_behind n cells outputs after clock) s) e
+unfolding a_lockup_behind
+net_refused n cells outputs after clock s e h = then_refused a_net (latched n clock cells outputs after) s e h
+
+pub lockup_refused : (n : Netlist) (cells : List InstanceId) (outputs : List NetId) (after : ℕ) (clock : NetId) (s t : Making) (net : NetId) (e : NetlistError) → outcome a_net s ≡ Ok (net, t) →
+    IsRefusal (outcome (a_lockup clock (net_at outputs after) net) t) e → IsRefusal (outcome (a_lockup_behind n cells outputs after clock) s) e
+unfolding a_lockup_behind
+lockup_refused n cells outputs after clock s t net e h k =
+    subst (λ o. IsRefusal o e) (sym (then_ok a_net (latched n clock cells outputs after) s t net h)) (then_refused (a_lockup clock (net_at outputs after) net) (joined_behind n cells after net) t e k)
+
+pub lockup_made : (n : Netlist) (cells : List InstanceId) (outputs : List NetId) (after : ℕ) (clock : NetId) (s t u v : Making) (net : NetId) → outcome a_net s ≡ Ok (net, t) →
+    outcome (a_lockup clock (net_at outputs after) net) t ≡ Ok (tt, u) → outcome (a_scan_in n (slice_get cells (after + 1)) net) u ≡ Ok (tt, v) → outcome (a_lockup_behind n cells outputs after clock) s ≡ Ok (tt, v)
+unfolding a_lockup_behind
+lockup_made n cells outputs after clock s t u v net h k m =
+    then_ok a_net (latched n clock cells outputs after) s t net h ∙ then_ok (a_lockup clock (net_at outputs after) net) (joined_behind n cells after net) t u tt k ∙ m
+
 -- ---- a lock-up between domains
 
-abbrev joined_behind : Netlist → (cells : List InstanceId) → LockupPlace → (net : NetId) → (Unit {0}) → Recipe (Unit {0})
-joined_behind n cells l net done = a_scan_in n (slice_get cells (l.after + 1)) net
+-- the net of its domain's port
+abbrev pub port_of : Netlist → Config → Gap → LockupPlace → NetId
+port_of n config gap l = record { 0 = domain_in n gap config l.domain }
 
-abbrev latched : Netlist → (clock : NetId) → (cells : List InstanceId) → (outputs : List NetId) → LockupPlace → (net : NetId) → Recipe (Unit {0})
-latched n clock cells outputs l net = a_lockup clock (net_at outputs l.after) net >>= joined_behind n cells l net
+pub port_clocks : (port : NetId) (high : Bool) (s : Making) → high ≡ false → outcome (a_lockup_clock port high) s ≡ Ok (port, s)
+port_clocks port high s low = ap (λ (b : Bool). outcome (a_lockup_clock port b) s) low ∙ pure_made port s
 
-abbrev pub clock_of : Netlist → Config → Gap → LockupPlace → NetId
-clock_of n config gap l = record { 0 = domain_in n gap config l.domain }
+pub inverse_clocks : (port : NetId) (high : Bool) (s : Making) (result : Result NetId NetlistError) (new : Making) → high ≡ true → Makes (λ net. net) (a_driving_gate Inv (port ∷ [])) s result new → Makes (λ net. net) (a_lockup_clock port high) s result new
+inverse_clocks port high s result new is m = subst (λ (b : Bool). Makes (λ net. net) (a_lockup_clock port b) s result new) (sym is) m
 
-pub crossing_refused : (n : Netlist) (config : Config) (gap : Gap) (cells : List InstanceId) (outputs : List NetId) (l : LockupPlace) (s : Making) (e : NetlistError) → IsRefusal (outcome a_net s) e → IsRefusal (outcome (a_crossing n config gap cells outputs l) s) e
+pub crossing_refused : (n : Netlist) (config : Config) (gap : Gap) (cells : List InstanceId) (outputs : List NetId) (l : LockupPlace) (s : Making) (e : NetlistError) → IsRefusal (outcome (a_lockup_clock (port_of n config gap l) l.high) s) e →
+    IsRefusal (outcome (a_crossing n config gap cells outputs l) s) e
 unfolding a_crossing
-crossing_refused n config gap cells outputs l s e h = then_refused a_net (latched n (clock_of n config gap l) cells outputs l) s e h
+crossing_refused n config gap cells outputs l s e h = then_refused (a_lockup_clock (port_of n config gap l) l.high) (a_lockup_behind n cells outputs l.after) s e h
 
-pub lockup_refused : (n : Netlist) (config : Config) (gap : Gap) (cells : List InstanceId) (outputs : List NetId) (l : LockupPlace) (s t : Making) (net : NetId) (e : NetlistError) → outcome a_net s ≡ Ok (net, t) →
-    IsRefusal (outcome (a_lockup (clock_of n config gap l) (net_at outputs l.after) net) t) e → IsRefusal (outcome (a_crossing n config gap cells outputs l) s) e
+pub crossing_made : {X : Type 0} (n : Netlist) (config : Config) (gap : Gap) (cells : List InstanceId) (outputs : List NetId) (l : LockupPlace) (s t : Making) (clock : NetId) (result : Result X NetlistError) (new : Making) →
+    outcome (a_lockup_clock (port_of n config gap l) l.high) s ≡ Ok (clock, t) → Makes (λ _. tt) (a_lockup_behind n cells outputs l.after clock) t result new → Makes (λ _. tt) (a_crossing n config gap cells outputs l) s result new
 unfolding a_crossing
-lockup_refused n config gap cells outputs l s t net e h k =
-    subst (λ o. IsRefusal o e) (sym (then_ok a_net (latched n (clock_of n config gap l) cells outputs l) s t net h)) (then_refused (a_lockup (clock_of n config gap l) (net_at outputs l.after) net) (joined_behind n cells l net) t e k)
-
-pub crossing_made : (n : Netlist) (config : Config) (gap : Gap) (cells : List InstanceId) (outputs : List NetId) (l : LockupPlace) (s t u v : Making) (net : NetId) → outcome a_net s ≡ Ok (net, t) →
-    outcome (a_lockup (clock_of n config gap l) (net_at outputs l.after) net) t ≡ Ok (tt, u) → outcome (a_scan_in n (slice_get cells (l.after + 1)) net) u ≡ Ok (tt, v) → outcome (a_crossing n config gap cells outputs l) s ≡ Ok (tt, v)
-unfolding a_crossing
-crossing_made n config gap cells outputs l s t u v net h k m =
-    then_ok a_net (latched n (clock_of n config gap l) cells outputs l) s t net h ∙ then_ok (a_lockup (clock_of n config gap l) (net_at outputs l.after) net) (joined_behind n cells l net) t u tt k ∙ m
+crossing_made n config gap cells outputs l s t clock result new h m =
+    same_makes (λ _. tt) (a_lockup_clock (port_of n config gap l) l.high >>= a_lockup_behind n cells outputs l.after) (a_lockup_behind n cells outputs l.after clock) s t result new
+    (then_ok (a_lockup_clock (port_of n config gap l) l.high) (a_lockup_behind n cells outputs l.after) s t clock h) m
 
 differ : (a b : ℕ) (t : Bool) → (a == b) ≡ t → (a ≡ b → ⊥) → (a == b) ≡ false
 differ a b true is apart = absurd (apart (eqb-true a b is))
@@ -232,6 +255,18 @@ unfolding a_late_chain
 late_made n config gap lockups chain cells outputs clock phase entry s t u result new h k m =
     same_makes (λ _. tt) (a_net >>= late_behind n config gap lockups chain cells outputs clock phase) (a_chain n config gap lockups chain cells outputs entry) s u result new
     (then_ok a_net (late_behind n config gap lockups chain cells outputs clock phase) s t entry h ∙ then_ok (a_lockup clock phase entry) (chain_behind n config gap lockups chain cells outputs entry) t u tt k) m
+
+-- ---- a chain behind its phase sum
+
+pub fed_by_sum : {X : Type 0} (falling : Bool) (n : Netlist) (config : Config) (gap : Gap) (lockups : List LockupPlace) (chain : ℕ) (cells : List InstanceId) (outputs : List NetId) (clock phase : NetId) (s : Making) (result : Result X NetlistError) (new : Making) → falling ≡ true →
+    Makes (λ _. tt) (a_chain n config gap lockups chain cells outputs phase) s result new → Makes (λ _. tt) (a_fed_chain falling n config gap lockups chain cells outputs clock phase) s result new
+fed_by_sum falling n config gap lockups chain cells outputs clock phase s result new is m =
+    subst (λ (b : Bool). Makes (λ _. tt) (a_fed_chain b n config gap lockups chain cells outputs clock phase) s result new) (sym is) m
+
+pub fed_by_lockup : {X : Type 0} (falling : Bool) (n : Netlist) (config : Config) (gap : Gap) (lockups : List LockupPlace) (chain : ℕ) (cells : List InstanceId) (outputs : List NetId) (clock phase : NetId) (s : Making) (result : Result X NetlistError) (new : Making) → falling ≡ false →
+    Makes (λ _. tt) (a_late_chain n config gap lockups chain cells outputs clock phase) s result new → Makes (λ _. tt) (a_fed_chain falling n config gap lockups chain cells outputs clock phase) s result new
+fed_by_lockup falling n config gap lockups chain cells outputs clock phase s result new is m =
+    subst (λ (b : Bool). Makes (λ _. tt) (a_fed_chain b n config gap lockups chain cells outputs clock phase) s result new) (sym is) m
 
 -- ---- style Plain
 

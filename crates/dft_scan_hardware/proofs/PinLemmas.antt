@@ -79,8 +79,8 @@ scanned_here n config plan i chain place range planned stands =
 not_by : (n : Netlist) (config : Config) (plan : Plan) (i : ℕ) (o : Option Judged) → judged n config i ≡ o → IsInRange config → plan ≡ plan_of n config → ((chain place : ℕ) → cell_at plan.chains chain place ≡ Some (record { 0 = i }) → ⊥) → false ≡ is_scanned o
 not_by n config plan i None is range planned nowhere = refl
 not_by n config plan i (Some (Unscanned rule)) is range planned nowhere = refl
-not_by n config plan i (Some (Scanned domain)) is range planned nowhere =
-    let it = cells_once n config i domain range is in
+not_by n config plan i (Some (Scanned domain falling)) is range planned nowhere =
+    let it = cells_once n config i domain falling range is in
     absurd (nowhere it.chain it.place (subst (λ (p : Plan). cell_at p.chains it.chain it.place ≡ Some (record { 0 = i })) (sym planned) it.stands))
 
 pub not_here : (n : Netlist) (config : Config) (plan : Plan) (i : ℕ) → IsInRange config → plan ≡ plan_of n config → ((chain place : ℕ) → cell_at plan.chains chain place ≡ Some (record { 0 = i }) → ⊥) → false ≡ is_scanned (judged n config i)

@@ -1,6 +1,7 @@
--- The recipe of the chains: nets for open outputs, the links between neighbours with lock-ups between domains, and the scan inputs.
-use Rattle.std.specs.Prelude.{ℕ, ◌+◌, ◌-◌, ◌==◌, List, [], length, Option, None, Some, slice_get, slice_index_or, if◌then◌else◌}
+-- The recipe of the chains: nets for open outputs, the links between neighbours with lock-ups between domains of one edge, and the scan inputs.
+use Rattle.std.specs.Prelude.{ℕ, ◌+◌, ◌-◌, ◌==◌, Bool, true, false, List, [], ◌∷◌, length, Option, None, Some, slice_get, slice_index_or, if◌then◌else◌}
 use Rattle.std.specs.List.{range_with_len}
+use Rattle.dft_cells.specs.declared.kind.Kind.TheVariants.{Inv}
 use Rattle.dft_cells.specs.declared.kind.Role.{Role}
 use Rattle.dft_cells.specs.declared.kind.Role.TheVariants.{Output, ScanIn}
 use Rattle.dft_cells.specs.declared.cell.Cell.{Cell}
@@ -15,6 +16,7 @@ use Rattle.dft_config.specs.Config.{Config}
 use Rattle.dft_rules.specs.Rules.{scan_cell_of}
 use Rattle.dft_stitch.specs.declared.places.LockupPlace.{LockupPlace}
 use Rattle.dft_parts.specs.Recipes.{Recipe, pure, ◌>>=◌, ◌>>◌, each, collect, net_at, a_net, a_lockup, a_pin}
+use Rattle.dft_parts.specs.Sums.{a_driving_gate}
 use Rattle.dft_scan_frame.specs.Moves.{Gap, moved}
 use Rattle.dft_scan_frame.specs.Pins.{domain_in, number_of, own_output}
 
@@ -75,12 +77,23 @@ cells_at chains chain = slice_index_or chains chain []
 abbrev pub row_at : List (List NetId) → (chain : ℕ) → List NetId
 row_at outputs chain = slice_index_or outputs chain []
 
--- a lock-up between two domains: clocked by the domain of the cell before it, whose output it takes, it drives the next scan input
+-- what clocks a lock-up: the net of its domain's port, and where the lock-up is high a `not` of it
+abbrev pub a_lockup_clock : (port : NetId) → (high : Bool) → Recipe NetId
+a_lockup_clock port false = pure port
+a_lockup_clock port true = a_driving_gate Inv (port ∷ [])
+
+-- on that clock a lock-up behind the cell at a place: it takes the output of this cell and drives the next scan input
+unfoldable pub a_lockup_behind : Netlist → (cells : List InstanceId) → (outputs : List NetId) → (after : ℕ) → (clock : NetId) → Recipe (Unit {0})
+a_lockup_behind n cells outputs after clock = do
+  net ← a_net
+  a_lockup clock (net_at outputs after) net
+  a_scan_in n (slice_get cells (after + 1)) net
+
+-- a lock-up between two domains, clocked by the domain of the cell before it
 unfoldable pub a_crossing : Netlist → Config → Gap → (cells : List InstanceId) → (outputs : List NetId) → LockupPlace → Recipe (Unit {0})
 a_crossing n config gap cells outputs l = do
-  net ← a_net
-  a_lockup (record { 0 = domain_in n gap config l.domain }) (net_at outputs l.after) net
-  a_scan_in n (slice_get cells (l.after + 1)) net
+  clock ← a_lockup_clock (record { 0 = domain_in n gap config l.domain }) l.high
+  a_lockup_behind n cells outputs l.after clock
 
 -- where it stands in this chain
 abbrev pub crossing_in : Netlist → Config → Gap → (chain : ℕ) → (cells : List InstanceId) → (outputs : List NetId) → LockupPlace → Recipe (Unit {0})
@@ -90,8 +103,8 @@ crossing_in n config gap chain cells outputs l = if l.chain == chain then a_cros
 abbrev pub a_step : Netlist → (cells : List InstanceId) → (outputs : List NetId) → (place : ℕ) → Recipe (Unit {0})
 a_step n cells outputs place = a_scan_in n (slice_get cells (place + 1)) (net_at outputs place)
 
--- A chain: the first scan input takes the entry; then along the chain each lock-up between domains; elsewhere a scan input takes the
--- output of the cell before it.
+-- A chain: the first scan input takes the entry; then along the chain each lock-up between domains of one edge; elsewhere a scan input
+-- takes the output of the cell before it.
 unfoldable pub a_chain : Netlist → Config → Gap → List LockupPlace → (chain : ℕ) → (cells : List InstanceId) → (outputs : List NetId) → (entry : NetId) → Recipe (Unit {0})
 a_chain n config gap lockups chain cells outputs entry = do
   a_scan_in n (slice_get cells 0) entry
@@ -104,6 +117,11 @@ a_late_chain n config gap lockups chain cells outputs clock phase = do
   entry ← a_net
   a_lockup clock phase entry
   a_chain n config gap lockups chain cells outputs entry
+
+-- A chain behind its phase sum: where the first cell is falling the sum itself is the entry, else a lock-up on edt_clock that takes it.
+abbrev pub a_fed_chain : (falling : Bool) → Netlist → Config → Gap → List LockupPlace → (chain : ℕ) → (cells : List InstanceId) → (outputs : List NetId) → (clock phase : NetId) → Recipe (Unit {0})
+a_fed_chain true n config gap lockups chain cells outputs clock phase = a_chain n config gap lockups chain cells outputs phase
+a_fed_chain false n config gap lockups chain cells outputs clock phase = a_late_chain n config gap lockups chain cells outputs clock phase
 
 -- the net at the end of a chain
 abbrev pub last_net : (outputs : List NetId) → NetId

@@ -6,7 +6,7 @@ use Rattle.dft_netlist.specs.declared.ids.NetId.{NetId}
 use Rattle.dft_netlist.specs.declared.ids.PortId.{PortId}
 use Rattle.dft_netlist.specs.Netlist.{Netlist}
 use Rattle.dft_config.specs.Config.{Config}
-use Rattle.dft_stitch.specs.Plans.{Plan}
+use Rattle.dft_stitch.specs.Plans.{Plan, falling_head}
 use Rattle.dft_parts.specs.declared.edt_ports.EdtPorts.{EdtPorts}
 use Rattle.dft_parts.specs.Parts.{Part, Making, with_parts}
 use Rattle.dft_parts.specs.Recipes.{Recipe, ◌>>=◌, ◌>>◌, each, net_at, a_gate, start_of}
@@ -17,7 +17,7 @@ use Rattle.dft_scan_hardware.specs.declared.style.Style.{Style}
 use Rattle.dft_scan_hardware.specs.declared.style.Style.TheVariants.{Plain, Edt}
 use Rattle.dft_scan_hardware.specs.Ports.{added_ports, gap_in, plain_in, plain_out, edt_nets}
 use Rattle.dft_scan_hardware.specs.Frame.{frame}
-use Rattle.dft_scan_hardware.specs.Chained.{rows, cells_at, row_at, a_chain, a_late_chain, last_net}
+use Rattle.dft_scan_hardware.specs.Chained.{rows, cells_at, row_at, a_chain, a_fed_chain, last_net}
 
 -- ---- style Plain
 
@@ -38,10 +38,10 @@ plain_recipe n config plan gap = do
 
 -- ---- style Edt
 
--- a chain behind a lock-up on edt_clock, which takes its phase sum
+-- a chain behind its phase sum, or behind a lock-up on edt_clock that takes it where the first cell rises
 abbrev pub an_edt_chain : Netlist → Config → Plan → Gap → EdtPorts → (phases : List NetId) → (outputs : List (List NetId)) → (chain : ℕ) → Recipe (Unit {0})
 an_edt_chain n config plan gap ports phases outputs chain =
-    a_late_chain n config gap plan.lockups chain (cells_at plan.chains chain) (row_at outputs chain) ports.edt_clock (net_at phases chain)
+    a_fed_chain (falling_head plan chain) n config gap plan.lockups chain (cells_at plan.chains chain) (row_at outputs chain) ports.edt_clock (net_at phases chain)
 
 -- the ring and the phase sums; the chains, one after another; then masks, hold bits and compactor
 unfoldable pub behind_rows : Netlist → Config → Plan → Gap → EdtPorts → (outputs : List (List NetId)) → Recipe (Unit {0})

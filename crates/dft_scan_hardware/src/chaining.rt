@@ -1,20 +1,21 @@
 //! Links along the chains.
 
-ghost use Rattle.std.specs.Prelude.{◌≡◌, ◌+◌, ◌<◌, ◌≤◌, Ok, OnOk, length};
+ghost use Rattle.std.specs.Prelude.{◌≡◌, ◌+◌, ◌<◌, ◌≤◌, Ok, IfOk, OnOk, length};
 ghost use Rattle.std.specs.List.{range_with_len};
 ghost use Rattle.dft_netlist.specs.declared.limits.TheConstants.{MAX_PORTS};
 ghost use Rattle.dft_parts.specs.Recipes.{AreThere, Makes, each, outcome};
-ghost use Rattle.dft_scan_hardware.specs.Chained.{a_chain, a_crossing, a_step, cells_at, crossing_in};
+ghost use Rattle.dft_scan_hardware.specs.Chained.{a_chain, a_crossing, a_lockup_behind, a_lockup_clock, a_step, cells_at, crossing_in};
 
 use crate::outputs::net_at;
 use crate::pins::{cell_in, join_scan_in};
+use dft_cells::Kind;
 use dft_config::Config;
 use dft_netlist::{Design, InstanceId, NetId, NetlistError};
 use dft_parts::PartsBuilder;
 use dft_scan_frame::{Gap, domain_net};
 use dft_stitch::{Chains, LockupPlace};
 
-// Links a chain behind an entry: with lock-ups between domains, and elsewhere from cell to cell.
+// Links a chain behind an entry: with lock-ups between domains of one edge, and elsewhere from cell to cell.
 pub(crate) fn make_chain(
     parts: &mut PartsBuilder,
     design: &Design,
@@ -115,8 +116,40 @@ fn make_crossing(
     ensures nets { OnOk result (length parts.old.netlist.nets ≤ length parts.new.netlist.nets) }
 {
     design.soundness();
-    let after = usize::from(lockup.after);
-    let clock = domain_net(design, config, gap, lockup.domain);
+    let port = domain_net(design, config, gap, lockup.domain);
+    let clock = make_clock(parts, port, lockup.high)?;
+    make_lockup(parts, design, usize::from(lockup.after), clock, cells, row)
+}
+
+// What clocks a lock-up: the net of its domain's port, and where it is high a `not` of it, which is made.
+fn make_clock(parts: &mut PartsBuilder, port: NetId, high: bool) -> Result<NetId, NetlistError>
+    requires { port.0 < length parts.old.netlist.nets }
+    ensures makes { Makes (λ net. net) (a_lockup_clock port high) parts.old result parts.new }
+    ensures there { IfOk result (λ net. net.0 < length parts.new.netlist.nets) }
+    ensures nets { OnOk result (length parts.old.netlist.nets ≤ length parts.new.netlist.nets) }
+{
+    if high {
+        parts.driving_gate(Kind::Inv, &[port])
+    } else {
+        Ok(port)
+    }
+}
+
+// Makes a lock-up on this clock behind the cell at a place.
+fn make_lockup(
+    parts: &mut PartsBuilder,
+    design: &Design,
+    after: usize,
+    clock: NetId,
+    cells: &[InstanceId],
+    row: &[NetId],
+) -> Result<(), NetlistError>
+    requires after { after < 65536 }
+    requires clock { clock.0 < length parts.old.netlist.nets }
+    requires row { AreThere parts.old.netlist row.now }
+    ensures makes { Makes (λ _. tt) (a_lockup_behind design.now cells.now row.now after clock) parts.old result parts.new }
+    ensures nets { OnOk result (length parts.old.netlist.nets ≤ length parts.new.netlist.nets) }
+{
     let net = parts.net()?;
     parts.lockup(clock, net_at(row, after), net)?;
     join_scan_in(parts, design, cell_in(cells, after + 1), net);

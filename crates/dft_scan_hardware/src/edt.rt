@@ -4,6 +4,7 @@ ghost use Rattle.std.specs.Prelude.{◌≡◌, ◌+◌, ◌<◌, ◌≤◌, IfOk
 ghost use Rattle.std.specs.List.{All, range_with_len};
 ghost use Rattle.dft_netlist.specs.declared.limits.TheConstants.{MAX_NETS, MAX_PORTS};
 ghost use Rattle.dft_netlist.specs.NetNumbers as numbers;
+ghost use Rattle.dft_stitch.specs.Plans.{falling_head};
 ghost use Rattle.dft_parts.specs.Recipes.{AreThere, Makes, each};
 ghost use Rattle.dft_compact.specs.CompactorRecipe.{a_compactor};
 ghost use Rattle.dft_scan_hardware.specs.Bounds.{EdtThere};
@@ -84,7 +85,7 @@ fn make_behind_rows(
     make_ends(parts, config, ports, ring.run, rows)
 }
 
-// Makes the chains behind their lock-ups on edt_clock.
+// Makes the chains behind their phase sums.
 fn make_edt_chains(
     parts: &mut PartsBuilder,
     design: &Design,
@@ -112,8 +113,36 @@ fn make_edt_chains(
     Ok(())
 }
 
-// Makes a chain behind a lock-up on edt_clock that takes its phase sum.
+// Makes a chain behind its phase sum: it is the entry where the first cell is falling, else a lock-up on edt_clock that takes it.
 fn make_edt_chain(
+    parts: &mut PartsBuilder,
+    design: &Design,
+    config: &Config,
+    chains: &Chains,
+    gap: &Gap,
+    ports: &EdtPorts,
+    chain: u16,
+    phase: NetId,
+    row: &[NetId],
+) -> Result<(), NetlistError>
+    requires chain { chain < length chains.now.chains }
+    requires room { gap.now.width ≤ MAX_PORTS }
+    requires clock { ports.now.edt_clock.0 < length parts.old.netlist.nets }
+    requires phase { phase.0 < length parts.old.netlist.nets }
+    requires nets { length design.now.nets + gap.now.width ≤ length parts.old.netlist.nets }
+    requires row { AreThere parts.old.netlist row.now }
+    ensures makes { Makes (λ _. tt) (chained.a_fed_chain (falling_head chains.now chain) design.now config.now gap.now chains.now.lockups chain (chained.cells_at chains.now.chains chain) row.now ports.now.edt_clock phase) parts.old result parts.new }
+    ensures nets { OnOk result (length parts.old.netlist.nets ≤ length parts.new.netlist.nets) }
+{
+    if chains.falling_head(chain) {
+        make_chain(parts, design, config, chains, gap, chain, row, phase)
+    } else {
+        make_late_chain(parts, design, config, chains, gap, ports, chain, phase, row)
+    }
+}
+
+// Makes a chain behind a lock-up on edt_clock that takes its phase sum.
+fn make_late_chain(
     parts: &mut PartsBuilder,
     design: &Design,
     config: &Config,

@@ -10,10 +10,12 @@ use std::test::Fail;
 const FIVE_CHAINS: &str =
     "chains = 5\nwarm = 0\nwindow = 1\nring = { stages = 2, channels = 1, taps = [], injectors = [[0, 1]], phase = [[0], [1], [0], [1], [0]] }\ncompactor = { groups = [[0, 1, 2, 3, 4]], mask_inputs = 1 }\n";
 
-// The place of each of the first instances, the lock-ups by chain, place before and domain, and the cycles.
+// The place of each of the first instances, the chains that begin with a falling cell, the lock-ups by chain, place before and
+// domain, and the cycles.
 pub(crate) fn told(alloc: Global, chains: &Chains) -> Result<String, AllocError> {
     let mut line = String::new(alloc);
     push_places(alloc, &mut line, chains)?;
+    push_heads(alloc, &mut line, chains)?;
     push_lockups(alloc, &mut line, chains)?;
     Ok(line)
 }
@@ -38,9 +40,19 @@ fn push_place(
     line.push_str(&format!(in alloc; "{chain}.{place} ")?)
 }
 
+fn push_heads(alloc: Global, line: &mut String, chains: &Chains) -> Result<(), AllocError> {
+    for chain in 0..chains.count() {
+        if chains.falling_head(chain) {
+            line.push_str(&format!(in alloc; "{chain} falls ")?)?;
+        }
+    }
+    Ok(())
+}
+
 fn push_lockups(alloc: Global, line: &mut String, chains: &Chains) -> Result<(), AllocError> {
     for lockup in chains.lockups() {
         let (chain, after, domain) = (lockup.chain, lockup.after, lockup.domain);
+        line.push_str(if lockup.high { "high " } else { "" })?;
         line.push_str(&format!(in alloc; "lockup {chain}.{after} on {domain} ")?)?;
     }
     let cycles = chains.cycles();

@@ -1,5 +1,5 @@
 -- Lists cut into blocks.
-use Rattle.std.proofs.Common.{◌≡◌, ℕ, zero, suc, ◌+◌, ◌-◌, ◌<◌, ◌≤◌, min, List, [], ◌∷◌, ◌++◌, length, take, drop, map, flat_map, Bool, true, false, cond, ◌==◌, Option, None, Some, sym, ◌∙◌, ap, arith}
+use Rattle.std.proofs.Common.{◌≡◌, ℕ, zero, suc, ◌+◌, ◌-◌, ◌*◌, ◌<◌, ◌≤◌, min, List, [], ◌∷◌, ◌++◌, length, take, drop, map, flat_map, Bool, true, false, cond, ◌==◌, Option, None, Some, sym, ◌∙◌, ap, arith}
 use Rattle.std.specs.Prelude.{slice_range}
 use Rattle.std.specs.List.{All, filter_map, cons_option, range_with_len}
 use Rattle.std.proofs.lemmas.List.{length-take, length-drop, length-map, drop-drop, take_min, drop_min}
@@ -8,7 +8,8 @@ use Rattle.std.proofs.lemmas.List.Elements.{All-nil, All-cons, All-take, All-dro
 use Rattle.dft_netlist.specs.declared.ids.InstanceId.{InstanceId}
 use Rattle.dft_config.specs.Cycles.{part_length}
 use Rattle.dft_rules.specs.declared.judged.Judged.{Judged}
-use Rattle.dft_stitch.specs.Chains.{blocks, chain_lengths, chains_of, cell_in, cells_in, scanned_cells, domain_of, if_domain}
+use Rattle.dft_stitch.specs.declared.places.CellClock.{CellClock}
+use Rattle.dft_stitch.specs.Chains.{blocks, chain_lengths, chains_of, cell_in, cells_in, scanned_cells, clock_of, group_of, if_group}
 use Rattle.dft_stitch.specs.Tables.{AreBelow}
 use Rattle.dft_stitch.proofs.RangeLemmas.{begun, ended, grown}
 use Rattle.dft_stitch.proofs.ChainLimits.{blocks_count}
@@ -75,24 +76,24 @@ chain_count xs chains = blocks_count (chain_lengths (length xs) chains) xs ∙ l
 
 -- ---- each scanned cell is an instance
 
-below_option : (count d i : ℕ) (o : Option ℕ) (xs : List InstanceId) → i < count → AreBelow count xs → AreBelow count (cons_option (if_domain d o (record { 0 = i })) xs)
-below_option count d i None xs less all = all
-below_option count d i (Some e) xs less all = by (e == d)
+below_option : (count domains g i : ℕ) (o : Option CellClock) (xs : List InstanceId) → i < count → AreBelow count xs → AreBelow count (cons_option (if_group domains g o (record { 0 = i })) xs)
+below_option count domains g i None xs less all = all
+below_option count domains g i (Some clock) xs less all = by (group_of domains clock == g)
   where
     by : (t : Bool) → AreBelow count (cons_option (cond t (Some (record { 0 = i })) None) xs)
     by true = All-cons (λ (cell : InstanceId). cell.0 < count) (record { 0 = i }) xs less all
     by false = all
 
-below_range : (count : ℕ) (verdicts : List (Option Judged)) (d k m : ℕ) → k + m ≤ count → AreBelow count (filter_map (cell_in verdicts d) (range_with_len k m))
-below_range count verdicts d k zero le = All-nil (λ (cell : InstanceId). cell.0 < count)
-below_range count verdicts d k (suc m) le =
-    below_option count d k (domain_of verdicts (record { 0 = k })) (filter_map (cell_in verdicts d) (range_with_len (k + 1) m)) (omega arith) (below_range count verdicts d (k + 1) m (omega arith))
+below_range : (count : ℕ) (verdicts : List (Option Judged)) (domains g k m : ℕ) → k + m ≤ count → AreBelow count (filter_map (cell_in verdicts domains g) (range_with_len k m))
+below_range count verdicts domains g k zero le = All-nil (λ (cell : InstanceId). cell.0 < count)
+below_range count verdicts domains g k (suc m) le =
+    below_option count domains g k (clock_of verdicts (record { 0 = k })) (filter_map (cell_in verdicts domains g) (range_with_len (k + 1) m)) (omega arith) (below_range count verdicts domains g (k + 1) m (omega arith))
 
-below_domains : (verdicts : List (Option Judged)) (d m : ℕ) → AreBelow (length verdicts) (flat_map (cells_in verdicts) (range_with_len d m))
-below_domains verdicts d zero = All-nil (λ (cell : InstanceId). cell.0 < length verdicts)
-below_domains verdicts d (suc m) =
-    All-append (λ (cell : InstanceId). cell.0 < length verdicts) (cells_in verdicts d) (flat_map (cells_in verdicts) (range_with_len (d + 1) m))
-    (below_range (length verdicts) verdicts d 0 (length verdicts) (omega arith)) (below_domains verdicts (d + 1) m)
+below_groups : (verdicts : List (Option Judged)) (domains g m : ℕ) → AreBelow (length verdicts) (flat_map (cells_in verdicts domains) (range_with_len g m))
+below_groups verdicts domains g zero = All-nil (λ (cell : InstanceId). cell.0 < length verdicts)
+below_groups verdicts domains g (suc m) =
+    All-append (λ (cell : InstanceId). cell.0 < length verdicts) (cells_in verdicts domains g) (flat_map (cells_in verdicts domains) (range_with_len (g + 1) m))
+    (below_range (length verdicts) verdicts domains g 0 (length verdicts) (omega arith)) (below_groups verdicts domains (g + 1) m)
 
 pub cells_below : (verdicts : List (Option Judged)) (domains : ℕ) → AreBelow (length verdicts) (scanned_cells verdicts domains)
-cells_below verdicts domains = below_domains verdicts 0 domains
+cells_below verdicts domains = below_groups verdicts domains 0 (2 * domains)

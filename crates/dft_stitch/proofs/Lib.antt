@@ -5,7 +5,10 @@ pub mod TableLemmas
 pub mod PlanLemmas
 pub mod EvenLemmas
 pub mod LengthLemmas
+pub mod CountLemmas
+pub mod LockupLemmas
 pub mod OnceLemmas
+pub mod OrderLemmas
 mod WorkedPlan
 pub mod CellPlaces
 pub mod PlannedLemmas

@@ -13,7 +13,7 @@ use Rattle.dft_stitch.specs.declared.error.StitchError.{StitchError}
 use Rattle.dft_stitch.specs.declared.error.StitchError.TheVariants.{TooMany}
 use Rattle.dft_stitch.specs.declared.limits.TheConstants.{MAX_CELLS, MAX_CYCLES, MAX_VARIABLES}
 use Rattle.dft_stitch.specs.declared.places.LockupPlace.{LockupPlace}
-use Rattle.dft_stitch.specs.Chains.{cells_of, chains_of, cycles_of, lockups_of, plan_of}
+use Rattle.dft_stitch.specs.Chains.{cells_of, chains_of, cycles_of, heads_of, lockups_of, plan_of}
 use Rattle.dft_stitch.specs.Limits.{IsRefusal, refusal, refusal_of}
 use Rattle.dft_stitch.specs.Plans.{Plan}
 
@@ -43,13 +43,15 @@ refused_for n config cells error same h = let P : List InstanceId → Type 0 = �
 
 -- ---- the plan
 
-pub plan_is : (n : Netlist) (config : Config) (verdicts : List (Option Judged)) (cells : List InstanceId) (chains : List (List InstanceId)) (lockups : List LockupPlace) (cycles : ℕ) → verdicts ≡ judgements n config →
-    cells ≡ cells_of n config → chains ≡ chains_of cells config.chains → lockups ≡ lockups_of verdicts chains → cycles ≡ cycles_of config (length cells) →
-    record { chains = chains; lockups = lockups; cycles = cycles } ≡ plan_of n config
-plan_is n config verdicts cells chains lockups cycles v s h l y =
+pub plan_is : (n : Netlist) (config : Config) (verdicts : List (Option Judged)) (cells : List InstanceId) (chains : List (List InstanceId)) (heads : List Bool) (lockups : List LockupPlace) (cycles : ℕ) → verdicts ≡ judgements n config →
+    cells ≡ cells_of n config → chains ≡ chains_of cells config.chains → heads ≡ heads_of verdicts chains → lockups ≡ lockups_of verdicts chains → cycles ≡ cycles_of config (length cells) →
+    record { chains = chains; heads = heads; lockups = lockups; cycles = cycles } ≡ plan_of n config
+plan_is n config verdicts cells chains heads lockups cycles v s h d l y =
     let all = chains_of (cells_of n config) config.chains in
     let e : chains ≡ all = h ∙ ap (λ (xs : List InstanceId). chains_of xs config.chains) s in
+    let b : heads ≡ heads_of (judgements n config) all = d ∙ ap (λ (vs : List (Option Judged)). heads_of vs chains) v ∙ ap (heads_of (judgements n config)) e in
     let f : lockups ≡ lockups_of (judgements n config) all = l ∙ ap (λ (vs : List (Option Judged)). lockups_of vs chains) v ∙ ap (lockups_of (judgements n config)) e in
     let g : cycles ≡ cycles_of config (length (cells_of n config)) = y ∙ ap (λ (xs : List InstanceId). cycles_of config (length xs)) s in
-    let made : List (List InstanceId) → List LockupPlace → ℕ → Plan = λ xs ys z. record { chains = xs; lockups = ys; cycles = z } in
-    ap (λ (xs : List (List InstanceId)). made xs lockups cycles) e ∙ ap (λ (ys : List LockupPlace). made all ys cycles) f ∙ ap (made all (lockups_of (judgements n config) all)) g
+    let made : List (List InstanceId) → List Bool → List LockupPlace → ℕ → Plan = λ xs hs ys z. record { chains = xs; heads = hs; lockups = ys; cycles = z } in
+    ap (λ (xs : List (List InstanceId)). made xs heads lockups cycles) e ∙ ap (λ (hs : List Bool). made all hs lockups cycles) b ∙ ap (λ (ys : List LockupPlace). made all (heads_of (judgements n config) all) ys cycles) f
+    ∙ ap (made all (heads_of (judgements n config) all) (lockups_of (judgements n config) all)) g

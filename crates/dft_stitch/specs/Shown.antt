@@ -6,7 +6,7 @@ use Rattle.dft_stitch.specs.declared.places.CellPlace.{CellPlace}
 use Rattle.dft_stitch.specs.Plans.{Plan, cell_at}
 
 abbrev pub plan_in : Inside → Plan
-plan_in c = record { chains = c.chains.items; lockups = c.lockups.items; cycles = c.cycles }
+plan_in c = record { chains = c.chains.items; heads = c.heads.items; lockups = c.lockups.items; cycles = c.cycles }
 
 -- the table tells where each cell stands, and misses none
 pub record Knows (chains : List (List InstanceId)) (places : List (Option CellPlace)) : Type 0 where

@@ -1,5 +1,5 @@
-ghost use Rattle.std.specs.Prelude.{◌≡◌, ◌<◌, ℕ, IfNone, IfSome, None, Some, length, slice_get, slice_index_or};
-ghost use Rattle.dft_stitch.specs.Plans.{cell_at};
+ghost use Rattle.std.specs.Prelude.{◌≡◌, ◌<◌, ℕ, false, IfNone, IfSome, None, Some, length, slice_get, slice_index_or};
+ghost use Rattle.dft_stitch.specs.Plans.{cell_at, falling_head};
 
 use crate::cells::Cells;
 use crate::places::{CellPlace, LockupPlace};
@@ -10,6 +10,8 @@ use std::marker::Model;
 #[derive(Debug, Drop)]
 pub struct Chains {
     pub(crate) chains: Vec<Cells>,
+    // Whether the first cell of each chain is falling.
+    pub(crate) heads: Vec<bool>,
     pub(crate) lockups: Vec<LockupPlace>,
     // The place of each instance, by its number.
     pub(crate) places: Vec<Option<CellPlace>>,
@@ -37,6 +39,13 @@ impl Chains {
         self.chains[usize::from(c)].as_slice()
     }
 
+    /// Whether the first cell of this chain is falling; a chain that is not there has none.
+    pub fn falling_head(&self, c: u16) -> bool
+        ensures { result ≡ falling_head self.now c }
+    {
+        head_at(&self.heads, c)
+    }
+
     /// How many chains there are.
     pub fn count(&self) -> u16
         ensures { result ≡ length self.now.chains }
@@ -59,11 +68,21 @@ impl Chains {
         place_at(&self.places, cell)
     }
 
-    /// The lock-ups between cells of different domains, chain by chain and by their places.
+    /// The lock-ups between cells of one edge and different domains, chain by chain and by their places.
     pub fn lockups(&self) -> &[LockupPlace]
         ensures { result.now ≡ self.now.lockups }
     {
         &self.lockups
+    }
+}
+
+// What the list has for this chain, and no past its end.
+fn head_at(heads: &[bool], c: u16) -> bool
+    ensures { result ≡ slice_index_or heads.now c false }
+{
+    match heads.get(usize::from(c)) {
+        Some(head) => *head,
+        None => false,
     }
 }
 

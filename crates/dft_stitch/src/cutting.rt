@@ -5,11 +5,13 @@ ghost use Rattle.dft_config.specs.Cycles.{part_length};
 ghost use Rattle.dft_stitch.specs.Chains as spec;
 
 use crate::cells::Cells;
+use crate::places::CellClock;
 use dft_netlist::InstanceId;
 use dft_rules::{Judged, Verdicts};
 use std::alloc::{AllocError, Global};
 
-// The cells that are scanned, domain by domain and by instance order.
+// The cells that are scanned, group by group and by instance order: first the groups of the falling cells by their domains,
+// then those of the rising ones.
 pub(crate) fn scanned_cells(
     alloc: Global,
     verdicts: &Verdicts,
@@ -20,8 +22,8 @@ pub(crate) fn scanned_cells(
     ensures { IfOk result (λ cells. cells.items ≡ spec.scanned_cells verdicts.now domains) }
 {
     let mut cells = Vec::with_capacity(alloc, count as usize)?;
-    for domain in 0..domains {
-        add_cells(&mut cells, verdicts, count, domain)?;
+    for group in 0..2 * u16::from(domains) {
+        add_cells(&mut cells, verdicts, count, domains, group)?;
     }
     Ok(cells)
 }
@@ -30,13 +32,14 @@ fn add_cells(
     cells: &mut Vec<InstanceId>,
     verdicts: &Verdicts,
     count: u32,
-    domain: u8,
+    domains: u8,
+    group: u16,
 ) -> Result<(), AllocError>
     requires { length verdicts.now ≡ count }
-    ensures { OnOk result (cells.new.items ≡ cells.old.items ++ spec.cells_in verdicts.now domain) }
+    ensures { OnOk result (cells.new.items ≡ cells.old.items ++ spec.cells_in verdicts.now domains group) }
 {
     for number in 0..count {
-        add(cells, cell_in(verdicts, domain, InstanceId(number)))?;
+        add(cells, cell_in(verdicts, domains, group, InstanceId(number)))?;
     }
     Ok(())
 }
@@ -51,14 +54,36 @@ pub(crate) fn add<T: Drop>(items: &mut Vec<T>, item: Option<T>) -> Result<(), Al
     Ok(())
 }
 
-// The cell, where it is scanned in this domain.
-fn cell_in(verdicts: &Verdicts, domain: u8, cell: InstanceId) -> Option<InstanceId>
-    ensures { result ≡ spec.cell_in verdicts.now domain cell.0 }
+// The cell, where it is scanned in this group.
+fn cell_in(verdicts: &Verdicts, domains: u8, group: u16, cell: InstanceId) -> Option<InstanceId>
+    ensures { result ≡ spec.cell_in verdicts.now domains group cell.0 }
 {
-    if domain_of(verdicts, cell)? == domain {
+    if group_of(domains, clock_of(verdicts, cell)?) == group {
         Some(cell)
     } else {
         None
+    }
+}
+
+// The group of the cells with this clock.
+fn group_of(domains: u8, clock: CellClock) -> u16
+    ensures { result ≡ spec.group_of domains clock }
+{
+    let domain = u16::from(clock.domain);
+    if clock.falling {
+        domain
+    } else {
+        u16::from(domains) + domain
+    }
+}
+
+// The clock of a cell, where it is scanned.
+pub(crate) fn clock_of(verdicts: &Verdicts, cell: InstanceId) -> Option<CellClock>
+    ensures { result ≡ spec.clock_of verdicts.now cell }
+{
+    match verdicts.of(cell) {
+        Some(Judged::Scanned { domain, falling }) => Some(CellClock { domain, falling }),
+        _ => None,
     }
 }
 
@@ -67,7 +92,7 @@ pub fn domain_of(verdicts: &Verdicts, cell: InstanceId) -> Option<u8>
     ensures { result ≡ spec.domain_of verdicts.now cell }
 {
     match verdicts.of(cell) {
-        Some(Judged::Scanned { domain }) => Some(domain),
+        Some(Judged::Scanned { domain, .. }) => Some(domain),
         _ => None,
     }
 }

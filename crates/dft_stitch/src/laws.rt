@@ -1,6 +1,6 @@
 //! Laws about chains, as contracts of functions that do nothing.
 
-ghost use Rattle.dft_stitch.specs.Laws.{CellsAreScanned, CellsStandOnce, ChainsAreEven, ChainsFit, ChainsHoldCells};
+ghost use Rattle.dft_stitch.specs.Laws.{CellsAreScanned, CellsStandOnce, ChainsAreEven, ChainsFit, ChainsHoldCells, FallingFirst};
 
 /// The cells of the chains, one chain after the other, are the scanned cells in their order.
 pub fn chains_hold_cells()
@@ -20,6 +20,11 @@ pub fn cells_stand_once()
 /// Each cell of the chains is a scanned flip-flop.
 pub fn cells_are_scanned()
     ensures { CellsAreScanned }
+{}
+
+/// Along a chain no falling cell stands behind a rising one.
+pub fn falling_cells_first()
+    ensures { FallingFirst }
 {}
 
 /// Each chain that is planned for a design fits a load.

@@ -5,6 +5,7 @@ mod cells;
 mod chains;
 mod cutting;
 mod error;
+mod heads;
 mod laws;
 mod limits;
 mod lockups;
@@ -19,8 +20,9 @@ pub use cutting::domain_of;
 pub use error::{Counted, StitchError};
 pub use laws::{
     cells_are_scanned, cells_stand_once, chains_are_even, chains_fit_loads, chains_hold_cells,
+    falling_cells_first,
 };
 pub use limits::{MAX_CELLS, MAX_CYCLES, MAX_VARIABLES};
-pub use places::{CellPlace, LockupPlace};
+pub use places::{CellClock, CellPlace, LockupPlace};
 pub use planned::{Planned, PrepareError};
 pub use planning::plan;

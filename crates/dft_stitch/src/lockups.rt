@@ -1,12 +1,12 @@
-//! Lock-ups between cells of different domains.
+//! Lock-ups between cells of one edge and different domains.
 
 ghost use Rattle.std.specs.Prelude.{◌≡◌, ◌≤◌, ◌<◌, ◌++◌, IfOk, OnOk, length};
 ghost use Rattle.std.specs.List.{All, filter_map, range_with_len};
 ghost use Rattle.dft_stitch.specs.Chains as spec;
 
 use crate::cells::Cells;
-use crate::cutting::{add, domain_of};
-use crate::places::LockupPlace;
+use crate::cutting::{add, clock_of};
+use crate::places::{CellClock, LockupPlace};
 use dft_netlist::InstanceId;
 use dft_rules::Verdicts;
 use std::alloc::{AllocError, Global};
@@ -43,7 +43,7 @@ fn add_lockups(
     Ok(())
 }
 
-// The lock-up after a place, if the next cell has another domain.
+// The lock-up after a place, if the next cell has the same edge and another domain.
 fn lockup_after(
     verdicts: &Verdicts,
     chain: u16,
@@ -53,24 +53,32 @@ fn lockup_after(
     requires { place < 65536 }
     ensures { result ≡ spec.lockup_after verdicts.now chain cells.now place }
 {
-    let domain = domain_at(verdicts, cells, place)?;
-    let next = domain_at(verdicts, cells, place + 1)?;
-    if domain == next {
-        None
-    } else {
+    let clock = clock_at(verdicts, cells, place)?;
+    let next = clock_at(verdicts, cells, place + 1)?;
+    if needs_lockup(clock, next) {
         Some(LockupPlace {
             chain,
             after: place as u16,
-            domain,
+            domain: clock.domain,
+            high: clock.falling,
         })
+    } else {
+        None
     }
 }
 
-fn domain_at(verdicts: &Verdicts, cells: &[InstanceId], place: usize) -> Option<u8>
-    ensures { result ≡ spec.domain_at verdicts.now cells.now place }
+fn needs_lockup(clock: CellClock, next: CellClock) -> bool
+    ensures { result ≡ spec.needs_lockup clock next }
+{
+    clock.falling == next.falling && clock.domain != next.domain
+}
+
+// The clock of the cell at a place of a chain.
+pub(crate) fn clock_at(verdicts: &Verdicts, cells: &[InstanceId], place: usize) -> Option<CellClock>
+    ensures { result ≡ spec.clock_at verdicts.now cells.now place }
 {
     match cells.get(place) {
-        Some(cell) => domain_of(verdicts, *cell),
+        Some(cell) => clock_of(verdicts, *cell),
         None => None,
     }
 }

@@ -8,6 +8,7 @@ ghost use Rattle.dft_stitch.specs.Limits.{IsRefusal, refusal, refusal_of};
 use crate::chains::Chains;
 use crate::cutting::{cut, longest_chain, scanned_cells};
 use crate::error::{Counted, StitchError};
+use crate::heads::find_heads;
 use crate::limits::{MAX_CELLS, MAX_CYCLES, MAX_VARIABLES};
 use crate::lockups::find_lockups;
 use crate::table::find_places;
@@ -16,9 +17,9 @@ use dft_netlist::Design;
 use dft_rules::Verdicts;
 use std::alloc::Global;
 
-/// Plans the chains of a design that is judged so: its scanned cells, by domain in the configuration's order and then by
-/// instance order, are cut into as many blocks as there are chains. It is refused where the cells, then the cycles of a
-/// load, then the variables of the channels pass their limits.
+/// Plans the chains of a design that is judged so: its scanned cells, first the falling ones and then the rising ones, each
+/// by domain in the configuration's order and then by instance order, are cut into as many blocks as there are chains. It is
+/// refused where the cells, then the cycles of a load, then the variables of the channels pass their limits.
 pub fn plan(
     alloc: Global,
     design: &Design,
@@ -36,10 +37,12 @@ pub fn plan(
     let cells = scanned_cells(alloc, verdicts, count as u32, domains)?;
     let cycles = cycles_within(config, cells.len())?;
     let chains = cut(alloc, &cells, config.chains())?;
+    let heads = find_heads(alloc, verdicts, &chains)?;
     let lockups = find_lockups(alloc, verdicts, &chains)?;
     let places = find_places(alloc, count, &chains)?;
     Ok(Chains {
         chains,
+        heads,
         lockups,
         places,
         cycles,

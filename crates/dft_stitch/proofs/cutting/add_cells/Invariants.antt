@@ -6,4 +6,4 @@ use Rattle.dft_stitch.proofs.cutting.add_cells.Given as goal
 
 abbrev pub invariant-loop-number : goal.invariant-loop-number
 invariant-loop-number l =
-    l.cells.items ++ filter_map (cell_in l.verdicts l.fn.domain) (range_with_len l.number (l.fn.count - l.number)) ≡ l.fn.cells.items ++ cells_in l.verdicts l.fn.domain
+    l.cells.items ++ filter_map (cell_in l.verdicts l.fn.domains l.fn.group) (range_with_len l.number (l.fn.count - l.number)) ≡ l.fn.cells.items ++ cells_in l.verdicts l.fn.domains l.fn.group

@@ -5,7 +5,7 @@ use Rattle.std.proofs.lemmas.Result.{err_from_is_err_and}
 use Rattle.dft_netlist.specs.declared.ids.InstanceId.{InstanceId}
 use Rattle.dft_rules.specs.declared.judged.Judged.{Judged}
 use Rattle.dft_rules.specs.Rules.{judged}
-use Rattle.dft_stitch.specs.Chains.{cells_of, chain_lengths, chains_of, cycles_of, lockups_of, scanned_cells}
+use Rattle.dft_stitch.specs.Chains.{cells_of, chain_lengths, chains_of, cycles_of, heads_of, lockups_of, scanned_cells}
 use Rattle.dft_stitch.specs.Limits.{IsRefusal, refusal_of}
 use Rattle.dft_stitch.specs.Shown.{Knows}
 use Rattle.dft_stitch.specs.Tables.{AreBelow}
@@ -29,14 +29,14 @@ cut-requires-clause-few c =
 
 pub find_lockups-requires-clause-few : goal.find_lockups-requires-clause-few
 find_lockups-requires-clause-few c =
-    let is : c.deref-2.result.now ≡ chains_of c.deref.result.now c.args.config.now.chains = c.deref-2.ensures.value ∙ (rw c.chains.ensures at c.in_ok-chains.ensures) in
+    let is : c.deref-3.result.now ≡ chains_of c.deref.result.now c.args.config.now.chains = c.deref-3.ensures.value ∙ (rw c.chains.ensures at c.in_ok-chains.ensures) in
     let count = chain_count c.deref.result.now c.args.config.now.chains in
     omega (arith, ap length is, count, c.soundness.ensures.chains.1)
 
 pub find_lockups-requires-clause-short : goal.find_lockups-requires-clause-short
 find_lockups-requires-clause-short c =
     let cells = c.deref.result.now in
-    let is : c.deref-2.result.now ≡ chains_of cells c.args.config.now.chains = c.deref-2.ensures.value ∙ (rw c.chains.ensures at c.in_ok-chains.ensures) in
+    let is : c.deref-3.result.now ≡ chains_of cells c.args.config.now.chains = c.deref-3.ensures.value ∙ (rw c.chains.ensures at c.in_ok-chains.ensures) in
     let few = few_cells c.args.config.now _ c.in_ok-cycles.ensures.fits in
     let le : length cells ≤ 65536 = omega (arith, few, ap length c.deref.ensures.value) in
     let P : List (List InstanceId) → Type 0 = λ chains. All (λ (block : List InstanceId). length block ≤ 65536) chains in
@@ -44,14 +44,14 @@ find_lockups-requires-clause-short c =
 
 pub find_places-requires-clause-few : goal.find_places-requires-clause-few
 find_places-requires-clause-few c =
-    let is : c.deref-3.result.now ≡ chains_of c.deref.result.now c.args.config.now.chains = c.deref-3.ensures.value ∙ (rw c.chains.ensures at c.in_ok-chains.ensures) in
+    let is : c.deref-4.result.now ≡ chains_of c.deref.result.now c.args.config.now.chains = c.deref-4.ensures.value ∙ (rw c.chains.ensures at c.in_ok-chains.ensures) in
     let count = chain_count c.deref.result.now c.args.config.now.chains in
     omega (arith, ap length is, count, c.soundness.ensures.chains.1)
 
 pub find_places-requires-clause-short : goal.find_places-requires-clause-short
 find_places-requires-clause-short c =
     let cells = c.deref.result.now in
-    let is : c.deref-3.result.now ≡ chains_of cells c.args.config.now.chains = c.deref-3.ensures.value ∙ (rw c.chains.ensures at c.in_ok-chains.ensures) in
+    let is : c.deref-4.result.now ≡ chains_of cells c.args.config.now.chains = c.deref-4.ensures.value ∙ (rw c.chains.ensures at c.in_ok-chains.ensures) in
     let few = few_cells c.args.config.now _ c.in_ok-cycles.ensures.fits in
     let le : length cells ≤ 65536 = omega (arith, few, ap length c.deref.ensures.value) in
     let P : List (List InstanceId) → Type 0 = λ chains. All (λ (block : List InstanceId). length block ≤ 65536) chains in
@@ -62,7 +62,7 @@ find_places-requires-clause-below c =
     let n = c.args.design.now in
     let v = c.args.verdicts.now in
     let cells = c.deref.result.now in
-    let is : c.deref-3.result.now ≡ chains_of cells c.args.config.now.chains = c.deref-3.ensures.value ∙ (rw c.chains.ensures at c.in_ok-chains.ensures) in
+    let is : c.deref-4.result.now ≡ chains_of cells c.args.config.now.chains = c.deref-4.ensures.value ∙ (rw c.chains.ensures at c.in_ok-chains.ensures) in
     let scanned : cells ≡ scanned_cells v (length c.args.config.now.domains) = c.deref.ensures.value ∙ c.in_ok-cells.ensures ∙ ap (λ (xs : List (List ℕ)). scanned_cells v (length xs)) c.domains.ensures in
     let size : length v ≡ length c.instances-count.result.now = ap length c.requires.verdicts ∙ length-map-range_with_len (judged n c.args.config.now) 0 (length n.instances) ∙ sym (ap length c.instances-count.ensures.instances) in
     let below : AreBelow (length c.instances-count.result.now) cells = (
@@ -78,7 +78,7 @@ invariant_of-result c =
     let P : List (List InstanceId) → Type 0 = λ chains. Knows chains c.in_ok-places.places.items in
     record {
       few = omega (arith, ap length (rw c.chains.ensures at c.in_ok-chains.ensures), count, c.soundness.ensures.chains.1);
-      places = subst P c.deref-3.ensures.value c.in_ok-places.ensures;
+      places = subst P c.deref-4.ensures.value c.in_ok-places.ensures;
     }
 
 pub returns-clause-plan : goal.returns-clause-plan
@@ -89,8 +89,9 @@ returns-clause-plan c =
     let cells = c.in_ok-cells.cells.items in
     let scanned : cells ≡ cells_of n config = c.in_ok-cells.ensures ∙ ap (λ (xs : List (List ℕ)). scanned_cells v (length xs)) c.domains.ensures ∙ ap (λ (xs : List (Option Judged)). scanned_cells xs (length config.domains)) c.requires.verdicts in
     let cut : c.in_ok-chains.chains.items ≡ chains_of cells config.chains = (rw c.chains.ensures at c.in_ok-chains.ensures) ∙ ap (λ (xs : List InstanceId). chains_of xs config.chains) c.deref.ensures.value in
-    let lockups : c.in_ok-lockups.lockups.items ≡ lockups_of v c.in_ok-chains.chains.items = c.in_ok-lockups.ensures ∙ ap (lockups_of v) c.deref-2.ensures.value in
-    plan_is n config v cells c.in_ok-chains.chains.items c.in_ok-lockups.lockups.items c.in_ok-cycles.cycles c.requires.verdicts scanned cut lockups (c.in_ok-cycles.ensures.cycles ∙ ap (cycles_of config) (c.len.ensures ∙ c.in_ok-cells.cells.ok.0))
+    let lockups : c.in_ok-lockups.lockups.items ≡ lockups_of v c.in_ok-chains.chains.items = c.in_ok-lockups.ensures ∙ ap (lockups_of v) c.deref-3.ensures.value in
+    let heads : c.in_ok-heads.heads.items ≡ heads_of v c.in_ok-chains.chains.items = c.in_ok-heads.ensures ∙ ap (heads_of v) c.deref-2.ensures.value in
+    plan_is n config v cells c.in_ok-chains.chains.items c.in_ok-heads.heads.items c.in_ok-lockups.lockups.items c.in_ok-cycles.cycles c.requires.verdicts scanned cut heads lockups (c.in_ok-cycles.ensures.cycles ∙ ap (cycles_of config) (c.len.ensures ∙ c.in_ok-cells.cells.ok.0))
 
 pub returns-clause-fits : goal.returns-clause-fits
 returns-clause-fits c =
