@@ -65,7 +65,7 @@ fn time_chains(
 {
     let lengths = [cells; 16];
     let start = Instant::now(rt)?;
-    let columns = equations(alloc, config, &lengths, 4096)?.columns();
+    let columns = equations(alloc, config, &lengths, &[false; 16], 4096)?.columns();
     let took = start.elapsed(rt)?.as_micros();
     eprintln!(rt; "16 chains of {cells} cells, {columns} columns: {took} us")
 }

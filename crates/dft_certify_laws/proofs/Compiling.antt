@@ -3,6 +3,7 @@ use Rattle.std.proofs.Common.{◌≡◌, length, map, None, refl, ap, subst, ◌
 use Rattle.dft_equations.specs.LoadRows.{LoadRows}
 use Rattle.dft_report_reader.specs.Reading.{report_of}
 use Rattle.dft_stitch.specs.Chains.{plan_of}
+use Rattle.dft_stitch.specs.Plans.{falling_head}
 use Rattle.dft_encode.proofs.OneLemmas.{equations_one}
 use Rattle.dft_compile.specs.Reports.{compile_report}
 use Rattle.dft_load_laws.specs.Loading.{rows_of}
@@ -19,7 +20,7 @@ pub compiled_report_is_read : CompiledReportIsRead
 compiled_report_is_read n config cubes t rows is ready given are =
     let p = is.placing in
     let report = compile_report n config (rows_of n config p.rows) cubes p.placed in
-    let same = equations_one config.ring (map (λ cells. length cells) (plan_of n config).chains) (plan_of n config).cycles p.rows rows p.equations are in (
+    let same = equations_one config.ring (map (λ cells. length cells) (plan_of n config).chains) (falling_head (plan_of n config)) (plan_of n config).cycles p.rows rows p.equations are in (
       report,
       ap report_of is.texts.report ∙ is.told,
       subst (λ (r : LoadRows). certify_refusal n config.ring (rows_of n config r) r.columns cubes report ≡ None) same (compiled_certifies n config cubes p ready given),

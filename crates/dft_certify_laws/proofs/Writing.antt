@@ -19,6 +19,7 @@ use Rattle.dft_config.specs.Range.{IsInRange}
 use Rattle.dft_equations.specs.LoadRows.{LoadRows}
 use Rattle.dft_stitch.specs.Chains.{plan_of}
 use Rattle.dft_stitch.proofs.OnceLemmas.{cells_once, cells_scanned}
+use Rattle.dft_stitch.specs.Plans.{falling_head}
 use Rattle.dft_cubes.specs.declared.cube.Cube.{Cube}
 use Rattle.dft_cubes.specs.declared.cube.Merged.{Merged}
 use Rattle.dft_cubes.specs.Laws.{AreCubes}
@@ -204,7 +205,7 @@ all_certified n config rows window cubes placed patterns sound range are given p
       cube,
       named,
       told_by n config.ring row rows.columns window cube step.told step.old step.new own.0.outcome lines sound
-          (λ j g at_j r has. row_wide (plan_of n config).chains rows g.0 r (rows_are config.ring (plan_of n config).chains (plan_of n config).cycles rows are (stand_apart n config range)) has)
+          (λ j g at_j r has. row_wide (plan_of n config).chains rows g.0 r (rows_are config.ring (plan_of n config).chains (falling_head (plan_of n config)) (plan_of n config).cycles rows are (stand_apart n config range)) has)
           (given.each k cube there).cells.once own.2.says step.places (ap (λ (e : CubeReport). e.outcome) same ∙ is),
     )
 

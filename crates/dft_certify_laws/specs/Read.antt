@@ -4,6 +4,7 @@ use Rattle.dft_netlist.specs.Netlist.{Netlist}
 use Rattle.dft_config.specs.Config.{Config}
 use Rattle.dft_equations.specs.LoadRows.{AreLoadEquations, LoadRows}
 use Rattle.dft_stitch.specs.Chains.{plan_of}
+use Rattle.dft_stitch.specs.Plans.{falling_head}
 use Rattle.dft_cubes.specs.declared.cube.Cube.{Cube}
 use Rattle.dft_cubes.specs.Laws.{AreCubes}
 use Rattle.dft_report.specs.declared.report.Report.{Report}
@@ -19,5 +20,5 @@ use Rattle.dft_certify.specs.Certifying.{certify_refusal}
 abbrev pub CompiledReportIsRead : Type 0
 CompiledReportIsRead =
     (n : Netlist) (config : Config) (cubes : List Cube) (t : CompileTexts) (rows : LoadRows) → IsCompileOf n config cubes t → IsReady n config → AreCubes n config cubes →
-    AreLoadEquations config.ring (map (λ cells. length cells) (plan_of n config).chains) (plan_of n config).cycles rows →
+    AreLoadEquations config.ring (map (λ cells. length cells) (plan_of n config).chains) (falling_head (plan_of n config)) (plan_of n config).cycles rows →
     (report : Report) × (report_of t.report.items ≡ Ok report) × (certify_refusal n config.ring (rows_of n config rows) rows.columns cubes report ≡ None)

@@ -49,6 +49,7 @@ use Rattle.dft_encode.specs.Compiled.{Placing}
 use Rattle.dft_encode.proofs.PlacingLemmas.{place_count}
 use Rattle.dft_rules.proofs.Passed.{domain_is_named}
 use Rattle.dft_stitch.proofs.ChainLimits.{limits}
+use Rattle.dft_stitch.specs.Plans.{falling_head}
 use Rattle.dft_compile.specs.Named.{AreCubesNamed}
 use Rattle.dft_compile.specs.Reports.{compile_report}
 use Rattle.dft_compile.specs.Texts.{report_text}
@@ -225,7 +226,7 @@ module _ (n : Netlist) (config : Config) (cubes : List Cube) (range : IsInRange 
       let verdicts = judgements n config in
       let chain_count = few_chains n config range in
       let limit = limits n config fits in
-      let rows = rows_are config.ring chains (plan_of n config).cycles p.rows p.equations apart in
+      let rows = rows_are config.ring chains (falling_head (plan_of n config)) (plan_of n config).cycles p.rows p.equations apart in
       let cell_count = count_by-le-length is_scanned verdicts in
       let judged = judgement_count n config in
       record {

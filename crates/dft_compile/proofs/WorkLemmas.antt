@@ -6,7 +6,7 @@ use Rattle.dft_config.specs.Config.{Config}
 use Rattle.dft_equations.specs.LoadRows.{LoadRows, AreLoadEquations}
 use Rattle.dft_stitch.specs.Chains.{plan_of}
 use Rattle.dft_stitch.specs.Limits.{refusal}
-use Rattle.dft_stitch.specs.Plans.{Plan}
+use Rattle.dft_stitch.specs.Plans.{Plan, falling_head}
 use Rattle.dft_cubes.specs.declared.cube.Cube.{Cube}
 use Rattle.dft_cubes.specs.declared.cube.Merged.{Merged}
 use Rattle.dft_merge.specs.declared.placed.Placed.{Placed}
@@ -97,12 +97,12 @@ pub record IsPlaced (n : Netlist) (config : Config) (cubes : List Cube) (rows : 
 
 -- what a new merger placed is one
 pub placed_by : (l : LoadPlan) (cubes : List Cube) (m : Merging) (items placed : List Placed) (new : List Merged) → l.plan ≡ plan_of l.design l.config →
-    AreLoadEquations l.config.ring (map (λ cells. length cells) l.plan.chains) l.plan.cycles l.rows → m ≡ record { loads = l; window = l.config.window; patterns = [] } → placed ≡ items →
+    AreLoadEquations l.config.ring (map (λ cells. length cells) l.plan.chains) (falling_head l.plan) l.plan.cycles l.rows → m ≡ record { loads = l; window = l.config.window; patterns = [] } → placed ≡ items →
     PlacesAll (columns_in m) (rows_in m) m.window m.patterns cubes items new → IsPlaced l.design l.config cubes l.rows placed new
 placed_by l cubes m items placed new planned equations is same places = record {
   placing = record {
     rows = l.rows;
-    equations = subst (λ (p : Plan). AreLoadEquations l.config.ring (map (λ (cells : List InstanceId). length cells) p.chains) p.cycles l.rows) planned equations;
+    equations = subst (λ (p : Plan). AreLoadEquations l.config.ring (map (λ (cells : List InstanceId). length cells) p.chains) (falling_head p) p.cycles l.rows) planned equations;
     placed = items;
     merged = new;
     is = places_of l m cubes items new planned is places;

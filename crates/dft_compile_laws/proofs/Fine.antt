@@ -13,6 +13,7 @@ use Rattle.dft_config.specs.Config.{Config}
 use Rattle.dft_config.specs.Ring.{Table}
 use Rattle.dft_stitch.specs.Chains.{plan_of}
 use Rattle.dft_config.specs.Segments.{sent_mask}
+use Rattle.dft_stitch.specs.Plans.{falling_head}
 use Rattle.dft_expect.specs.Captures.{capture_vector}
 use Rattle.dft_expect.specs.Expected.{output_bit}
 use Rattle.dft_expect.specs.Masks.{by_chain}
@@ -88,8 +89,8 @@ map_rests f (x ∷ xs) h = (h x, map_rests f xs h)
 unloaded_rests : (n : Netlist) (config : Config) (table : Table) (shown : Option PatternData) (t : ℕ) → Rests (unloaded config (plan_of n config) table shown t)
 unloaded_rests n config table None t = ignored_rests (length config.compactor.groups)
 unloaded_rests n config table (Some p) t =
-    map_rests (λ group. expect (output_bit config.ring table p.masks (by_chain (plan_of n config).chains p.response.cells) t group)) config.compactor.groups
-    (λ group. expect_rests (output_bit config.ring table p.masks (by_chain (plan_of n config).chains p.response.cells) t group))
+    map_rests (λ group. expect (output_bit config.ring table (falling_head (plan_of n config)) p.masks (by_chain (plan_of n config).chains p.response.cells) t group)) config.compactor.groups
+    (λ group. expect_rests (output_bit config.ring table (falling_head (plan_of n config)) p.masks (by_chain (plan_of n config).chains p.response.cells) t group))
 
 -- ---- lists
 

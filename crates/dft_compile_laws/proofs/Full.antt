@@ -13,6 +13,7 @@ use Rattle.dft_netlist.specs.Netlist.{Netlist}
 use Rattle.dft_config.specs.Config.{Config}
 use Rattle.dft_config.specs.Ring.{Table}
 use Rattle.dft_stitch.specs.Chains.{plan_of}
+use Rattle.dft_stitch.specs.Plans.{falling_head}
 use Rattle.dft_expect.specs.Captures.{output_bits}
 use Rattle.dft_expect.specs.Expected.{output_bit}
 use Rattle.dft_expect.specs.Masks.{by_chain}
@@ -131,7 +132,7 @@ module _ (n : Netlist) (config : Config) where
 
   unloaded_full : (table : Table) (before : Option PatternData) (t : ℕ) → AllZip Full (outs_of w (added_outs n config)) (unloaded config (plan_of n config) table before t)
   unloaded_full table None t = quiet_from w (outs_start n config) (length config.compactor.groups)
-  unloaded_full table (Some q) t = expected_full w (λ group. output_bit config.ring table q.masks (by_chain (plan_of n config).chains q.response.cells) t group) config.compactor.groups (outs_start n config)
+  unloaded_full table (Some q) t = expected_full w (λ group. output_bit config.ring table (falling_head (plan_of n config)) q.masks (by_chain (plan_of n config).chains q.response.cells) t group) config.compactor.groups (outs_start n config)
 
   shift_full : (table : Table) (masks : List Bool) (before : Option PatternData) (t : ℕ) → AllZip Full all_signals (shift_acts n config (plan_of n config) table masks before t)
   shift_full table masks before t =

@@ -13,6 +13,7 @@ use Rattle.dft_abstract.specs.Cycle.{Round}
 use Rattle.dft_config.specs.Config.{Config}
 use Rattle.dft_config.specs.Ring.{Table}
 use Rattle.dft_stitch.specs.Chains.{plan_of}
+use Rattle.dft_stitch.specs.Plans.{falling_head}
 use Rattle.dft_edt.specs.Hardware.{group_of}
 use Rattle.dft_expect.specs.Captures.{output_bits}
 use Rattle.dft_expect.specs.Expected.{output_bit}
@@ -220,7 +221,7 @@ abbrev Unloads : Netlist → Config → Table → Option PatternData → (cycle 
 Unloads n config table None t values = Unit {0}
 Unloads n config table (Some q) t values =
     (j : ℕ) → j < length config.compactor.groups →
-    values ((edt_hardware n config).output j) ≡ known (output_bit config.ring table q.masks (by_chain (plan_of n config).chains q.response.cells) t (group_of config j))
+    values ((edt_hardware n config).output j) ≡ known (output_bit config.ring table (falling_head (plan_of n config)) q.masks (by_chain (plan_of n config).chains q.response.cells) t (group_of config j))
 
 pub unloads_at : (n : Netlist) (config : Config) (table : Table) (before : Option PatternData) (rs : List Round) → ShowsBefore n config (shown_of config before) table rs → (t : ℕ) (r : Round) → slice_get rs t ≡ Some r → Unloads n config table before t r.strobe
 unloads_at n config table None rs h t r at = tt
@@ -229,7 +230,7 @@ unloads_at n config table (Some q) rs h t r at = λ j less. h t r at j less
 unloaded_agrees : (n : Netlist) (config : Config) (table : Table) (before : Option PatternData) (t : ℕ) (values : ℕ → Tri) → Unloads n config table before t values → Agrees values (numbers (added_outs n config)) (unloaded config (plan_of n config) table before t)
 unloaded_agrees n config table None t values h = quiet_agree values (numbers (added_outs n config)) (length config.compactor.groups)
 unloaded_agrees n config table (Some q) t values h =
-    expected_agree values (λ group. output_bit config.ring table q.masks (by_chain (plan_of n config).chains q.response.cells) t group) config.compactor.groups (outs_start n config)
+    expected_agree values (λ group. output_bit config.ring table (falling_head (plan_of n config)) q.masks (by_chain (plan_of n config).chains q.response.cells) t group) config.compactor.groups (outs_start n config)
     (λ j less. ap values (sym (from_at (outs_start n config) (length config.compactor.groups) j less)) ∙ h j less)
 
 pub shift_agrees : (n : Netlist) (config : Config) (table : Table) (masks : List Bool) (before : Option PatternData) (t : ℕ) (values : ℕ → Tri) → Unloads n config table before t values →
@@ -246,7 +247,7 @@ unload_width config (Some q) = length config.compactor.groups
 
 unloaded_count : (n : Netlist) (config : Config) (table : Table) (before : Option PatternData) (t : ℕ) → compared_in (numbers (added_outs n config)) (unloaded config (plan_of n config) table before t) ≡ unload_width config before
 unloaded_count n config table None t = quiet_count (numbers (added_outs n config)) (length config.compactor.groups)
-unloaded_count n config table (Some q) t = expected_count (λ group. output_bit config.ring table q.masks (by_chain (plan_of n config).chains q.response.cells) t group) config.compactor.groups (outs_start n config)
+unloaded_count n config table (Some q) t = expected_count (λ group. output_bit config.ring table (falling_head (plan_of n config)) q.masks (by_chain (plan_of n config).chains q.response.cells) t group) config.compactor.groups (outs_start n config)
 
 pub shift_count : (n : Netlist) (config : Config) (table : Table) (masks : List Bool) (before : Option PatternData) (t : ℕ) → compared_in (signal_nets n config) (shift_acts n config (plan_of n config) table masks before t) ≡ unload_width config before
 shift_count n config table masks before t =

@@ -14,3 +14,4 @@ pub mod Reading
 pub mod Refusals
 pub mod Ring
 pub mod Loads
+pub mod LoadExamples

@@ -1,5 +1,5 @@
 -- The load equations: which variables of the channels a loaded cell sums (Rajski and others, 2004).
-use Rattle.std.specs.Prelude.{ℕ, Bool, ◌≡◌, ◌&&◌, ◌==◌, ◌-◌, ◌*◌, ◌/◌, ◌%◌, ◌<◌}
+use Rattle.std.specs.Prelude.{ℕ, Bool, true, false, ◌≡◌, ◌&&◌, ◌==◌, ◌+◌, ◌-◌, ◌*◌, ◌/◌, ◌%◌, ◌<◌}
 use Rattle.dft_base.specs.Solutions.{sum_to}
 use Rattle.dft_config.specs.Ring.{Table, state_after, phase_sum}
 use Rattle.dft_config.specs.Range.{IsInRange}
@@ -25,18 +25,23 @@ single channel cycle = λ other moment. (other == channel) && (moment == cycle)
 unfoldable pub reaches : RingConfig → ℕ → ℕ → ℕ → Bool
 reaches ring chain cycles column = phase_sum ring chain (state_after ring (single (channel_of ring column) (cycle_of ring column)) cycles)
 
+-- A chain is late where its first cell is falling: that cell takes each bit after the ring has stepped, so from the state one cycle later.
+unfoldable pub delay : (late : Bool) → ℕ
+delay true = 1
+delay false = 0
+
 -- A cell holds after a load of so many cycles what came to its chain from the state after this many; place 0 is nearest the ring.
-abbrev pub moment_of_place : ℕ → ℕ → ℕ
-moment_of_place cycles place = cycles - 1 - place
+abbrev pub moment_of_place : (cycles : ℕ) (late : Bool) (place : ℕ) → ℕ
+moment_of_place cycles late place = cycles - 1 - place + delay late
 
 -- the load equation of the cell at a place of a chain, for loads of so many cycles: whether a column is in it
-abbrev pub load_equation : RingConfig → ℕ → ℕ → ℕ → ℕ → Bool
-load_equation ring cycles chain place = reaches ring chain (moment_of_place cycles place)
+abbrev pub load_equation : RingConfig → (cycles : ℕ) (late : Bool) (chain place column : ℕ) → Bool
+load_equation ring cycles late chain place = reaches ring chain (moment_of_place cycles late place)
 
 -- For every configuration in range and every table of channel bits, what comes to a cell is the sum of the table's bits over the
--- cell's load equation.
+-- cell's load equation, whether its chain is late or not.
 abbrev pub LoadsAreSums : Type 0
 LoadsAreSums =
-    (config : Config) (table : Table) (cycles chain place : ℕ) → IsInRange config → chain < config.chains → place < cycles →
-    phase_sum config.ring chain (state_after config.ring table (moment_of_place cycles place))
-    ≡ sum_to (cycles * config.ring.channels) (λ column. load_equation config.ring cycles chain place column && bit_of_column config.ring table column)
+    (config : Config) (table : Table) (cycles : ℕ) (late : Bool) (chain place : ℕ) → IsInRange config → chain < config.chains → place < cycles →
+    phase_sum config.ring chain (state_after config.ring table (moment_of_place cycles late place))
+    ≡ sum_to (cycles * config.ring.channels) (λ column. load_equation config.ring cycles late chain place column && bit_of_column config.ring table column)

@@ -1,5 +1,6 @@
 ghost use Rattle.std.specs.Prelude.{◌≡◌, ◌≤◌};
 ghost use Rattle.dft_config.specs.Cycles as spec;
+ghost use Rattle.dft_config.specs.Loads as loads;
 
 use crate::config::Config;
 
@@ -12,6 +13,13 @@ pub fn load_cycles(config: &Config, longest: u32) -> u32
     let chains = u32::from(config.chains());
     let masks = u32::from(config.compactor().mask_inputs);
     (u32::from(config.warm()) + longest).max(longest_part(chains, masks))
+}
+
+/// The cycles by which the bits of a chain come later: one where the chain is late, which is where its first cell is falling.
+pub fn delay(late: bool) -> usize
+    ensures { result ≡ loads.delay late }
+{
+    if late { 1 } else { 0 }
 }
 
 fn longest_part(items: u32, parts: u32) -> u32

@@ -18,7 +18,7 @@ mod unknown;
 mod values;
 
 pub use config::{CompactorConfig, Config, FillRule, Injector, PortNames, RingConfig, Tap};
-pub use cycles::load_cycles;
+pub use cycles::{delay, load_cycles};
 pub use dft_base::Listed;
 pub use error::ConfigError;
-pub use laws::loads_are_sums;
+pub use laws::{loads_are_sums, worked_loads};

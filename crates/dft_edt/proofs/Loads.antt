@@ -11,18 +11,20 @@ use Rattle.dft_abstract.specs.Cycle.{Halves, AreHalves, after_halves, after_roun
 use Rattle.dft_abstract.specs.Laws.{bits}
 use Rattle.dft_abstract.proofs.Lifts.{known_after_turn, low_after_turn}
 use Rattle.dft_config.specs.Config.{Config}
+use Rattle.dft_config.specs.declared.config.RingConfig.{RingConfig}
 use Rattle.dft_config.specs.Range.{IsInRange}
 use Rattle.dft_config.specs.Ring.{Table, step, state_after, phase_of, phase_sum}
-use Rattle.dft_config.specs.Loads.{moment_of_place}
+use Rattle.dft_config.specs.Loads.{delay, moment_of_place}
 use Rattle.dft_config.proofs.Linearity.{loads_sum}
 use Rattle.dft_stitch.specs.Plans.{cell_at}
 use Rattle.dft_stitch.proofs.CellPlaces.{chain_within}
 use Rattle.dft_chains.specs.Hardware.{ChainNets}
 use Rattle.dft_runs.specs.Passes.{Pass, Passes, ArePasses, end_of, pass_of_round, passes_of_rounds, pass_of_turn, passes_of_turns, after_turns}
 use Rattle.dft_runs.proofs.Passing.{round_passes, rounds_pass, turn_passes, turns_pass}
+use Rattle.dft_config.proofs.Linearity.{delay_late, delay_none}
 use Rattle.dft_edt.specs.Feeds.{at_feed, feeds}
 use Rattle.dft_parts.specs.SumTrees.{tri_sum}
-use Rattle.dft_edt.specs.Hardware.{EdtNets, HasRing, HeadsRise, before_in}
+use Rattle.dft_edt.specs.Hardware.{EdtNets, HasRing, HeadsAre, before_in}
 use Rattle.dft_config.specs.Segments.{chain_in}
 use Rattle.dft_edt.specs.Vectors.{IsEdtShift, IsClearing, Carries, Clears, ShiftInRuns, ClearInRuns, MasksInRuns, HoldsInRuns}
 use Rattle.dft_edt.specs.Loads.{CarryTable, load_sum, LoadPasses, LoadInRuns, LoadInRounds}
@@ -112,13 +114,13 @@ holds_in_runs l rank ports config chains w hw x now t ranked ring has range puls
 -- ---- the load
 
 -- what the cells hold so many shift vectors after the ring was cleared
-pub record Loaded (config : Config) (chains : List (List InstanceId)) (hw : EdtNets) (table : Table) (t : ℕ) (values : ℕ → Tri) : Type 0 where
+pub record Loaded (config : Config) (chains : List (List InstanceId)) (hw : EdtNets) (falling : ℕ → Bool) (table : Table) (t : ℕ) (values : ℕ → Tri) : Type 0 where
   pub stages : (i : ℕ) → i < config.ring.stages → values (hw.stage i) ≡ known (state_after config.ring table t i)
-  pub cells : (chain place u : ℕ) (cell : InstanceId) → cell_at chains chain place ≡ Some cell → suc (place + u) ≡ t → values cell.0 ≡ known (phase_sum config.ring chain (state_after config.ring table u))
+  pub cells : (chain place u : ℕ) (cell : InstanceId) → cell_at chains chain place ≡ Some cell → place < t → suc (place + u) ≡ t + delay (falling chain) → values cell.0 ≡ known (phase_sum config.ring chain (state_after config.ring table u))
 
-pub loaded_start : (config : Config) (chains : List (List InstanceId)) (hw : EdtNets) (table : Table) (values : ℕ → Tri) → Clears config hw values → Loaded config chains hw table 0 values
+pub loaded_start : (config : Config) (chains : List (List InstanceId)) (hw : EdtNets) (falling : ℕ → Bool) (table : Table) (values : ℕ → Tri) → Clears config hw values → Loaded config chains hw falling table 0 values
 unfolding state_after
-loaded_start config chains hw table values clear = record { stages = clear; cells = λ chain place u cell stands is. absurd (omega arith) }
+loaded_start config chains hw falling table values clear = record { stages = clear; cells = λ chain place u cell stands there is. absurd (omega arith) }
 
 get_before : (cells : List InstanceId) (place : ℕ) (next : InstanceId) → slice_get cells (suc place) ≡ Some next → (cell : InstanceId) × (slice_get cells place ≡ Some cell)
 get_before cells place next is = (get_or cells place next, slice_get-get_or cells place next (omega (arith, slice_get_within cells (suc place) next is)))
@@ -128,65 +130,90 @@ pub place_before : (o : Option (List InstanceId)) (place : ℕ) (next : Instance
 place_before None place next is = absurd (none-some next is)
 place_before (Some cells) place next is = get_before cells place next is
 
-loaded_cells : (l : Logic) (ports : Ports) (config : Config) (chains : List (List InstanceId)) (w : ChainNets) (hw : EdtNets) (table : Table) (t : ℕ) (x : Vector) (old : ℕ → Tri) (p : Pass) →
-    (has : HasRing l ports config chains w hw) → (rises : HeadsRise l chains) → (range : IsInRange config) → (shift : IsEdtShift ports w hw x) → (passes : Passes l x old p) → (loaded : Loaded config chains hw table t old) →
-    (chain place u : ℕ) (cell : InstanceId) → (stands : cell_at chains chain place ≡ Some cell) → (is : suc (place + u) ≡ suc t) → p.new cell.0 ≡ known (phase_sum config.ring chain (state_after config.ring table u))
-loaded_cells l ports config chains w hw table t x old p has rises range shift passes loaded chain zero u cell stands is =
-    passes.after cell.0 (phase_sum config.ring chain (state_after config.ring table t))
-    (λ h halves. (shift_law l ports config chains w hw (λ _. false) x old h has rises range shift halves).firsts chain cell stands
-    ∙ phase_known config chain (λ k. old (hw.stage k)) (state_after config.ring table t) range loaded.stages)
+-- the next state of the ring
+next_state : (ring : RingConfig) (table : Table) (t i : ℕ) → step ring (λ j. table j t) (state_after ring table t) i ≡ state_after ring table (suc t) i
+unfolding state_after
+next_state ring table t i = refl
+
+-- what comes to a first cell, from the stages before the vector or after it
+first_loaded : (config : Config) (hw : EdtNets) (table : Table) (t chain : ℕ) (late : Bool) (old new : ℕ → Tri) → IsInRange config →
+    ((i : ℕ) → i < config.ring.stages → old (hw.stage i) ≡ known (state_after config.ring table t i)) →
+    ((i : ℕ) → i < config.ring.stages → new (hw.stage i) ≡ known (state_after config.ring table (suc t) i)) →
+    tri_sum (map (λ k. (if late then new else old) (hw.stage k)) (phase_of config.ring chain)) ≡ known (phase_sum config.ring chain (state_after config.ring table (t + delay late)))
+first_loaded config hw table t chain false old new range olds news =
+    phase_known config chain (λ k. old (hw.stage k)) (state_after config.ring table t) range olds
+    ∙ ap (λ (i : ℕ). known (phase_sum config.ring chain (state_after config.ring table i))) (omega (arith, delay_none))
+first_loaded config hw table t chain true old new range olds news =
+    phase_known config chain (λ k. new (hw.stage k)) (state_after config.ring table (suc t)) range news
+    ∙ ap (λ (i : ℕ). known (phase_sum config.ring chain (state_after config.ring table i))) (omega (arith, delay_late))
+
+stages_loaded : (l : Logic) (ports : Ports) (config : Config) (chains : List (List InstanceId)) (w : ChainNets) (hw : EdtNets) (falling : ℕ → Bool) (table : Table) (t : ℕ) (x : Vector) (old : ℕ → Tri) (h : Halves) →
+    (has : HasRing l ports config chains w hw) → (heads : HeadsAre l chains falling) → (range : IsInRange config) → (shift : IsEdtShift ports w hw x) → (carries : Carries config hw (λ j. table j t) x) → (halves : AreHalves l x old h) →
+    (loaded : Loaded config chains hw falling table t old) → (i : ℕ) → (less : i < config.ring.stages) → after_halves l x old h (hw.stage i) ≡ known (state_after config.ring table (suc t) i)
+stages_loaded l ports config chains w hw falling table t x old h has heads range shift carries halves loaded i less =
+    (shift_law l ports config chains w hw falling x old h has heads range shift halves).stages i less
+    ∙ stage_known config i (λ k. old (hw.stage k)) (λ j. x.ports (hw.channel j)) (state_after config.ring table t) (λ j. table j t) range less loaded.stages carries
+    ∙ ap known (next_state config.ring table t i)
+
+loaded_cells : (l : Logic) (ports : Ports) (config : Config) (chains : List (List InstanceId)) (w : ChainNets) (hw : EdtNets) (falling : ℕ → Bool) (table : Table) (t : ℕ) (x : Vector) (old : ℕ → Tri) (p : Pass) →
+    (has : HasRing l ports config chains w hw) → (heads : HeadsAre l chains falling) → (range : IsInRange config) → (shift : IsEdtShift ports w hw x) → (carries : Carries config hw (λ j. table j t) x) → (passes : Passes l x old p) →
+    (loaded : Loaded config chains hw falling table t old) →
+    (chain place u : ℕ) (cell : InstanceId) → (stands : cell_at chains chain place ≡ Some cell) → (there : place < suc t) → (is : suc (place + u) ≡ suc t + delay (falling chain)) → p.new cell.0 ≡ known (phase_sum config.ring chain (state_after config.ring table u))
+loaded_cells l ports config chains w hw falling table t x old p has heads range shift carries passes loaded chain zero u cell stands there is =
+    passes.after cell.0 (phase_sum config.ring chain (state_after config.ring table (t + delay (falling chain))))
+    (λ h halves. (shift_law l ports config chains w hw falling x old h has heads range shift halves).firsts chain cell stands
+    ∙ first_loaded config hw table t chain (falling chain) old (after_halves l x old h) range loaded.stages
+    (stages_loaded l ports config chains w hw falling table t x old h has heads range shift carries halves loaded))
     ∙ ap (λ (i : ℕ). known (phase_sum config.ring chain (state_after config.ring table i))) (omega (arith, is))
-loaded_cells l ports config chains w hw table t x old p has rises range shift passes loaded chain (suc place) u cell stands is =
+loaded_cells l ports config chains w hw falling table t x old p has heads range shift carries passes loaded chain (suc place) u cell stands there is =
     let other = place_before (slice_get chains chain) place cell stands in
     passes.after cell.0 (phase_sum config.ring chain (state_after config.ring table u))
-    (λ h halves. (shift_law l ports config chains w hw (λ _. false) x old h has rises range shift halves).others chain place other.0 cell other.1 stands
-    ∙ loaded.cells chain place u other.0 other.1 (omega (arith, is)))
+    (λ h halves. (shift_law l ports config chains w hw falling x old h has heads range shift halves).others chain place other.0 cell other.1 stands
+    ∙ loaded.cells chain place u other.0 other.1 (omega (arith, there)) (omega (arith, is)))
 
-pub loaded_step : (l : Logic) (ports : Ports) (config : Config) (chains : List (List InstanceId)) (w : ChainNets) (hw : EdtNets) (table : Table) (t : ℕ) (x : Vector) (old : ℕ → Tri) (p : Pass) →
-    (has : HasRing l ports config chains w hw) → (rises : HeadsRise l chains) → (range : IsInRange config) → (shift : IsEdtShift ports w hw x) → (carries : Carries config hw (λ j. table j t) x) → (passes : Passes l x old p) → (loaded : Loaded config chains hw table t old) → Loaded config chains hw table (suc t) p.new
-unfolding state_after
-loaded_step l ports config chains w hw table t x old p has rises range shift carries passes loaded = record {
-  stages = λ i less. passes.after (hw.stage i) (step config.ring (λ j. table j t) (state_after config.ring table t) i)
-      (λ h halves. (shift_law l ports config chains w hw (λ _. false) x old h has rises range shift halves).stages i less
-      ∙ stage_known config i (λ k. old (hw.stage k)) (λ j. x.ports (hw.channel j)) (state_after config.ring table t) (λ j. table j t) range less loaded.stages carries);
-  cells = loaded_cells l ports config chains w hw table t x old p has rises range shift passes loaded;
+pub loaded_step : (l : Logic) (ports : Ports) (config : Config) (chains : List (List InstanceId)) (w : ChainNets) (hw : EdtNets) (falling : ℕ → Bool) (table : Table) (t : ℕ) (x : Vector) (old : ℕ → Tri) (p : Pass) →
+    (has : HasRing l ports config chains w hw) → (heads : HeadsAre l chains falling) → (range : IsInRange config) → (shift : IsEdtShift ports w hw x) → (carries : Carries config hw (λ j. table j t) x) → (passes : Passes l x old p) → (loaded : Loaded config chains hw falling table t old) → Loaded config chains hw falling table (suc t) p.new
+loaded_step l ports config chains w hw falling table t x old p has heads range shift carries passes loaded = record {
+  stages = λ i less. passes.after (hw.stage i) (state_after config.ring table (suc t) i)
+      (λ h halves. stages_loaded l ports config chains w hw falling table t x old h has heads range shift carries halves loaded i less);
+  cells = loaded_cells l ports config chains w hw falling table t x old p has heads range shift carries passes loaded;
 }
 
 pub cleared : (l : Logic) (ports : Ports) (config : Config) (chains : List (List InstanceId)) (w : ChainNets) (hw : EdtNets) (x : Vector) (old : ℕ → Tri) (p : Pass) →
     HasRing l ports config chains w hw → IsClearing hw x → Passes l x old p → Clears config hw p.new
 cleared l ports config chains w hw x old p has clearing passes i less = passes.after (hw.stage i) false (λ h halves. clear_law l ports config chains w hw x old h has clearing halves i less)
 
-pub loaded_all : (l : Logic) (ports : Ports) (config : Config) (chains : List (List InstanceId)) (w : ChainNets) (hw : EdtNets) (table : Table) (t total : ℕ) (xs : List Vector) (old : ℕ → Tri) (ps : List Pass) →
-    HasRing l ports config chains w hw → HeadsRise l chains → IsInRange config → CarryTable ports config w hw table t xs → ArePasses l old xs ps → t + length xs ≡ total →
-    Loaded config chains hw table t old → Loaded config chains hw table total (end_of old ps)
-loaded_all l ports config chains w hw table t total [] old [] has rises range carry are is loaded = subst (λ (u : ℕ). Loaded config chains hw table u old) (omega (arith, is)) loaded
-loaded_all l ports config chains w hw table t total [] old (p ∷ ps) has rises range carry are is loaded = absurd are
-loaded_all l ports config chains w hw table t total (x ∷ xs) old [] has rises range carry are is loaded = absurd are
-loaded_all l ports config chains w hw table t total (x ∷ xs) old (p ∷ ps) has rises range carry are is loaded =
-    loaded_all l ports config chains w hw table (suc t) total xs p.new ps has rises range carry.1 are.1 (omega (arith, is))
-    (loaded_step l ports config chains w hw table t x old p has rises range carry.0.0 carry.0.1 are.0 loaded)
+pub loaded_all : (l : Logic) (ports : Ports) (config : Config) (chains : List (List InstanceId)) (w : ChainNets) (hw : EdtNets) (falling : ℕ → Bool) (table : Table) (t total : ℕ) (xs : List Vector) (old : ℕ → Tri) (ps : List Pass) →
+    HasRing l ports config chains w hw → HeadsAre l chains falling → IsInRange config → CarryTable ports config w hw table t xs → ArePasses l old xs ps → t + length xs ≡ total →
+    Loaded config chains hw falling table t old → Loaded config chains hw falling table total (end_of old ps)
+loaded_all l ports config chains w hw falling table t total [] old [] has heads range carry are is loaded = subst (λ (u : ℕ). Loaded config chains hw falling table u old) (omega (arith, is)) loaded
+loaded_all l ports config chains w hw falling table t total [] old (p ∷ ps) has heads range carry are is loaded = absurd are
+loaded_all l ports config chains w hw falling table t total (x ∷ xs) old [] has heads range carry are is loaded = absurd are
+loaded_all l ports config chains w hw falling table t total (x ∷ xs) old (p ∷ ps) has heads range carry are is loaded =
+    loaded_all l ports config chains w hw falling table (suc t) total xs p.new ps has heads range carry.1 are.1 (omega (arith, is))
+    (loaded_step l ports config chains w hw falling table t x old p has heads range carry.0.0 carry.0.1 are.0 loaded)
 
 -- ---- the sums at its end
 
-sum_at_end : (config : Config) (chains : List (List InstanceId)) (hw : EdtNets) (table : Table) (cycles : ℕ) (values : ℕ → Tri) → IsInRange config → length chains ≡ config.chains → Loaded config chains hw table cycles values →
-    (chain place : ℕ) (cell : InstanceId) → cell_at chains chain place ≡ Some cell → place < cycles → values cell.0 ≡ known (load_sum config table cycles chain place)
-sum_at_end config chains hw table cycles values range count loaded chain place cell stands less =
+sum_at_end : (config : Config) (chains : List (List InstanceId)) (hw : EdtNets) (falling : ℕ → Bool) (table : Table) (cycles : ℕ) (values : ℕ → Tri) → IsInRange config → length chains ≡ config.chains → Loaded config chains hw falling table cycles values →
+    (chain place : ℕ) (cell : InstanceId) → cell_at chains chain place ≡ Some cell → place < cycles → values cell.0 ≡ known (load_sum config table cycles (falling chain) chain place)
+sum_at_end config chains hw falling table cycles values range count loaded chain place cell stands less =
     let within = chain_within chains chain place cell stands in
-    loaded.cells chain place (moment_of_place cycles place) cell stands (omega (arith, less))
-    ∙ ap known (loads_sum config table cycles chain place range (omega (arith, within, count)) less)
+    loaded.cells chain place (moment_of_place cycles (falling chain) place) cell stands less (omega (arith, less))
+    ∙ ap known (loads_sum config table cycles (falling chain) chain place range (omega (arith, within, count)) less)
 
 pub load_passes : LoadPasses
-load_passes l ports config chains w hw table clear load old p ps has rises range clearing carry pass passes chain place cell stands less =
-    sum_at_end config chains hw table (length load) (end_of p.new ps) range has.count
-    (loaded_all l ports config chains w hw table 0 (length load) load p.new ps has rises range carry passes (omega arith)
-    (loaded_start config chains hw table p.new (cleared l ports config chains w hw clear old p has clearing pass))) chain place cell stands less
+load_passes l ports config chains w hw falling table clear load old p ps has heads range clearing carry pass passes chain place cell stands less =
+    sum_at_end config chains hw falling table (length load) (end_of p.new ps) range has.count
+    (loaded_all l ports config chains w hw falling table 0 (length load) load p.new ps has heads range carry passes (omega arith)
+    (loaded_start config chains hw falling table p.new (cleared l ports config chains w hw clear old p has clearing pass))) chain place cell stands less
 
 pub load_in_rounds : LoadInRounds
-load_in_rounds l ports config chains w hw table clear load old r rs has rises range clearing carry round rounds chain place cell stands less =
+load_in_rounds l ports config chains w hw falling table clear load old r rs has heads range clearing carry round rounds chain place cell stands less =
     let next : ℕ → Tri = after_round l clear old r in
     let both = rounds_pass l next load rs rounds in
     sym (ap (λ (f : ℕ → Tri). f cell.0) both.1)
-    ∙ load_passes l ports config chains w hw table clear load old (pass_of_round l clear old r) (passes_of_rounds l next load rs) has rises range clearing carry (round_passes l clear old r round) both.0 chain place cell stands less
+    ∙ load_passes l ports config chains w hw falling table clear load old (pass_of_round l clear old r) (passes_of_rounds l next load rs) has heads range clearing carry (round_passes l clear old r round) both.0 chain place cell stands less
 
 pub known_one : (a b : Bool) → known a ≡ known b → a ≡ b
 known_one true true h = refl
@@ -195,10 +222,10 @@ known_one true false h = absurd cc
 known_one false true h = absurd cc
 
 pub load_in_runs : LoadInRuns
-load_in_runs l rank ports config chains w hw table before clear load start ts a us ranked has rises range clearing carry run turn turns chain place cell stands less =
+load_in_runs l rank ports config chains w hw falling table before clear load start ts a us ranked has heads range clearing carry run turn turns chain place cell stands less =
     let begun : Now = after_turns l start before ts in
     let low = (turns_pass l rank start before ts ranked run.low run.turns).2 in
     let next : Now = after_turn l clear begun a in
     let both = turns_pass l rank next load us ranked (low_after_turn l rank clear begun a ranked low turn) turns in
     known_one _ _ (sym (ap (λ (f : ℕ → Tri). f cell.0) both.1)
-    ∙ load_passes l ports config chains w hw table clear load (bits begun.state) (pass_of_turn l clear begun a) (passes_of_turns l next load us) has rises range clearing carry (turn_passes l rank clear begun a ranked low turn) both.0 chain place cell stands less)
+    ∙ load_passes l ports config chains w hw falling table clear load (bits begun.state) (pass_of_turn l clear begun a) (passes_of_turns l next load us) has heads range clearing carry (turn_passes l rank clear begun a ranked low turn) both.0 chain place cell stands less)

@@ -79,10 +79,6 @@ pub record HasRing (l : Logic) (ports : Ports) (config : Config) (chains : List 
 abbrev pub HeadsAre : Logic → (chains : List (List InstanceId)) → (falling : ℕ → Bool) → Type 0
 HeadsAre l chains falling = (chain : ℕ) (cell : InstanceId) → cell_at chains chain zero ≡ Some cell → (l.cell cell.0).falling ≡ falling chain
 
--- the first cell of each chain takes its bit at a rise
-abbrev pub HeadsRise : Logic → (chains : List (List InstanceId)) → Type 0
-HeadsRise l chains = HeadsAre l chains (λ chain. false)
-
 -- ---- masks and compactor
 
 -- what there is before a place of a segment, by what there is for ports and for chains

@@ -16,7 +16,7 @@ use Rattle.dft_config.specs.declared.config.FillRule.TheVariants.{Zeros, Ones, S
 use Rattle.dft_config.specs.Ring.{Table}
 use Rattle.dft_config.specs.Range.{has, same_number}
 use Rattle.dft_lanes.specs.Rows.{bits_of, IsPacked}
-use Rattle.dft_stitch.specs.Plans.{Plan}
+use Rattle.dft_stitch.specs.Plans.{Plan, falling_head}
 use Rattle.dft_cubes.specs.declared.cube.Merged.{Merged}
 use Rattle.dft_expect.specs.declared.pattern.Pattern.{Pattern}
 use Rattle.dft_expect.specs.declared.response.Response.{Response}
@@ -150,9 +150,9 @@ is_pattern f number l found finder load at bits masks captured =
     let ring = f.loads.now.config.ring in
     let plan = f.loads.now.plan in
     let columns = columns_of f.loads.now.config plan in
-    let brings : List ℕ → List Bool = λ b. loaded_of ring (table_of ring (bit_at (bits_of columns b))) plan.cycles plan.chains in
+    let brings : List ℕ → List Bool = λ b. loaded_of ring (table_of ring (bit_at (bits_of columns b))) plan.cycles (falling_head plan) plan.chains in
     let cells : l.cells ≡ brings found.bits =
-    load.cells ∙ ap (λ (t : Table). loaded_of ring t plan.cycles plan.chains) (same_table ring columns l.bits (packed_of f number l finder load)) ∙ ap brings (sym bits) in record {
+    load.cells ∙ ap (λ (t : Table). loaded_of ring t plan.cycles (falling_head plan) plan.chains) (same_table ring columns l.bits (packed_of f number l finder load)) ∙ ap brings (sym bits) in record {
       bits = chosen_of f number l found finder load at bits;
       loads = loads_of f number l found finder load at bits;
       captured = subst (λ (b : List Bool). IsCapture f.loads.now.design f.loads.now.config plan.chains found.merged b found.response) cells captured;

@@ -9,7 +9,7 @@ use Rattle.dft_netlist.specs.Netlist.{Netlist}
 use Rattle.dft_netlist.specs.Runs.{Vector}
 use Rattle.dft_config.specs.Config.{Config}
 use Rattle.dft_config.specs.Ring.{Table}
-use Rattle.dft_stitch.specs.Plans.{Plan}
+use Rattle.dft_stitch.specs.Plans.{Plan, falling_head}
 use Rattle.dft_base.specs.Solutions.{bit_at}
 use Rattle.dft_config.specs.Segments.{sent_mask}
 use Rattle.dft_patterns.specs.declared.act.Act.{Act}
@@ -42,7 +42,7 @@ joined_width n config x added shown seen a s o =
 
 unloaded_width : (config : Config) (plan : Plan) (load : Table) (before : Option PatternData) (t : ℕ) → length (unloaded config plan load before t) ≡ length config.compactor.groups
 unloaded_width config plan load None t = length-replicate (length config.compactor.groups) Ignore
-unloaded_width config plan load (Some p) t = length-map config.compactor.groups (λ (group : List ℕ). expect (output_bit config.ring load p.masks (by_chain plan.chains p.response.cells) t group))
+unloaded_width config plan load (Some p) t = length-map config.compactor.groups (λ (group : List ℕ). expect (output_bit config.ring load (falling_head plan) p.masks (by_chain plan.chains p.response.cells) t group))
 
 set_up_width : (n : Netlist) (config : Config) → length (set_up_acts n config) ≡ width n config
 set_up_width n config =

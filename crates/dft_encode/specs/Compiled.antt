@@ -4,7 +4,7 @@ use Rattle.dft_base.specs.Solutions.{IsChosen, bit_at}
 use Rattle.dft_netlist.specs.Netlist.{Netlist}
 use Rattle.dft_config.specs.Config.{Config}
 use Rattle.dft_equations.specs.LoadRows.{LoadRows, AreLoadEquations}
-use Rattle.dft_stitch.specs.Plans.{Plan}
+use Rattle.dft_stitch.specs.Plans.{Plan, falling_head}
 use Rattle.dft_cubes.specs.declared.cube.Cube.{Cube}
 use Rattle.dft_cubes.specs.declared.cube.Merged.{Merged}
 use Rattle.dft_expect.specs.Captures.{IsCapture}
@@ -22,7 +22,7 @@ use Rattle.dft_vectors.specs.PatternData.{PatternData, load_of}
 -- are to load and to set.
 pub record Placing (config : Config) (plan : Plan) (cubes : List Cube) : Type 0 where
   pub rows : LoadRows
-  pub equations : AreLoadEquations config.ring (map (λ cells. length cells) plan.chains) plan.cycles rows
+  pub equations : AreLoadEquations config.ring (map (λ cells. length cells) plan.chains) (falling_head plan) plan.cycles rows
   pub placed : List Placed
   pub merged : List Merged
   pub is : PlacesAll rows.columns (cell_row plan.chains rows) config.window [] cubes placed merged
@@ -34,7 +34,7 @@ pub record Placing (config : Config) (plan : Plan) (cubes : List Cube) : Type 0 
 pub record IsPattern (n : Netlist) (config : Config) (plan : Plan) (rows : LoadRows) (number : ℕ) (p : PatternData) : Type 0 where
   pub bits : IsChosen rows.columns (equations_of (cell_row plan.chains rows) p.merged.cells) (fill_of config.fill number rows.columns) p.bits
   pub loads : Loads rows.columns (cell_row plan.chains rows) (bit_at p.bits) p.merged.cells
-  pub captured : IsCapture n config plan.chains p.merged (loaded_of config.ring (load_of config p) plan.cycles plan.chains) p.response
+  pub captured : IsCapture n config plan.chains p.merged (loaded_of config.ring (load_of config p) plan.cycles (falling_head plan) plan.chains) p.response
   pub masks : p.masks ≡ masks_of (always_of config) (by_chain plan.chains p.response.cells)
 
 abbrev pub merged_of : PatternData → Merged

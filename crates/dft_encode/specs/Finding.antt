@@ -7,7 +7,7 @@ use Rattle.dft_config.specs.Config.{Config}
 use Rattle.dft_config.specs.Range.{IsInRange}
 use Rattle.dft_rules.specs.Refusals.{refusal}
 use Rattle.dft_stitch.specs.Chains.{plan_of}
-use Rattle.dft_stitch.specs.Plans.{Plan}
+use Rattle.dft_stitch.specs.Plans.{Plan, falling_head}
 use Rattle.dft_lanes.specs.Rows.{bits_of, IsPacked}
 use Rattle.dft_cubes.specs.declared.cube.Merged.{Merged}
 use Rattle.dft_expect.specs.declared.pattern.Pattern.{Pattern}
@@ -54,7 +54,7 @@ pub record IsLoad (f : Finder) (number : ℕ) (l : Load) : Type 0 where
       IsChosen (columns_in f.merger.now) (equations_of (rows_in f.merger.now) merged.cells) (fill_of f.loads.now.config.fill number (columns_in f.merger.now)) (bits_of (columns_in f.merger.now) l.bits)
   pub loads : (merged : Merged) → slice_get f.merger.now.patterns number ≡ Some merged →
       Loads (columns_in f.merger.now) (rows_in f.merger.now) (bit_at (bits_of (columns_in f.merger.now) l.bits)) merged.cells
-  pub cells : l.cells ≡ loaded_of f.loads.now.config.ring (table_of f.loads.now.config.ring (packed_bit l.bits)) f.loads.now.plan.cycles f.loads.now.plan.chains
+  pub cells : l.cells ≡ loaded_of f.loads.now.config.ring (table_of f.loads.now.config.ring (packed_bit l.bits)) f.loads.now.plan.cycles (falling_head f.loads.now.plan) f.loads.now.plan.chains
 
 -- the loads of patterns from this number on
 abbrev pub AreLoads : Finder → (first : ℕ) → List Load → Type 0

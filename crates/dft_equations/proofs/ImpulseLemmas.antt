@@ -13,7 +13,7 @@ use Rattle.dft_config.specs.declared.config.Tap.{Tap}
 use Rattle.dft_config.specs.declared.config.Injector.{Injector}
 use Rattle.dft_config.specs.declared.config.RingConfig.{RingConfig}
 use Rattle.dft_config.specs.Ring.{sum_of, tapped, injected, step, state_after, phase_of, phase_sum}
-use Rattle.dft_config.specs.Loads.{channel_of, cycle_of, single, reaches, moment_of_place, load_equation}
+use Rattle.dft_config.specs.Loads.{channel_of, cycle_of, single, reaches, delay, moment_of_place, load_equation}
 use Rattle.dft_equations.specs.Impulses.{IsImpulse}
 
 -- what comes to a stage, from a list of the stages' bits
@@ -91,29 +91,30 @@ state_later ring channel cycle later (suc t) stage =
     ∙ (λ e. step ring (λ j. fed_later j channel cycle t later e) (λ i. state_later ring channel cycle later t i e) stage)
 
 -- The row of a cell is that of the first one, moved down by as many cycles as the cell is further on.
-pub load_equation-moved : (ring : RingConfig) (cycles chain place column : ℕ) → 0 < ring.channels → place < cycles
-    → load_equation ring cycles chain place column ≡ load_equation ring cycles chain 0 (column + place * ring.channels)
+pub load_equation-moved : (ring : RingConfig) (cycles : ℕ) (late : Bool) (chain place column : ℕ) → 0 < ring.channels → place < cycles
+    → load_equation ring cycles late chain place column ≡ load_equation ring cycles late chain 0 (column + place * ring.channels)
 unfolding reaches
-load_equation-moved ring cycles chain place column some within =
+load_equation-moved ring cycles late chain place column some within =
     let n = ring.channels in
     let whole : column + place * n ≡ (column / n + place) * n + column % n = grind (arith, div-add-mod' column n) in
     let below : column % n < n = mod_below column n some in
     let channel : channel_of ring (column + place * n) ≡ channel_of ring column = ap (λ (c : ℕ). c % n) whole ∙ mod-mul-add (column / n + place) n (column % n) below in
     let cycle : cycle_of ring (column + place * n) ≡ cycle_of ring column + place = ap (λ (c : ℕ). c / n) whole ∙ div-mul-add (column / n + place) n (column % n) below in
-    let moment : moment_of_place cycles 0 ≡ moment_of_place cycles place + place = omega arith in
-    λ e. sum_of (λ stage. (sym (state_later ring (channel_of ring column) (cycle_of ring column) place (moment_of_place cycles place) stage)
+    let moment : moment_of_place cycles late 0 ≡ moment_of_place cycles late place + place = omega arith in
+    λ e. sum_of (λ stage. (sym (state_later ring (channel_of ring column) (cycle_of ring column) place (moment_of_place cycles late place) stage)
     ∙ (λ d. state_after ring (single (sym channel d) (sym cycle d)) (sym moment d) stage)) e) (phase_of ring chain)
 
 -- The first cell's row by impulse responses: the phase sum of the state after as many cycles as there are from the variable on.
-pub load_equation-first : (ring : RingConfig) (cycles chain column : ℕ) → cycle_of ring column < cycles
-    → load_equation ring cycles chain 0 column ≡ phase_sum ring chain (state_after ring (single (channel_of ring column) 0) (cycles - 1 - cycle_of ring column))
+pub load_equation-first : (ring : RingConfig) (cycles : ℕ) (late : Bool) (chain column : ℕ) → cycle_of ring column < cycles
+    → load_equation ring cycles late chain 0 column ≡ phase_sum ring chain (state_after ring (single (channel_of ring column) 0) (cycles - 1 - cycle_of ring column + delay late))
 unfolding reaches
-load_equation-first ring cycles chain column within =
+load_equation-first ring cycles late chain column within =
     let t = cycle_of ring column in
+    let u = cycles - 1 - t + delay late in
     let own : t ≡ 0 + t = omega arith in
-    let moment : moment_of_place cycles 0 ≡ cycles - 1 - t + t = omega arith in
+    let moment : moment_of_place cycles late 0 ≡ u + t = omega arith in
     λ e. sum_of (λ stage. ((λ d. state_after ring (single (channel_of ring column) (own d)) (moment d) stage)
-    ∙ state_later ring (channel_of ring column) 0 t (cycles - 1 - t) stage) e) (phase_of ring chain)
+    ∙ state_later ring (channel_of ring column) 0 t u stage) e) (phase_of ring chain)
 
 -- what holds of each item of a list and of one more holds of each item of the longer list
 push_case : {X : Type 0} (P : ℕ → X → Type 0) (xs : List X) (y d : X) (n k : ℕ) → (k < n) ⊎ (n ≡ k) → length xs ≡ n → ((j : ℕ) → j < n → P j (get_or xs j d)) → P n y → P k (get_or (xs ++ y ∷ []) k d)

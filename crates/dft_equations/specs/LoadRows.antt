@@ -26,16 +26,16 @@ AreWide columns chains =
     (chain place : ℕ) → chain < length chains → place < length (get_or chains chain []) → length (get_or (get_or chains chain []) place []) ≡ columns
 
 -- a load equation as a list: for each column whether it is in it
-abbrev pub equation_row : RingConfig → ℕ → ℕ → ℕ → List Bool
-equation_row ring cycles chain place = map (load_equation ring cycles chain place) (range_with_len 0 (cycles * ring.channels))
+abbrev pub equation_row : RingConfig → (cycles : ℕ) (late : Bool) (chain place : ℕ) → List Bool
+equation_row ring cycles late chain place = map (load_equation ring cycles late chain place) (range_with_len 0 (cycles * ring.channels))
 
 -- the rows are the load equations of the first so many places of a chain
-pub record AreRowsOf (ring : RingConfig) (cycles chain places : ℕ) (rows : List (List Bool)) : Type 0 where
+pub record AreRowsOf (ring : RingConfig) (cycles : ℕ) (late : Bool) (chain places : ℕ) (rows : List (List Bool)) : Type 0 where
   pub count : length rows ≡ places
-  pub each : (place : ℕ) → place < places → get_or rows place [] ≡ equation_row ring cycles chain place
+  pub each : (place : ℕ) → place < places → get_or rows place [] ≡ equation_row ring cycles late chain place
 
--- the rows are the load equations of chains of these lengths, for loads of so many cycles
-pub record AreLoadEquations (ring : RingConfig) (lengths : List ℕ) (cycles : ℕ) (rows : LoadRows) : Type 0 where
+-- the rows are the load equations of chains of these lengths, of which these are late, for loads of so many cycles
+pub record AreLoadEquations (ring : RingConfig) (lengths : List ℕ) (late : ℕ → Bool) (cycles : ℕ) (rows : LoadRows) : Type 0 where
   pub columns : rows.columns ≡ cycles * ring.channels
   pub chains : length rows.chains ≡ length lengths
-  pub each : (chain : ℕ) → chain < length lengths → AreRowsOf ring cycles chain (slice_index lengths chain) (rows_of rows chain)
+  pub each : (chain : ℕ) → chain < length lengths → AreRowsOf ring cycles (late chain) chain (slice_index lengths chain) (rows_of rows chain)

@@ -8,37 +8,37 @@ use dft_config::{Config, Injector, Listed, Tap};
 use std::alloc::{AllocError, Global};
 use std::mem;
 
-/// The states that a single 1 brings, for each channel by its own 1 at cycle 0.
+/// The first so many states that a single 1 brings, for each channel by its own 1 at cycle 0.
 pub fn impulses(
     alloc: Global,
     config: &Config,
-    cycles: u16,
+    states: u16,
 ) -> Result<Vec<Listed<Listed<bool>>>, AllocError>
-    ensures { IfOk result (λ all. AreImpulses config.now.ring cycles all.items) }
+    ensures { IfOk result (λ all. AreImpulses config.now.ring states all.items) }
 {
     let mut all = Vec::with_capacity(alloc, config.ring().channels as usize)?;
     for channel in 0..config.ring().channels {
-        all.push(impulse(alloc, config, channel, cycles)?)?;
+        all.push(impulse(alloc, config, channel, states)?)?;
     }
     Ok(all)
 }
 
-// The states that a single 1 on the channel at cycle 0 brings, one for each number of cycles.
+// The first so many states that a single 1 on the channel at cycle 0 brings, one for each number of cycles.
 fn impulse(
     alloc: Global,
     config: &Config,
     channel: u8,
-    cycles: u16,
+    states: u16,
 ) -> Result<Listed<Listed<bool>>, AllocError>
-    ensures { IfOk result (IsImpulse config.now.ring channel cycles) }
+    ensures { IfOk result (IsImpulse config.now.ring channel states) }
 {
-    let mut states = Vec::with_capacity(alloc, cycles as usize)?;
+    let mut response = Vec::with_capacity(alloc, states as usize)?;
     let mut state = zero_state(alloc, config.ring().stages)?;
-    for cycle in 0..cycles {
+    for cycle in 0..states {
         let next = stepped(alloc, config, &state, channel, cycle == 0)?;
-        states.push(Listed::from_vec(mem::replace(&mut state, next)))?;
+        response.push(Listed::from_vec(mem::replace(&mut state, next)))?;
     }
-    Ok(Listed::from_vec(states))
+    Ok(Listed::from_vec(response))
 }
 
 // The state in which each stage is 0.

@@ -1,4 +1,4 @@
-ghost use Rattle.std.specs.Prelude.{◌≡◌, ℕ, ◌*◌, ◌<◌, ◌≤◌, ◌^◌, length, map, IfOk};
+ghost use Rattle.std.specs.Prelude.{◌≡◌, ℕ, suc, ◌*◌, ◌<◌, ◌≤◌, ◌^◌, length, map, IfOk};
 ghost use Rattle.std.specs.List.{All, slice_index, range_with_len};
 ghost use Rattle.dft_base.specs.Solutions.{bit_at};
 ghost use Rattle.dft_config.specs.Ring.{sum_of};
@@ -9,26 +9,38 @@ ghost use Rattle.dft_equations.specs.LoadRows.{AreLoadEquations, AreRowsOf, equa
 use crate::impulses::impulses;
 use crate::row::Row;
 use crate::table::Equations;
-use dft_config::{Config, Listed};
+use dft_config::{Config, Listed, delay};
 use std::alloc::{AllocError, Global};
 
 /// The load equations of the cells of chains of these lengths, for loads of so many cycles (Rajski and others, 2004): a cell
-/// sums a variable where its 1 alone brings the cell a 1.
+/// sums a variable where its 1 alone brings the cell a 1. For each chain it is told whether its first cell is falling.
 pub fn equations(
     alloc: Global,
     config: &Config,
     lengths: &[u16],
+    falling: &[bool],
     cycles: u16,
 ) -> Result<Equations, AllocError>
     requires chains { length lengths.now ≡ config.now.chains }
+    requires heads { length falling.now ≡ length lengths.now }
     requires lengths { All (λ cells. cells ≤ cycles) lengths.now }
     requires columns { cycles * config.now.ring.channels ≤ 16384 }
-    ensures { IfOk result (AreLoadEquations config.now.ring lengths.now cycles) }
+    ensures { IfOk result (AreLoadEquations config.now.ring lengths.now (bit_at falling.now) cycles) }
 {
-    let responses = impulses(alloc, config, cycles)?;
+    config.soundness();
+    let responses = impulses(alloc, config, cycles + 1)?;
     let mut chains = Vec::with_capacity(alloc, lengths.len())?;
     for chain in 0..lengths.len() {
-        chains.push(chain_rows(alloc, config, &responses, chain, lengths[chain], cycles)?)?;
+        let cells = lengths[chain];
+        chains.push(chain_rows(
+            alloc,
+            config,
+            &responses,
+            falling[chain],
+            chain,
+            cells,
+            cycles,
+        )?)?;
     }
     Ok(Equations::new(
         u32::from(cycles) * u32::from(config.ring().channels),
@@ -41,20 +53,21 @@ fn chain_rows(
     alloc: Global,
     config: &Config,
     responses: &[Listed<Listed<bool>>],
+    late: bool,
     chain: usize,
     cells: u16,
     cycles: u16,
 ) -> Result<Listed<Row>, AllocError>
-    requires responses { AreImpulses config.now.ring cycles responses.now }
+    requires responses { AreImpulses config.now.ring (suc cycles) responses.now }
     requires chain { chain < config.now.chains }
     requires cells { cells ≤ cycles }
     requires columns { cycles * config.now.ring.channels ≤ 16384 }
-    ensures { IfOk result (AreRowsOf config.now.ring cycles chain cells) }
+    ensures { IfOk result (AreRowsOf config.now.ring cycles late chain cells) }
 {
     config.soundness();
     let mut rows = Vec::with_capacity(alloc, cells as usize)?;
     if cells > 0 {
-        let bits = first_bits(alloc, config, responses, chain, cycles)?;
+        let bits = first_bits(alloc, config, responses, late, chain, cycles)?;
         let first = Row::of_bits(alloc, &bits)?;
         for place in 0..cells {
             rows.push(first.moved(alloc, u32::from(place) * u32::from(config.ring().channels))?)?;
@@ -68,40 +81,43 @@ fn first_bits(
     alloc: Global,
     config: &Config,
     responses: &[Listed<Listed<bool>>],
+    late: bool,
     chain: usize,
     cycles: u16,
 ) -> Result<Vec<bool>, AllocError>
-    requires responses { AreImpulses config.now.ring cycles responses.now }
+    requires responses { AreImpulses config.now.ring (suc cycles) responses.now }
     requires chain { chain < config.now.chains }
     requires columns { cycles * config.now.ring.channels ≤ 16384 }
-    ensures { IfOk result (λ bits. bits.items ≡ equation_row config.now.ring cycles chain 0) }
+    ensures { IfOk result (λ bits. bits.items ≡ equation_row config.now.ring cycles late chain 0) }
 {
     let columns = usize::from(cycles) * usize::from(config.ring().channels);
     let mut bits = Vec::with_capacity(alloc, columns)?;
     for column in 0..columns {
-        bits.push(first_bit(config, responses, chain, cycles, column))?;
+        bits.push(first_bit(config, responses, late, chain, cycles, column))?;
     }
     Ok(bits)
 }
 
 // Whether the column is in the load equation of the first cell of a chain: the phase sum of its channel's impulse response,
-// after as many cycles as there are from its own cycle on.
+// after as many cycles as there are from its own cycle on, and one more where the chain is late.
 fn first_bit(
     config: &Config,
     responses: &[Listed<Listed<bool>>],
+    late: bool,
     chain: usize,
     cycles: u16,
     column: usize,
 ) -> bool
-    requires responses { AreImpulses config.now.ring cycles responses.now }
+    requires responses { AreImpulses config.now.ring (suc cycles) responses.now }
     requires chain { chain < config.now.chains }
     requires column { column < cycles * config.now.ring.channels }
-    ensures { result ≡ load_equation config.now.ring cycles chain 0 column }
+    ensures { result ≡ load_equation config.now.ring cycles late chain 0 column }
 {
     config.soundness();
     let channels = usize::from(config.ring().channels);
     let response = responses[column % channels].as_slice();
-    let state = response[usize::from(cycles) - 1 - column / channels].as_slice();
+    let moment = usize::from(cycles) - 1 - column / channels + delay(late);
+    let state = response[moment].as_slice();
     phase_sum(config.ring().phase.as_slice()[chain].as_slice(), state)
 }
 

@@ -9,3 +9,4 @@ pub mod ReadLemmas
 pub mod ScannedCells
 pub mod SourceLemmas
 pub mod SettingLemmas
+pub mod ExampleLemmas

@@ -15,6 +15,8 @@ use Rattle.dft_expect.specs.Masks.{by_chain}
 use Rattle.dft_base.specs.Solutions.{bit_at, xor}
 use Rattle.dft_base.proofs.SumLemmas.{xor_assoc, plus_false}
 use Rattle.dft_config.specs.declared.config.RingConfig.{RingConfig}
+use Rattle.dft_config.specs.Loads.{delay}
+use Rattle.dft_config.proofs.Linearity.{delay_small}
 use Rattle.dft_config.specs.Ring.{Table, sum_of, state_after, phase_of, phase_sum}
 use Rattle.dft_expect.specs.States.{state_at, AreStates}
 use Rattle.dft_expect.specs.Expected.{is_one, from_end, shown_by, chain_at, output_bit, expected_of}
@@ -54,25 +56,25 @@ part_fits chains k cells at = omega (arith, before_next chains k cells at, befor
 part_length : (l s : ℕ) (all part : List Tri) → part ≡ take l (drop s all) → s + l ≤ length all → length part ≡ l
 part_length l s all part is fits = ap length is ∙ length-take-le l (drop s all) (omega (arith, length-drop s all))
 
-pub shown_cell : (ring : RingConfig) (table : Table) (chain l s t place : ℕ) (all part : List Tri) (d : Tri) (bit : Bool) → (is : part ≡ take l (drop s all)) → (fits : s + l ≤ length all) → (less : t < l) → (at : place ≡ s + l - 1 - t)
-    → (read : bit ≡ is_one (get_or all place d)) → bit ≡ shown_by ring table chain part t
-shown_cell ring table chain l s t place all part d bit is fits less at read =
+pub shown_cell : (ring : RingConfig) (table : Table) (late : Bool) (chain l s t place : ℕ) (all part : List Tri) (d : Tri) (bit : Bool) → (is : part ≡ take l (drop s all)) → (fits : s + l ≤ length all) → (less : t < l) → (at : place ≡ s + l - 1 - t)
+    → (read : bit ≡ is_one (get_or all place d)) → bit ≡ shown_by ring table late chain part t
+shown_cell ring table late chain l s t place all part d bit is fits less at read =
     let size = part_length l s all part is fits in
     let within : nat_lt t (length part) ≡ true = grind (arith, nat_tests, size) in
     let from : s + (l - 1 - t) ≡ place = omega arith in
     let value : get_or part (length part - 1 - t) Unknown ≡ get_or all place d =
     (λ i. get_or (is i) (size i - 1 - t) Unknown) ∙ get_or-take l (drop s all) (l - 1 - t) Unknown (omega arith) ∙ get_or-drop s all (l - 1 - t) Unknown
     ∙ ap (λ (n : ℕ). get_or all n Unknown) from ∙ get_or_default all place Unknown d (omega arith) in
-    read ∙ ap is_one (sym value) ∙ ap (λ (b : Bool). if b then is_one (from_end part t) else phase_sum ring chain (state_after ring table (t - length part))) (sym within)
+    read ∙ ap is_one (sym value) ∙ ap (λ (b : Bool). if b then is_one (from_end part t) else phase_sum ring chain (state_after ring table (t - length part + delay late))) (sym within)
 
-pub shown_later : (ring : RingConfig) (table : Table) (chain l s t cycles : ℕ) (all part : List Tri) (states : List (List Bool)) (bit : Bool) → (is : part ≡ take l (drop s all)) → (fits : s + l ≤ length all) → (past : l ≤ t) → (less : t < cycles)
-    → (are : AreStates ring table cycles states) → (read : bit ≡ phase_sum ring chain (bit_at (state_at states (t - l)))) → bit ≡ shown_by ring table chain part t
-shown_later ring table chain l s t cycles all part states bit is fits past less are read =
+pub shown_later : (ring : RingConfig) (table : Table) (late : Bool) (chain l s t cycles : ℕ) (all part : List Tri) (states : List (List Bool)) (bit : Bool) → (is : part ≡ take l (drop s all)) → (fits : s + l ≤ length all) → (past : l ≤ t) → (less : suc t < cycles)
+    → (are : AreStates ring table cycles states) → (read : bit ≡ phase_sum ring chain (bit_at (state_at states (t - l + delay late)))) → bit ≡ shown_by ring table late chain part t
+shown_later ring table late chain l s t cycles all part states bit is fits past less are read =
     let size = part_length l s all part is fits in
     let over : nat_lt t (length part) ≡ false = grind (arith, nat_tests, size) in
-    let state = are.each (t - l) (omega arith) in
-    read ∙ (λ i. sum_of (λ stage. state.bits stage i) (phase_of ring chain)) ∙ ap (λ (n : ℕ). phase_sum ring chain (state_after ring table (t - n))) (sym size)
-    ∙ ap (λ (b : Bool). if b then is_one (from_end part t) else phase_sum ring chain (state_after ring table (t - length part))) (sym over)
+    let state = are.each (t - l + delay late) (omega (arith, delay_small late)) in
+    read ∙ (λ i. sum_of (λ stage. state.bits stage i) (phase_of ring chain)) ∙ ap (λ (n : ℕ). phase_sum ring chain (state_after ring table (t - n + delay late))) (sym size)
+    ∙ ap (λ (b : Bool). if b then is_one (from_end part t) else phase_sum ring chain (state_after ring table (t - length part + delay late))) (sym over)
 
 -- ---- sums and lists, item by item
 
@@ -103,21 +105,21 @@ list_ends f groups i old start past before = sym (append-nil old) ∙ ap (λ (l 
 -- ---- cycle by cycle
 
 -- the bits so far, with those of the cycles from one on
-abbrev pub IsUnloading : RingConfig → (groups : List (List ℕ)) → Table → (masks : List Bool) → List (List Tri) → (cycles k : ℕ) → (expected : List Bool) → Type 0
-IsUnloading ring groups table masks values cycles k expected =
-    expected ++ flat_map (λ t. map (output_bit ring table masks values t) groups) (range_with_len k (cycles - k)) ≡ expected_of ring groups table masks values cycles
+abbrev pub IsUnloading : RingConfig → (groups : List (List ℕ)) → Table → (late : ℕ → Bool) → (masks : List Bool) → List (List Tri) → (cycles k : ℕ) → (expected : List Bool) → Type 0
+IsUnloading ring groups table late masks values cycles k expected =
+    expected ++ flat_map (λ t. map (output_bit ring table late masks values t) groups) (range_with_len k (cycles - k)) ≡ expected_of ring groups table late masks values cycles
 
-pub unloading_goes_on : (ring : RingConfig) (groups : List (List ℕ)) (table : Table) (masks : List Bool) (values : List (List Tri)) (cycles k : ℕ) (old new : List Bool) → k < cycles → new ≡ old ++ map (output_bit ring table masks values k) groups
-    → IsUnloading ring groups table masks values cycles k old → IsUnloading ring groups table masks values cycles (k + 1) new
-unloading_goes_on ring groups table masks values cycles k old new less more before =
-    let f : ℕ → List Bool = λ t. map (output_bit ring table masks values t) groups in
+pub unloading_goes_on : (ring : RingConfig) (groups : List (List ℕ)) (table : Table) (late : ℕ → Bool) (masks : List Bool) (values : List (List Tri)) (cycles k : ℕ) (old new : List Bool) → k < cycles → new ≡ old ++ map (output_bit ring table late masks values k) groups
+    → IsUnloading ring groups table late masks values cycles k old → IsUnloading ring groups table late masks values cycles (k + 1) new
+unloading_goes_on ring groups table late masks values cycles k old new less more before =
+    let f : ℕ → List Bool = λ t. map (output_bit ring table late masks values t) groups in
     let rest = flat_map f (range_with_len (k + 1) (cycles - (k + 1))) in
     let left : suc (cycles - (k + 1)) ≡ cycles - k = omega arith in
     ap (λ (l : List Bool). l ++ rest) more ∙ append_assoc old (f k) rest ∙ ap (λ (n : ℕ). old ++ flat_map f (range_with_len k n)) left ∙ before
 
-pub unloading_ends : (ring : RingConfig) (groups : List (List ℕ)) (table : Table) (masks : List Bool) (values : List (List Tri)) (cycles k : ℕ) (expected : List Bool) → cycles ≤ k
-    → IsUnloading ring groups table masks values cycles k expected → expected ≡ expected_of ring groups table masks values cycles
-unloading_ends ring groups table masks values cycles k expected past before =
-    let f : ℕ → List Bool = λ t. map (output_bit ring table masks values t) groups in
+pub unloading_ends : (ring : RingConfig) (groups : List (List ℕ)) (table : Table) (late : ℕ → Bool) (masks : List Bool) (values : List (List Tri)) (cycles k : ℕ) (expected : List Bool) → cycles ≤ k
+    → IsUnloading ring groups table late masks values cycles k expected → expected ≡ expected_of ring groups table late masks values cycles
+unloading_ends ring groups table late masks values cycles k expected past before =
+    let f : ℕ → List Bool = λ t. map (output_bit ring table late masks values t) groups in
     let none : 0 ≡ cycles - k = omega arith in
     sym (append-nil expected) ∙ ap (λ (n : ℕ). expected ++ flat_map f (range_with_len k n)) none ∙ before

@@ -11,3 +11,4 @@ pub mod Expected
 pub mod Unloads
 pub mod Policies
 pub mod Laws
+pub mod Examples

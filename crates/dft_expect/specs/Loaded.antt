@@ -17,17 +17,17 @@ all_cells chains = flat_map (λ cells. cells) chains
 abbrev pub table_of : RingConfig → (bits : ℕ → Bool) → Table
 table_of ring bits = λ channel cycle. bits (cycle * ring.channels + channel)
 
--- the bit that a load of so many cycles brings to a place of a chain
-abbrev pub loaded_bit : RingConfig → Table → (cycles chain place : ℕ) → Bool
-loaded_bit ring table cycles chain place = phase_sum ring chain (state_after ring table (moment_of_place cycles place))
+-- the bit that a load of so many cycles brings to a place of a chain, which is late or not
+abbrev pub loaded_bit : RingConfig → Table → (cycles : ℕ) (late : Bool) (chain place : ℕ) → Bool
+loaded_bit ring table cycles late chain place = phase_sum ring chain (state_after ring table (moment_of_place cycles late place))
 
 -- the bits that a load brings to so many places of a chain
-abbrev pub loaded_chain : RingConfig → Table → (cycles chain : ℕ) → (cells : ℕ) → List Bool
-loaded_chain ring table cycles chain cells = map (loaded_bit ring table cycles chain) (range_with_len 0 cells)
+abbrev pub loaded_chain : RingConfig → Table → (cycles : ℕ) (late : Bool) (chain : ℕ) → (cells : ℕ) → List Bool
+loaded_chain ring table cycles late chain cells = map (loaded_bit ring table cycles late chain) (range_with_len 0 cells)
 
--- the bits that a load brings to the cells of all chains, chain by chain
-abbrev pub loaded_of : RingConfig → Table → (cycles : ℕ) → List (List InstanceId) → List Bool
-loaded_of ring table cycles chains = flat_map (λ chain. loaded_chain ring table cycles chain.0 (length chain.1)) (enumerate_from 0 chains)
+-- the bits that a load brings to the cells of all chains, of which these are late, chain by chain
+abbrev pub loaded_of : RingConfig → Table → (cycles : ℕ) (late : ℕ → Bool) → List (List InstanceId) → List Bool
+loaded_of ring table cycles late chains = flat_map (λ chain. loaded_chain ring table cycles (late chain.0) chain.0 (length chain.1)) (enumerate_from 0 chains)
 
 -- ---- by cell
 

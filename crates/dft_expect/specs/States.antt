@@ -1,5 +1,5 @@
 -- The states of a ring while a pattern is loaded, as lists of the stages' bits.
-use Rattle.std.specs.Prelude.{ℕ, Bool, ◌≡◌, ◌<◌, List, [], length, slice_index_or}
+use Rattle.std.specs.Prelude.{ℕ, Bool, ◌≡◌, ◌-◌, ◌<◌, List, [], length, slice_index_or}
 use Rattle.dft_base.specs.Solutions.{bit_at}
 use Rattle.dft_config.specs.declared.config.RingConfig.{RingConfig}
 use Rattle.dft_config.specs.Ring.{Table, state_after, phase_sum}
@@ -14,15 +14,15 @@ pub record IsState (ring : RingConfig) (table : Table) (cycle : ℕ) (state : Li
   pub stages : length state ≡ ring.stages
   pub bits : (stage : ℕ) → bit_at state stage ≡ state_after ring table cycle stage
 
--- the states after 0 cycles, 1 cycle and so on, one for each cycle of a load
-pub record AreStates (ring : RingConfig) (table : Table) (cycles : ℕ) (states : List (List Bool)) : Type 0 where
-  pub count : length states ≡ cycles
-  pub each : (t : ℕ) → t < cycles → IsState ring table t (state_at states t)
+-- so many states: after 0 cycles, 1 cycle and so on
+pub record AreStates (ring : RingConfig) (table : Table) (many : ℕ) (states : List (List Bool)) : Type 0 where
+  pub count : length states ≡ many
+  pub each : (t : ℕ) → t < many → IsState ring table t (state_at states t)
 
 -- each of these states has as many bits as the ring has stages
 abbrev pub HaveStages : RingConfig → List (List Bool) → Type 0
 HaveStages ring states = (t : ℕ) → t < length states → length (state_at states t) ≡ ring.stages
 
--- the bit that a load brings to a place of a chain, by the states of its cycles
-abbrev pub brought : RingConfig → List (List Bool) → (chain place : ℕ) → Bool
-brought ring states chain place = phase_sum ring chain (bit_at (state_at states (moment_of_place (length states) place)))
+-- the bit that a load brings to a place of a chain, which is late or not, by the states before and after each of its cycles
+abbrev pub brought : RingConfig → List (List Bool) → (late : Bool) → (chain place : ℕ) → Bool
+brought ring states late chain place = phase_sum ring chain (bit_at (state_at states (moment_of_place (length states - 1) late place)))

@@ -1,5 +1,6 @@
 //! What captures, masks and expected bits are.
 
+ghost use Rattle.dft_expect.specs.Examples.{FallingPatterns, RisingPatterns};
 ghost use Rattle.dft_expect.specs.Laws.{CaptureIsOne, SettledStandsAbove, UnmaskedAreKnown};
 
 /// In a design whose nets have an order, a pattern captures one response.
@@ -15,4 +16,11 @@ pub fn settled_stands_above()
 /// A chain that is not masked holds nothing unknown.
 pub fn unmasked_are_known()
     ensures { UnmaskedAreKnown }
+{}
+
+/// Two patterns of a small design: what their loads bring and what their unloads show, where each chain begins with a rising cell, and where
+/// one begins with a falling cell.
+pub fn worked_patterns()
+    ensures rising { RisingPatterns }
+    ensures falling { FallingPatterns }
 {}

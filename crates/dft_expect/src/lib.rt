@@ -16,7 +16,7 @@ mod sources;
 mod unloading;
 
 pub use capturer::Capturer;
-pub use laws::{capture_is_one, settled_stands_above, unmasked_are_known};
+pub use laws::{capture_is_one, settled_stands_above, unmasked_are_known, worked_patterns};
 pub use loading::loaded;
 pub use masking::masks;
 pub use pattern::Pattern;

@@ -15,7 +15,7 @@ use dft_lanes::has_bit;
 use std::alloc::{AllocError, Global};
 use std::mem;
 
-// The states after 0 cycles, 1 cycle and so on, one for each cycle of a load of these channel bits.
+// The states before and after each cycle of a load of these channel bits: after 0 cycles, 1 cycle and so on.
 pub(crate) fn states(
     alloc: Global,
     ring: &RingConfig,
@@ -24,15 +24,16 @@ pub(crate) fn states(
 ) -> Result<Vec<Listed<bool>>, AllocError>
     requires ring { (chains : ℕ) × IsRingInRange chains ring.now }
     requires bits { cycles * ring.now.channels ≤ 64 * length bits.now }
-    ensures { IfOk result (λ states. AreStates ring.now (table_of ring.now (packed_bit bits.now)) cycles states.items) }
+    ensures { IfOk result (λ states. AreStates ring.now (table_of ring.now (packed_bit bits.now)) (cycles + 1) states.items) }
 {
-    let mut states = Vec::with_capacity(alloc, usize::from(cycles))?;
+    let mut states = Vec::with_capacity(alloc, usize::from(cycles) + 1)?;
     let mut state = zero_state(alloc, ring.stages)?;
     for cycle in 0..cycles {
         let first = usize::from(cycle) * usize::from(ring.channels);
         let next = stepped(alloc, ring, &state, bits, first)?;
         states.push(Listed::from_vec(mem::replace(&mut state, next)))?;
     }
+    states.push(Listed::from_vec(state))?;
     Ok(states)
 }
 

@@ -1,10 +1,11 @@
 //! The bits that the outputs show while a pattern is unloaded.
 
-ghost use Rattle.std.specs.Prelude.{◌≡◌, ℕ, ◌+◌, ◌*◌, ◌-◌, ◌^◌, ◌<◌, ◌≤◌, ◌++◌, List, length, map, IfOk, OnOk};
+ghost use Rattle.std.specs.Prelude.{◌≡◌, ℕ, suc, ◌+◌, ◌*◌, ◌-◌, ◌^◌, ◌<◌, ◌≤◌, ◌++◌, List, length, map, IfOk, OnOk};
 ghost use Rattle.std.specs.List.{All};
 ghost use Rattle.dft_base.specs.Packed.{packed_bit};
 ghost use Rattle.dft_config.specs.Range.{IsRingInRange};
 ghost use Rattle.dft_config.specs.Ring.{Table};
+ghost use Rattle.dft_stitch.specs.Plans.{falling_head};
 ghost use Rattle.dft_expect.specs.Loaded.{all_cells, table_of};
 ghost use Rattle.dft_expect.specs.Masks.{by_chain};
 ghost use Rattle.dft_expect.specs.Expected.{chain_at, shown_by, counted_by, output_bit, expected_of};
@@ -16,7 +17,7 @@ use crate::loading::entering;
 use crate::response::Response;
 use crate::ring::states;
 use dft_base::{Listed, Tri};
-use dft_config::{Config, RingConfig};
+use dft_config::{Config, RingConfig, delay};
 use dft_stitch::Chains;
 use std::alloc::{AllocError, Global};
 
@@ -60,17 +61,19 @@ fn shown(unload: &Unload<'_>, chain: u16, cycle: usize) -> bool
     requires values { length unload.now.values.now ≡ length (all_cells unload.now.chains.now.chains) }
     requires starts { AreStarts unload.now.chains.now.chains unload.now.starts.now }
     requires states { HaveStages unload.now.ring.now unload.now.states.now }
-    requires cycle { cycle < length unload.now.states.now }
+    requires cycle { suc cycle < length unload.now.states.now }
     requires small { length unload.now.values.now < 2 ^ 64 }
     ensures { (table : Table) → AreStates unload.now.ring.now table (length unload.now.states.now) unload.now.states.now
-        → result ≡ shown_by unload.now.ring.now table chain (chain_at (by_chain unload.now.chains.now.chains unload.now.values.now) chain) cycle }
+        → result ≡ shown_by unload.now.ring.now table (falling_head unload.now.chains.now chain) chain (chain_at (by_chain unload.now.chains.now.chains unload.now.values.now) chain) cycle }
 {
     let cells = unload.chains.chain(chain).len();
+    let late = unload.chains.falling_head(chain);
     let chain = usize::from(chain);
     if cycle < cells {
         is_one(unload.values[unload.starts[chain] + cells - 1 - cycle])
     } else {
-        entering(unload.ring, unload.states, chain, cycle - cells)
+        let moment = cycle - cells + delay(late);
+        entering(unload.ring, unload.states, chain, moment)
     }
 }
 
@@ -81,11 +84,11 @@ fn counted(unload: &Unload<'_>, masks: &[bool], chain: u16, cycle: usize) -> boo
     requires values { length unload.now.values.now ≡ length (all_cells unload.now.chains.now.chains) }
     requires starts { AreStarts unload.now.chains.now.chains unload.now.starts.now }
     requires states { HaveStages unload.now.ring.now unload.now.states.now }
-    requires cycle { cycle < length unload.now.states.now }
+    requires cycle { suc cycle < length unload.now.states.now }
     requires small { length unload.now.values.now < 2 ^ 64 }
     requires masks { length masks.now ≡ length unload.now.chains.now.chains }
     ensures { (table : Table) → AreStates unload.now.ring.now table (length unload.now.states.now) unload.now.states.now
-        → result ≡ counted_by unload.now.ring.now table masks.now (by_chain unload.now.chains.now.chains unload.now.values.now) cycle chain }
+        → result ≡ counted_by unload.now.ring.now table (falling_head unload.now.chains.now) masks.now (by_chain unload.now.chains.now.chains unload.now.values.now) cycle chain }
 {
     if masks[usize::from(chain)] {
         false
@@ -101,11 +104,11 @@ fn output(unload: &Unload<'_>, masks: &[bool], group: &[u16], cycle: usize) -> b
     requires values { length unload.now.values.now ≡ length (all_cells unload.now.chains.now.chains) }
     requires starts { AreStarts unload.now.chains.now.chains unload.now.starts.now }
     requires states { HaveStages unload.now.ring.now unload.now.states.now }
-    requires cycle { cycle < length unload.now.states.now }
+    requires cycle { suc cycle < length unload.now.states.now }
     requires small { length unload.now.values.now < 2 ^ 64 }
     requires masks { length masks.now ≡ length unload.now.chains.now.chains }
     ensures { (table : Table) → AreStates unload.now.ring.now table (length unload.now.states.now) unload.now.states.now
-        → result ≡ output_bit unload.now.ring.now table masks.now (by_chain unload.now.chains.now.chains unload.now.values.now) cycle group.now }
+        → result ≡ output_bit unload.now.ring.now table (falling_head unload.now.chains.now) masks.now (by_chain unload.now.chains.now.chains unload.now.values.now) cycle group.now }
 {
     let mut sum = false;
     for chain in group {
@@ -127,11 +130,11 @@ fn add_cycle(
     requires values { length unload.now.values.now ≡ length (all_cells unload.now.chains.now.chains) }
     requires starts { AreStarts unload.now.chains.now.chains unload.now.starts.now }
     requires states { HaveStages unload.now.ring.now unload.now.states.now }
-    requires cycle { cycle < length unload.now.states.now }
+    requires cycle { suc cycle < length unload.now.states.now }
     requires small { length unload.now.values.now < 2 ^ 64 }
     requires masks { length masks.now ≡ length unload.now.chains.now.chains }
     ensures { OnOk result ((table : Table) → AreStates unload.now.ring.now table (length unload.now.states.now) unload.now.states.now
-        → expected.new.items ≡ expected.old.items ++ map (output_bit unload.now.ring.now table masks.now (by_chain unload.now.chains.now.chains unload.now.values.now) cycle) groups.now) }
+        → expected.new.items ≡ expected.old.items ++ map (output_bit unload.now.ring.now table (falling_head unload.now.chains.now) masks.now (by_chain unload.now.chains.now.chains unload.now.values.now) cycle) groups.now) }
 {
     for group in groups {
         expected.push(output(unload, masks, group.as_slice(), cycle))?;
@@ -153,7 +156,7 @@ pub fn expected(
     requires values { length response.now.cells ≡ length (all_cells chains.now.chains) }
     requires masks { length masks.now ≡ length chains.now.chains }
     requires next { chains.now.cycles * config.now.ring.channels ≤ 64 * length next.now }
-    ensures { IfOk result (λ expected. expected.items ≡ expected_of config.now.ring config.now.compactor.groups (table_of config.now.ring (packed_bit next.now)) masks.now (by_chain chains.now.chains response.now.cells) chains.now.cycles) }
+    ensures { IfOk result (λ expected. expected.items ≡ expected_of config.now.ring config.now.compactor.groups (table_of config.now.ring (packed_bit next.now)) (falling_head chains.now) masks.now (by_chain chains.now.chains response.now.cells) chains.now.cycles) }
 {
     let values = response.cells.as_slice();
     let ring = config.ring();
@@ -168,7 +171,7 @@ pub fn expected(
     };
     let groups = config.compactor().groups.as_slice();
     let mut expected = Vec::new(alloc);
-    for cycle in 0..states.len() {
+    for cycle in 0..usize::from(chains.cycles()) {
         add_cycle(&mut expected, &unload, masks, groups, cycle)?;
     }
     Ok(expected)

@@ -24,7 +24,7 @@ use Rattle.dft_rules.specs.declared.judged.Judged.TheVariants.{Scanned, Unscanne
 use Rattle.dft_rules.specs.Rules.{judgements}
 use Rattle.dft_stitch.specs.declared.places.CellPlace.{CellPlace}
 use Rattle.dft_stitch.specs.Chains.{cells_of, domain_of, plan_of}
-use Rattle.dft_stitch.specs.Plans.{Plan}
+use Rattle.dft_stitch.specs.Plans.{Plan, falling_head}
 use Rattle.dft_cubes.specs.declared.cube.Cube.{Cube}
 use Rattle.dft_cubes.specs.declared.cube.Merged.{Merged}
 use Rattle.dft_merge.specs.declared.placed.Placed.{Placed}
@@ -309,15 +309,15 @@ cubes_short size words (suc count) from le = (record { name = (let d = four from
 -- ---- load equations
 
 -- the load equation of a place has no more variables than a load, or there is none
-equation_short : (ring : RingConfig) (lengths : List ℕ) (cycles : ℕ) (rows : LoadRows) (chain place : ℕ) → AreLoadEquations ring lengths cycles rows → length (row_of rows chain place) ≤ cycles * ring.channels
-equation_short ring lengths cycles rows chain place are = by (ltb chain (length lengths)) refl (ltb place (slice_index lengths chain)) refl
+equation_short : (ring : RingConfig) (lengths : List ℕ) (late : ℕ → Bool) (cycles : ℕ) (rows : LoadRows) (chain place : ℕ) → AreLoadEquations ring lengths late cycles rows → length (row_of rows chain place) ≤ cycles * ring.channels
+equation_short ring lengths late cycles rows chain place are = by (ltb chain (length lengths)) refl (ltb place (slice_index lengths chain)) refl
   where
     by : (s : Bool) → ltb chain (length lengths) ≡ s → (t : Bool) → ltb place (slice_index lengths chain) ≡ t → length (row_of rows chain place) ≤ cycles * ring.channels
     by true a true b =
         let c : chain < length lengths = grind (arith, nat_tests) in
         let p : place < slice_index lengths chain = grind (arith, nat_tests) in
         let same = ap length ((are.each chain c).each place p) in
-        omega (arith, same, length-map-range_with_len (load_equation ring cycles chain place) 0 (cycles * ring.channels))
+        omega (arith, same, length-map-range_with_len (load_equation ring cycles (late chain) chain place) 0 (cycles * ring.channels))
     by true a false b =
         let c : chain < length lengths = grind (arith, nat_tests) in
         let p : slice_index lengths chain ≤ place = grind (arith, nat_tests) in
@@ -330,9 +330,9 @@ equation_short ring lengths cycles rows chain place are = by (ltb chain (length 
         let none = ap (λ (xs : List (List Bool)). length (get_or xs place [])) (get_or_past rows.chains chain [] (omega (arith, count, c))) in
         omega (arith, none)
 
-cell_short : (ring : RingConfig) (lengths : List ℕ) (cycles : ℕ) (rows : LoadRows) → AreLoadEquations ring lengths cycles rows → (o : Option CellPlace) → length (unwrap_or (option_map (λ (at : CellPlace). row_of rows at.chain at.place) o) []) ≤ cycles * ring.channels
-cell_short ring lengths cycles rows are None = omega arith
-cell_short ring lengths cycles rows are (Some at) = equation_short ring lengths cycles rows at.chain at.place are
+cell_short : (ring : RingConfig) (lengths : List ℕ) (late : ℕ → Bool) (cycles : ℕ) (rows : LoadRows) → AreLoadEquations ring lengths late cycles rows → (o : Option CellPlace) → length (unwrap_or (option_map (λ (at : CellPlace). row_of rows at.chain at.place) o) []) ≤ cycles * ring.channels
+cell_short ring lengths late cycles rows are None = omega arith
+cell_short ring lengths late cycles rows are (Some at) = equation_short ring lengths late cycles rows at.chain at.place are
 
 -- ---- the report
 
@@ -379,7 +379,7 @@ reports_fit size words is few placing =
     let cells = small.cells in
     let scanned = scanned_here size words is.high (omega (arith, low)) in
     let cycles = cycles_few (length (cells_of n configuration)) (omega (arith, few_cells verdicts, scanned, few)) in
-    let narrow : (cell : InstanceId) → length (unwrap_or (row cell) []) ≤ 2062 = λ cell. (let le = cell_short configuration.ring (map (λ cells. length cells) plan.chains) plan.cycles placing.rows placing.equations (place_from 0 plan.chains cell) in omega (arith, le, cycles)) in
+    let narrow : (cell : InstanceId) → length (unwrap_or (row cell) []) ≤ 2062 = λ cell. (let le = cell_short configuration.ring (map (λ cells. length cells) plan.chains) (falling_head plan) plan.cycles placing.rows placing.equations (place_from 0 plan.chains cell) in omega (arith, le, cycles)) in
     let count = length-map-range_with_len (cube_in size words) 0 (size / 4) in
     let cubes = cubes_most size words few row placing.rows.columns configuration.window narrow [] placing.merged (cubes_in size words) placing.placed (cubes_short size words (size / 4) 0 (omega (arith, few))) (omega (arith, count, few)) placing.is in
     omega (

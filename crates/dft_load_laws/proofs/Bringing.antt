@@ -14,7 +14,7 @@ use Rattle.dft_config.specs.Ring.{Table}
 use Rattle.dft_config.specs.Loads.{bit_of_column}
 use Rattle.dft_equations.specs.LoadRows.{LoadRows, row_of}
 use Rattle.dft_stitch.specs.Chains.{plan_of}
-use Rattle.dft_stitch.specs.Plans.{cell_at}
+use Rattle.dft_stitch.specs.Plans.{cell_at, falling_head}
 use Rattle.dft_edt.specs.Loads.{load_sum}
 use Rattle.dft_expect.specs.Loaded.{table_of}
 use Rattle.dft_cubes.specs.declared.cube.Cube.{Cube}
@@ -121,21 +121,21 @@ module _ (n : Netlist) (config : Config) (ports : Ports) (rows : LoadRows) (read
 
   -- the sum over a cell's row is what the load brings to it
   brings : (table : Table) (bits : ℕ → Bool) (cell : InstanceId) (s : Standing chains cell) → ((column : ℕ) → bits column ≡ bit_of_column config.ring table column) →
-      sum_over rows.columns (unwrap_or (rows_of n config rows cell) []) bits ≡ load_sum config table cycles s.chain s.place
+      sum_over rows.columns (unwrap_or (rows_of n config rows cell) []) bits ≡ load_sum config table cycles (falling_head (plan_of n config) s.chain) s.chain s.place
   brings table bits cell s same =
       ap (λ o. sum_over rows.columns (unwrap_or o []) bits) (row_found chains rows cell s.chain s.place apart s.stands)
       ∙ ap (λ (k : ℕ). sum_over k (row_of rows s.chain s.place) bits) are.columns
-      ∙ ap (λ (row : List Bool). sum_over (cycles * config.ring.channels) row bits) (row_is config chains cycles rows s.chain s.place cell are s.stands)
-      ∙ sum_same (cycles * config.ring.channels) _ _ (λ c less. ap₂ (λ (a b : Bool). a && b) (row_bit config.ring cycles s.chain s.place c less) (same c))
+      ∙ ap (λ (row : List Bool). sum_over (cycles * config.ring.channels) row bits) (row_is config chains (falling_head (plan_of n config)) cycles rows s.chain s.place cell are s.stands)
+      ∙ sum_same (cycles * config.ring.channels) _ _ (λ c less. ap₂ (λ (a b : Bool). a && b) (row_bit config.ring cycles (falling_head (plan_of n config) s.chain) s.chain s.place c less) (same c))
 
   -- what a run of a load leaves in a cell
-  loaded : (table : Table) (r : LoadRun n config ports table) (cell : InstanceId) (s : Standing chains cell) → after_load n config ports table r cell.0 ≡ load_sum config table cycles s.chain s.place
+  loaded : (table : Table) (r : LoadRun n config ports table) (cell : InstanceId) (s : Standing chains cell) → after_load n config ports table r cell.0 ≡ load_sum config table cycles (falling_head (plan_of n config) s.chain) s.chain s.place
   loaded table r cell s =
       let has : (cells : List InstanceId) × (slice_get chains s.chain ≡ Some cells) × (slice_get cells s.place ≡ Some cell) = chain_of chains s.chain s.place cell (slice_get chains s.chain) refl s.stands in
       let fits = chains_fit n config s.chain has.0 ready.range has.1 in
       let within = slice_get_within has.0 s.place cell has.2 in
       (loads_reach n config ports ready suits).0 table r.before r.clear r.load r.start r.ts r.a r.us r.clearing r.carries r.run r.turn r.turns s.chain s.place cell s.stands (let count = r.count in omega (arith, count, fits, within))
-      ∙ ap (λ k. load_sum config table k s.chain s.place) r.count
+      ∙ ap (λ k. load_sum config table k (falling_head (plan_of n config) s.chain) s.chain s.place) r.count
 
   column_bit : (bits : ℕ → Bool) (column : ℕ) → bits column ≡ bit_of_column config.ring (table_of config.ring bits) column
   column_bit bits column = ap bits (sym (div-add-mod' column config.ring.channels))

@@ -9,7 +9,7 @@ use Rattle.dft_config.specs.Ring.{Table}
 use Rattle.dft_config.specs.Loads.{bit_of_column}
 use Rattle.dft_equations.specs.LoadRows.{LoadRows, AreLoadEquations}
 use Rattle.dft_stitch.specs.Chains.{plan_of}
-use Rattle.dft_stitch.specs.Plans.{lengths_of}
+use Rattle.dft_stitch.specs.Plans.{lengths_of, falling_head}
 pub use Rattle.dft_stitch.specs.Laws.{ChainsFit}
 use Rattle.dft_runs.specs.Passes.{after_turns}
 use Rattle.dft_edt.specs.Vectors.{IsClearing}
@@ -69,7 +69,7 @@ LoadsRun = (n : Netlist) (config : Config) (ports : Ports) (table : Table) → I
 
 -- the load equations of the planned chains
 abbrev pub AreRows : Netlist → Config → LoadRows → Type 0
-AreRows n config rows = AreLoadEquations config.ring (lengths_of (plan_of n config).chains) (plan_of n config).cycles rows
+AreRows n config rows = AreLoadEquations config.ring (lengths_of (plan_of n config).chains) (falling_head (plan_of n config)) (plan_of n config).cycles rows
 
 -- by the cell
 abbrev pub rows_of : Netlist → Config → LoadRows → CellRows

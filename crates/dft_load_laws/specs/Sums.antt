@@ -14,6 +14,6 @@ use Rattle.dft_merge.specs.Rows.{StandApart, cell_row}
 -- The sum of channel bits over a cell's load equation is what a load with these bits brings to the cell.
 abbrev pub SumsAreLoads : Type 0
 SumsAreLoads =
-    (config : Config) (chains : List (List InstanceId)) (cycles : ℕ) (rows : LoadRows) (bits : ℕ → Bool) (chain place : ℕ) (cell : InstanceId) → IsInRange config → StandApart chains →
-    AreLoadEquations config.ring (map length chains) cycles rows → chain < config.chains → place < cycles → cell_at chains chain place ≡ Some cell →
-    sum_over rows.columns (unwrap_or (cell_row chains rows cell) []) bits ≡ phase_sum config.ring chain (state_after config.ring (table_of config.ring bits) (moment_of_place cycles place))
+    (config : Config) (chains : List (List InstanceId)) (late : ℕ → Bool) (cycles : ℕ) (rows : LoadRows) (bits : ℕ → Bool) (chain place : ℕ) (cell : InstanceId) → IsInRange config → StandApart chains →
+    AreLoadEquations config.ring (map length chains) late cycles rows → chain < config.chains → place < cycles → cell_at chains chain place ≡ Some cell →
+    sum_over rows.columns (unwrap_or (cell_row chains rows cell) []) bits ≡ phase_sum config.ring chain (state_after config.ring (table_of config.ring bits) (moment_of_place cycles (late chain) place))

@@ -9,3 +9,4 @@ pub mod WordLemmas
 pub mod MergerLemmas
 pub mod StayLemmas
 pub mod MergedLemmas
+pub mod HeadLemmas

@@ -31,9 +31,9 @@ use Rattle.dft_merge.proofs.SlotLemmas.{loadable_joined, loadable_push, loadable
 at_place : (chains : List (List InstanceId)) (c k : ℕ) (cell : InstanceId) → cell_at chains c k ≡ Some cell → (cells : List InstanceId) × ((slice_get chains c ≡ Some cells) × (slice_get cells k ≡ Some cell))
 at_place chains c k cell is = option_and_then_some (λ (cells : List InstanceId). slice_get cells k) (slice_get chains c) cell is (λ cells found there. (cells, (found, there)))
 
-count_at : (ring : RingConfig) (chains : List (List InstanceId)) (cycles : ℕ) (rows : LoadRows) (c k : ℕ) (cell : InstanceId) → AreLoadEquations ring (map length chains) cycles rows → cell_at chains c k ≡ Some cell →
+count_at : (ring : RingConfig) (chains : List (List InstanceId)) (late : ℕ → Bool) (cycles : ℕ) (rows : LoadRows) (c k : ℕ) (cell : InstanceId) → AreLoadEquations ring (map length chains) late cycles rows → cell_at chains c k ≡ Some cell →
     (c < length (map length chains)) × (k < length (rows_of rows c)) × (get_or (map length chains) c 0 ≡ length (rows_of rows c))
-count_at ring chains cycles rows c k cell are is =
+count_at ring chains late cycles rows c k cell are is =
     let at = at_place chains c k cell is in
     let within : c < length chains = slice_get_within chains c at.0 at.1.0 in
     let inside : k < length at.0 = slice_get_within at.0 k cell at.1.1 in
@@ -43,13 +43,13 @@ count_at ring chains cycles rows c k cell are is =
     let count : length (rows_of rows c) ≡ get_or (map length chains) c 0 = (are.each c less).count in
     (less, omega arith, sym count)
 
-pub rows_are : (ring : RingConfig) (chains : List (List InstanceId)) (cycles : ℕ) (rows : LoadRows) → AreLoadEquations ring (map length chains) cycles rows → StandApart chains → AreRows chains rows
-rows_are ring chains cycles rows are apart = record {
-  cells = λ c k cell is. (let at = count_at ring chains cycles rows c k cell are is in ((let less = at.0 in let size = are.chains in omega arith), at.1));
+pub rows_are : (ring : RingConfig) (chains : List (List InstanceId)) (late : ℕ → Bool) (cycles : ℕ) (rows : LoadRows) → AreLoadEquations ring (map length chains) late cycles rows → StandApart chains → AreRows chains rows
+rows_are ring chains late cycles rows are apart = record {
+  cells = λ c k cell is. (let at = count_at ring chains late cycles rows c k cell are is in ((let less = at.0 in let size = are.chains in omega arith), at.1));
   wide = λ c k cell is.
-      (let at = count_at ring chains cycles rows c k cell are is in
+      (let at = count_at ring chains late cycles rows c k cell are is in
       let inside : k < get_or (map length chains) c 0 = (let less = at.1 in let same = at.2 in omega arith) in
-      ap length ((are.each c at.0).each k inside) ∙ length-map-range_with_len (load_equation ring cycles c k) 0 (cycles * ring.channels) ∙ sym are.columns);
+      ap length ((are.each c at.0).each k inside) ∙ length-map-range_with_len (load_equation ring cycles (late c) c k) 0 (cycles * ring.channels) ∙ sym are.columns);
   apart = apart;
 }
 

@@ -1,6 +1,7 @@
 -- What a `Loads` shows, and what holds of it.
 use Rattle.std.specs.Prelude.{length, map}
 use Rattle.dft_stitch.specs.Chains.{plan_of}
+use Rattle.dft_stitch.specs.Plans.{falling_head}
 use Rattle.dft_equations.specs.LoadRows.{AreLoadEquations}
 use Rattle.dft_merge.specs.declared.loads.Loads.TheInside.{Inside}
 use Rattle.dft_merge.specs.LoadPlan.{LoadPlan}
@@ -11,4 +12,4 @@ loads_in l = record { design = l.planned.design; config = l.planned.config; plan
 -- the equations are those of the planned chains
 abbrev pub AreLoads : Inside → Type 0
 AreLoads l =
-    let plan = plan_of l.planned.design l.planned.config in AreLoadEquations l.planned.config.ring (map length plan.chains) plan.cycles l.equations
+    let plan = plan_of l.planned.design l.planned.config in AreLoadEquations l.planned.config.ring (map length plan.chains) (falling_head plan) plan.cycles l.equations

@@ -1,12 +1,14 @@
 //! A planned design with the load equations of its chains.
 
-ghost use Rattle.std.specs.Prelude.{◌≡◌, ◌≤◌, None, Some, IfOk, MatchOption, is_some, length, map};
+ghost use Rattle.std.specs.Prelude.{ℕ, ◌≡◌, ◌<◌, ◌≤◌, None, Some, IfOk, MatchOption, is_some, length, map};
 ghost use Rattle.std.specs.List.{All};
+ghost use Rattle.dft_base.specs.Solutions.{bit_at};
 ghost use Rattle.dft_config.specs.Range.{IsInRange};
 ghost use Rattle.dft_rules.specs.Refusals as rules;
 ghost use Rattle.dft_rules.specs.Rules.{judgements};
 ghost use Rattle.dft_stitch.specs.Chains.{plan_of};
 ghost use Rattle.dft_stitch.specs.Limits as limits;
+ghost use Rattle.dft_stitch.specs.Plans.{falling_head};
 ghost use Rattle.dft_equations.specs.LoadRows.{AreLoadEquations};
 ghost use Rattle.dft_lanes.specs.Rows.{bits_of, IsPacked};
 ghost use Rattle.dft_merge.specs.LoadPlan.{columns_by, rows_by};
@@ -58,7 +60,7 @@ impl<'a> Loads<'a> {
         ensures fits { limits.refusal self.now.design self.now.config ≡ None }
         ensures range { IsInRange self.now.config }
         ensures planned { self.now.plan ≡ plan_of self.now.design self.now.config }
-        ensures equations { AreLoadEquations self.now.config.ring (map length self.now.plan.chains) self.now.plan.cycles self.now.rows }
+        ensures equations { AreLoadEquations self.now.config.ring (map length self.now.plan.chains) (falling_head self.now.plan) self.now.plan.cycles self.now.rows }
         ensures rows { AreRows self.now.plan.chains self.now.rows }
     {
         self.planned.soundness();
@@ -132,12 +134,25 @@ impl<'a> Loads<'a> {
 
 // The load equations of planned chains.
 fn load_equations(alloc: Global, planned: &Planned<'_>) -> Result<Equations, AllocError>
-    ensures { IfOk result (AreLoadEquations planned.now.config.ring (map length (plan_of planned.now.design planned.now.config).chains) (plan_of planned.now.design planned.now.config).cycles) }
+    ensures { IfOk result (AreLoadEquations planned.now.config.ring (map length (plan_of planned.now.design planned.now.config).chains) (falling_head (plan_of planned.now.design planned.now.config)) (plan_of planned.now.design planned.now.config).cycles) }
 {
     planned.soundness();
     let chains = planned.chains();
     let lengths = lengths_of(alloc, chains)?;
-    equations(alloc, planned.config(), &lengths, chains.cycles())
+    let heads = heads_of(alloc, chains)?;
+    equations(alloc, planned.config(), &lengths, &heads, chains.cycles())
+}
+
+// Whether each chain begins with a falling cell.
+fn heads_of(alloc: Global, chains: &Chains) -> Result<Vec<bool>, AllocError>
+    ensures count { IfOk result (λ heads. length heads.items ≡ length chains.now.chains) }
+    ensures each { IfOk result (λ heads. (chain : ℕ) → chain < length chains.now.chains → bit_at heads.items chain ≡ falling_head chains.now chain) }
+{
+    let mut heads = Vec::with_capacity(alloc, usize::from(chains.count()))?;
+    for chain in 0..chains.count() {
+        heads.push(chains.falling_head(chain))?;
+    }
+    Ok(heads)
 }
 
 // How many cells each chain has.

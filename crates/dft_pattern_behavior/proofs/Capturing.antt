@@ -37,7 +37,7 @@ use Rattle.dft_config.proofs.Linearity.{loads_sum}
 use Rattle.dft_rules.specs.Rules.{is_net}
 use Rattle.dft_runs.specs.Passes.{AreRounds, after_rounds}
 use Rattle.dft_stitch.specs.Chains.{cells_of, plan_of}
-use Rattle.dft_stitch.specs.Plans.{cell_at}
+use Rattle.dft_stitch.specs.Plans.{cell_at, falling_head}
 use Rattle.dft_stitch.proofs.BlockLemmas.{chain_count}
 use Rattle.dft_chains.specs.ScanOff.{Places}
 use Rattle.dft_edt.specs.Captures.{StandsOver}
@@ -205,11 +205,14 @@ module _ (n : Netlist) (config : Config) (ports : Ports) (p : Pattern) (clear : 
   abbrev cycles : ℕ
   cycles = (plan_of n config).cycles
 
+  abbrev late : ℕ → Bool
+  late = falling_head (plan_of n config)
+
   abbrev cv : Vector
   cv = capture_vector n config p.merged
 
   abbrev its : ℕ → Tri
-  its = loaded_values chains (loaded_of config.ring p.table cycles chains)
+  its = loaded_values chains (loaded_of config.ring p.table cycles late chains)
 
   abbrev loaded : ℕ → Tri
   loaded = after_rounds l (after_round l clear before c) load rs
@@ -239,20 +242,20 @@ module _ (n : Netlist) (config : Config) (ports : Ports) (p : Pattern) (clear : 
       ∙ sym (given_same n (config_ports n config) original y cv its is.captured.values net (original.net net) (input_by n (config_ports n config) net (driver n net)) same flops_same)
 
   -- each cell has what the load brings to it
-  brought : (chain place : ℕ) (cell : InstanceId) → cell_at chains chain place ≡ Some cell → loaded cell.0 ≡ known (loaded_bit config.ring p.table cycles chain place)
+  brought : (chain place : ℕ) (cell : InstanceId) → cell_at chains chain place ≡ Some cell → loaded cell.0 ≡ known (loaded_bit config.ring p.table cycles (late chain) chain place)
   brought chain place cell stands =
       let there = chain_of chains chain place cell (slice_get chains chain) refl stands in
       let chain_less : chain < config.chains = (let inside = slice_get_within chains chain there.0 there.1 in let count = chain_count (cells_of n config) config.chains in omega (arith, inside, count)) in
       let place_less : place < cycles = (let inside = slice_get_within there.0 place cell there.2 in let fits = chains_fit n config chain there.0 ready.range there.1 in omega (arith, inside, fits)) in
       let within : place < length load = (let long = loads.count in omega (arith, place_less, long)) in
       (loads_reach n config ports ready suits).1 p.table clear load before c rs clearing loads.carries cleared rounds chain place cell stands within
-      ∙ ap (λ k. known (load_sum config p.table k chain place)) loads.count
-      ∙ ap known (sym (loads_sum config p.table cycles chain place ready.range chain_less place_less))
+      ∙ ap (λ k. known (load_sum config p.table k (late chain) chain place)) loads.count
+      ∙ ap known (sym (loads_sum config p.table cycles (late chain) chain place ready.range chain_less place_less))
 
   over : StandsOver s y capture its loaded
   over = record {
     ports = λ net less. above_self (capture.ports (s.moved net));
-    flops = λ cell modelled. loaded_above config.ring p.table cycles chains cell (loaded cell) (λ chain place stands. brought chain place (record { 0 = cell }) stands);
+    flops = λ cell modelled. loaded_above config.ring p.table cycles late chains cell (loaded cell) (λ chain place stands. brought chain place (record { 0 = cell }) stands);
   }
 
   pulses : (e : ℕ) → capture.pulsed (s.moved e) ≡ is_net e (Some is.clock)
@@ -304,7 +307,7 @@ module _ (n : Netlist) (config : Config) (ports : Ports) (p : Pattern) (clear : 
   pub has_captured : HasCaptured n config p is new
   has_captured =
       let long : longest_segment config ≤ length load = (let count = loads.count in omega (arith, count)) in
-      let arrive = (unloads_show n config ports ready suits).2 (bit_at p.masks) load capture (after_round l clear before c) rs r loads.sends long captures.clearing rounds round in
+      let arrive = (unloads_show n config ports ready suits).2 (bit_at p.masks) load [] capture (after_round l clear before c) rs [] r loads.sends long tt captures.clearing rounds tt round in
       record { clear = arrive.1; masked = arrive.0; cells = cell_above }
 
   pub shows_capture : ShowsCapture n config p r

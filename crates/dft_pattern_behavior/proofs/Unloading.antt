@@ -1,5 +1,5 @@
 -- What was captured is shown while the next load runs.
-use Rattle.std.proofs.Common.{ℕ, suc, ◌-◌, ◌<◌, ◌≡◌, Bool, true, false, nat_lt, List, [], length, map, take, get_or, option_map, Some, slice_get, refl, sym, ap, arith, ◌∙◌}
+use Rattle.std.proofs.Common.{ℕ, suc, ◌+◌, ◌-◌, ◌<◌, ◌≡◌, Bool, true, false, nat_lt, List, [], length, map, take, get_or, option_map, Some, slice_get, refl, sym, ap, arith, ◌∙◌}
 use Rattle.std.specs.Prelude.{slice_index_or, if◌then◌else◌}
 use Rattle.std.specs.List.{list_any}
 use Rattle.std.proofs.lemmas.Bool.Decides.{nat_tests}
@@ -17,10 +17,11 @@ use Rattle.dft_netlist.specs.Runs.{Vector}
 use Rattle.dft_abstract.specs.Cycle.{Round}
 use Rattle.dft_config.specs.Config.{Config}
 use Rattle.dft_config.specs.declared.config.RingConfig.{RingConfig}
+use Rattle.dft_config.specs.Loads.{delay}
 use Rattle.dft_config.specs.Ring.{Table, state_after, phase_sum}
 use Rattle.dft_runs.specs.Passes.{AreRounds}
 use Rattle.dft_stitch.specs.Chains.{cells_of, plan_of}
-use Rattle.dft_stitch.specs.Plans.{cell_at}
+use Rattle.dft_stitch.specs.Plans.{cell_at, falling_head}
 use Rattle.dft_stitch.proofs.BlockLemmas.{chain_count}
 use Rattle.dft_edt.specs.Hardware.{EdtNets}
 use Rattle.dft_edt.specs.Unloads.{AreMasked, end_value}
@@ -46,7 +47,7 @@ use Rattle.dft_pattern_behavior.proofs.Lists.{cut_back, any_none, rounds_there, 
 
 -- the value that a pattern captures in a cell
 abbrev pub captured_in : (n : Netlist) (config : Config) (p : Pattern) → IsPattern n config p → InstanceId → Tri
-captured_in n config p is cell = captured_value n config (plan_of n config).chains p.merged (loaded_of config.ring p.table (plan_of n config).cycles (plan_of n config).chains) is.captured.values cell.0
+captured_in n config p is cell = captured_value n config (plan_of n config).chains p.merged (loaded_of config.ring p.table (plan_of n config).cycles (falling_head (plan_of n config)) (plan_of n config).chains) is.captured.values cell.0
 
 -- the ring is clear, the hold bits are the masks, and each cell has what was captured, where that is known
 pub record HasCaptured (n : Netlist) (config : Config) (p : Pattern) (is : IsPattern n config p) (old : ℕ → Tri) : Type 0 where
@@ -66,9 +67,9 @@ above_known One Zero e h = absurd h
 above_known One Unknown e h = absurd h
 
 -- the end of a chain, by what its cells have
-ends_by : (ring : RingConfig) (running : Table) (chain t : ℕ) (cells : List InstanceId) (f : InstanceId → Tri) (old : ℕ → Tri) (b : Bool) → nat_lt t (length cells) ≡ b → ((k : ℕ) (cell : InstanceId) → slice_get cells k ≡ Some cell → old cell.0 ≡ known (is_one (f cell))) →
-    (if nat_lt t (length cells) then old (get_or cells (length cells - suc t) (record { 0 = 0 })).0 else known (phase_sum ring chain (state_after ring running (t - length cells)))) ≡ known (shown_by ring running chain (map f cells) t)
-ends_by ring running chain t cells f old true is each =
+ends_by : (ring : RingConfig) (running : Table) (late : Bool) (chain t : ℕ) (cells : List InstanceId) (f : InstanceId → Tri) (old : ℕ → Tri) (b : Bool) → nat_lt t (length cells) ≡ b → ((k : ℕ) (cell : InstanceId) → slice_get cells k ≡ Some cell → old cell.0 ≡ known (is_one (f cell))) →
+    (if nat_lt t (length cells) then old (get_or cells (length cells - suc t) (record { 0 = 0 })).0 else known (phase_sum ring chain (state_after ring running (t - length cells + delay late)))) ≡ known (shown_by ring running late chain (map f cells) t)
+ends_by ring running late chain t cells f old true is each =
     let m : length (map f cells) ≡ length cells = length-map cells f in
     let less : t < length cells = grind (arith, nat_tests, is) in
     let here = get_there cells (length cells - suc t) (omega (arith, less)) in
@@ -76,19 +77,22 @@ ends_by ring running chain t cells f old true is each =
     let at : length (map f cells) - 1 - t ≡ length cells - suc t = omega (arith, m, less) in
     let lhs : old (get_or cells (length cells - suc t) (record { 0 = 0 })).0 ≡ known (is_one (f cell)) = ap (λ (c : InstanceId). old c.0) (get_or_from_slice_get cells (length cells - suc t) cell (record { 0 = 0 }) here.1) ∙ each (length cells - suc t) cell here.1 in
     let rhs : from_end (map f cells) t ≡ f cell = ap (λ k. slice_index_or (map f cells) k Unknown) at ∙ get_or_from_slice_get (map f cells) (length cells - suc t) (f cell) Unknown (slice_get-map f cells (length cells - suc t) ∙ ap (option_map f) here.1) in
-    ap (λ c. if c then old (get_or cells (length cells - suc t) (record { 0 = 0 })).0 else known (phase_sum ring chain (state_after ring running (t - length cells)))) is
+    ap (λ c. if c then old (get_or cells (length cells - suc t) (record { 0 = 0 })).0 else known (phase_sum ring chain (state_after ring running (t - length cells + delay late)))) is
     ∙ lhs
     ∙ ap (λ v. known (is_one v)) (sym rhs)
-    ∙ ap (λ c. known (if c then is_one (from_end (map f cells) t) else phase_sum ring chain (state_after ring running (t - length (map f cells))))) (sym is ∙ ap (nat_lt t) (sym m))
-ends_by ring running chain t cells f old false is each =
+    ∙ ap (λ c. known (if c then is_one (from_end (map f cells) t) else phase_sum ring chain (state_after ring running (t - length (map f cells) + delay late)))) (sym is ∙ ap (nat_lt t) (sym m))
+ends_by ring running late chain t cells f old false is each =
     let m : length (map f cells) ≡ length cells = length-map cells f in
-    ap (λ c. if c then old (get_or cells (length cells - suc t) (record { 0 = 0 })).0 else known (phase_sum ring chain (state_after ring running (t - length cells)))) is
-    ∙ ap (λ k. known (phase_sum ring chain (state_after ring running (t - k)))) (sym m)
-    ∙ ap (λ c. known (if c then is_one (from_end (map f cells) t) else phase_sum ring chain (state_after ring running (t - length (map f cells))))) (sym is ∙ ap (nat_lt t) (sym m))
+    ap (λ c. if c then old (get_or cells (length cells - suc t) (record { 0 = 0 })).0 else known (phase_sum ring chain (state_after ring running (t - length cells + delay late)))) is
+    ∙ ap (λ k. known (phase_sum ring chain (state_after ring running (t - k + delay late)))) (sym m)
+    ∙ ap (λ c. known (if c then is_one (from_end (map f cells) t) else phase_sum ring chain (state_after ring running (t - length (map f cells) + delay late)))) (sym is ∙ ap (nat_lt t) (sym m))
 
 module _ (n : Netlist) (config : Config) (ports : Ports) (p : Pattern) (old : ℕ → Tri) (ready : IsReady n config) (suits : SuitsEdt n config ports) (is : IsPattern n config p) (has : HasCaptured n config p is old) where
   abbrev chains : List (List InstanceId)
   chains = (plan_of n config).chains
+
+  abbrev late : ℕ → Bool
+  late = falling_head (plan_of n config)
 
   abbrev its : InstanceId → Tri
   its = captured_in n config p is
@@ -99,7 +103,7 @@ module _ (n : Netlist) (config : Config) (ports : Ports) (p : Pattern) (old : �
   values_are : values ≡ map (map its) chains
   values_are = ap (by_chain chains) is.captured.cells ∙ cut_back its chains
 
-  end_known : (running : Table) (t chain : ℕ) → chain < config.chains → bit_at p.masks chain ≡ false → end_value config.ring chains running old t chain ≡ known (shown_by config.ring running chain (chain_at values chain) t)
+  end_known : (running : Table) (t chain : ℕ) → chain < config.chains → bit_at p.masks chain ≡ false → end_value config.ring chains late running old t chain ≡ known (shown_by config.ring running (late chain) chain (chain_at values chain) t)
   end_known running t chain less open_it =
       let there = get_there chains chain (let count = chain_count (cells_of n config) config.chains in omega (arith, less, count)) in
       let cells : List InstanceId = there.0 in
@@ -108,10 +112,10 @@ module _ (n : Netlist) (config : Config) (ports : Ports) (p : Pattern) (old : �
       let own : get_or chains chain [] ≡ cells = get_or_from_slice_get chains chain cells [] there.1 in
       let none : list_any is_unknown (map its cells) ≡ false =
       unmasked (always_of config) values chain (map its cells) (ap (λ (vs : List (List Tri)). slice_get vs chain) values_are ∙ at) (sym (ap (λ (ms : List Bool). bit_at ms chain) is.masked) ∙ open_it) in
-      ap (λ (cs : List InstanceId). if nat_lt t (length cs) then old (get_or cs (length cs - suc t) (record { 0 = 0 })).0 else known (phase_sum config.ring chain (state_after config.ring running (t - length cs)))) own
-      ∙ ends_by config.ring running chain t cells its old (nat_lt t (length cells)) refl
+      ap (λ (cs : List InstanceId). if nat_lt t (length cs) then old (get_or cs (length cs - suc t) (record { 0 = 0 })).0 else known (phase_sum config.ring chain (state_after config.ring running (t - length cs + delay (late chain))))) own
+      ∙ ends_by config.ring running (late chain) chain t cells its old (nat_lt t (length cells)) refl
       (λ k cell here. above_known (its cell) (old cell.0) (any_none is_unknown (map its cells) k (its cell) none (slice_get-map its cells k ∙ ap (option_map its) here)) (has.cells chain k cell (at_chain chains chain k cells cell there.1 here)))
-      ∙ ap (λ (vs : List Tri). known (shown_by config.ring running chain vs t)) (sym row)
+      ∙ ap (λ (vs : List Tri). known (shown_by config.ring running (late chain) chain vs t)) (sym row)
 
   pub unload_shows : (running : Table) (xs : List Vector) (qs : List Round) → Carry n config running xs → AreRounds (edt_logic n config ports) old xs qs → ShowsUnload n config p running qs
   unload_shows running xs qs carry rounds t r here j less =
@@ -121,6 +125,6 @@ module _ (n : Netlist) (config : Config) (ports : Ports) (p : Pattern) (old : �
       let x = rounds_there l old xs qs t r rounds here in
       let cut = rounds_at l old xs qs t x.0 r rounds x.1 here in
       let long : length (take t xs) ≡ t = take_length xs t x.0 x.1 in
-      (unloads_show n config ports ready suits).1 running (bit_at p.masks) (take t xs) x.0 old (take t qs) r (λ chain. shown_by config.ring running chain (chain_at values chain) t)
+      (unloads_show n config ports ready suits).1 running (bit_at p.masks) (take t xs) x.0 old (take t qs) r (λ chain. shown_by config.ring running (late chain) chain (chain_at values chain) t)
       (carry_take (ports_in Edt n config) config w hw running 0 xs t carry) (carry_at (ports_in Edt n config) config w hw running 0 xs t x.0 carry x.1) cut.0 cut.1 has.clear has.masked
-      (λ chain inside open_it. ap (λ k. end_value config.ring chains running old k chain) long ∙ end_known running t chain inside open_it) j less
+      (λ chain inside open_it. ap (λ k. end_value config.ring chains late running old k chain) long ∙ end_known running t chain inside open_it) j less

@@ -10,6 +10,7 @@ use Rattle.dft_netlist.specs.Runs.{Vector}
 use Rattle.dft_config.specs.Config.{Config}
 use Rattle.dft_config.specs.Ring.{Table}
 use Rattle.dft_stitch.specs.Chains.{plan_of}
+use Rattle.dft_stitch.specs.Plans.{falling_head}
 use Rattle.dft_edt.specs.Vectors.{IsClearing}
 use Rattle.dft_cubes.specs.declared.cube.Merged.{Merged}
 use Rattle.dft_expect.specs.declared.response.Response.{Response}
@@ -33,7 +34,7 @@ pub record Pattern : Type 0 where
 -- It captures what its load leaves, by a clock of the configuration; and it masks the chains in which something captured is unknown, and
 -- those that always are.
 pub record IsPattern (n : Netlist) (config : Config) (p : Pattern) : Type 0 where
-  pub captured : IsCapture n config (plan_of n config).chains p.merged (loaded_of config.ring p.table (plan_of n config).cycles (plan_of n config).chains) p.response
+  pub captured : IsCapture n config (plan_of n config).chains p.merged (loaded_of config.ring p.table (plan_of n config).cycles (falling_head (plan_of n config)) (plan_of n config).chains) p.response
   pub masked : p.masks ≡ masks_of (always_of config) (by_chain (plan_of n config).chains p.response.cells)
   pub clock : NetId
   pub clocked : capture_clock n config p.merged.domain ≡ Some clock

@@ -1,12 +1,12 @@
 -- The hardware under all ports that suit, and a rank of its nets.
-use Rattle.std.proofs.Common.{ℕ, ◌∙◌}
+use Rattle.std.proofs.Common.{ℕ}
 use Rattle.dft_netlist.specs.Logic.{Ports, IsRanked}
 use Rattle.dft_netlist.specs.Netlist.{Netlist}
 use Rattle.dft_config.specs.Config.{Config}
 use Rattle.dft_runs.proofs.WiderPortsLemmas.{ports_widen}
 use Rattle.dft_stitch.specs.Chains.{plan_of}
 use Rattle.dft_stitch.specs.Plans.{falling_head}
-use Rattle.dft_edt.specs.Hardware.{HeadsAre, HeadsRise}
+use Rattle.dft_edt.specs.Hardware.{HeadsAre}
 use Rattle.dft_edt.proofs.Staying.{hardware_stays, heads_stay}
 use Rattle.dft_scan_frame.specs.Statements.{IsReady}
 use Rattle.dft_scan_hardware.specs.declared.style.Style.TheVariants.{Edt}
@@ -30,10 +30,6 @@ pub edt_heads : (n : Netlist) (config : Config) (ports : Ports) → IsReady n co
 edt_heads n config ports ready suits =
     heads_stay (edt_logic n config (ports_in Edt n config)) (edt_logic n config ports) (ports_in Edt n config) config (plan_of n config).chains (chain_nets Edt n config) (edt_hardware n config) (falling_head (plan_of n config))
     (ports_widen (scanned Edt n config) (ports_in Edt n config) ports suits).logic (edt_has n config ready).ring (λ chain cell stands. (head_edge n config ready chain cell stands).0)
-
--- none does, as long as the scan rules pass no falling flip-flop
-pub edt_rises : (n : Netlist) (config : Config) (ports : Ports) → IsReady n config → SuitsEdt n config ports → HeadsRise (edt_logic n config ports) (plan_of n config).chains
-edt_rises n config ports ready suits chain cell stands = edt_heads n config ports ready suits chain cell stands ∙ (head_edge n config ready chain cell stands).1
 
 pub edt_rank : (n : Netlist) (config : Config) (ports : Ports) → IsReady n config → (rank : ℕ → ℕ) × IsRanked (edt_logic n config ports) rank
 edt_rank n config ports ready = ranked (scanned Edt n config) ports (λ net. scanned_orderable Edt n config ready net)

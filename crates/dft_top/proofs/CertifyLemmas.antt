@@ -4,7 +4,7 @@ use Rattle.dft_netlist.specs.Netlist.{Netlist}
 use Rattle.dft_config.specs.Config.{Config}
 use Rattle.dft_equations.specs.LoadRows.{AreLoadEquations, LoadRows}
 use Rattle.dft_stitch.specs.Chains.{plan_of}
-use Rattle.dft_stitch.specs.Plans.{Plan}
+use Rattle.dft_stitch.specs.Plans.{Plan, falling_head}
 use Rattle.dft_cubes.specs.declared.cube.Cube.{Cube}
 use Rattle.dft_merge.specs.Rows.{cell_row}
 use Rattle.dft_load_laws.specs.Loading.{AreRows, rows_of}
@@ -25,17 +25,17 @@ abbrev pub first_test : Netlist → Config → Plan → LoadRows → List Cube �
 first_test n config plan rows cubes report = certify_refusal n config.ring (cell_row plan.chains rows) rows.columns cubes report
 
 tested : (n : Netlist) (config : Config) (cubes : List Cube) (report : Report) (plan : Plan) (rows : LoadRows) (o : Outcome) → plan ≡ plan_of n config →
-    AreLoadEquations config.ring (map (λ cells. length cells) plan.chains) plan.cycles rows → IsOutcomeOfTest report (first_test n config plan rows cubes report) o → IsOutcomeOfReport n config cubes report o
+    AreLoadEquations config.ring (map (λ cells. length cells) plan.chains) (falling_head plan) plan.cycles rows → IsOutcomeOfTest report (first_test n config plan rows cubes report) o → IsOutcomeOfReport n config cubes report o
 tested n config cubes report plan rows o planned are is = (
   rows,
   (
-    subst (λ (p : Plan). AreLoadEquations config.ring (map (λ cells. length cells) p.chains) p.cycles rows) planned are,
+    subst (λ (p : Plan). AreLoadEquations config.ring (map (λ cells. length cells) p.chains) (falling_head p) p.cycles rows) planned are,
     subst (λ (p : Plan). IsOutcomeOfTest report (first_test n config p rows cubes report) o) planned is,
   ),
 )
 
 pub certified_is : (n : Netlist) (config : Config) (cubes : List Cube) (report : Report) (plan : Plan) (rows : LoadRows) (count : ℕ) → plan ≡ plan_of n config →
-    AreLoadEquations config.ring (map (λ cells. length cells) plan.chains) plan.cycles rows → first_test n config plan rows cubes report ≡ None → count ≡ unsolvable_in report.cubes →
+    AreLoadEquations config.ring (map (λ cells. length cells) plan.chains) (falling_head plan) plan.cycles rows → first_test n config plan rows cubes report ≡ None → count ≡ unsolvable_in report.cubes →
     IsOutcomeOfReport n config cubes report (Finished (Certified count))
 certified_is n config cubes report plan rows count planned are none is =
     tested n config cubes report plan rows (Finished (Certified count)) planned are
@@ -53,7 +53,7 @@ pub refusal_is : (r : Option Refusal) (refusal : Refusal) → r ≡ Some refusal
 refusal_is r refusal is = subst (λ (o : Option Refusal). IsRefusal o (Refused refusal)) (sym is) refl
 
 pub uncertified_is : (n : Netlist) (config : Config) (cubes : List Cube) (report : Report) (plan : Plan) (rows : LoadRows) (error : CertifyError) (refusal : Refusal) → plan ≡ plan_of n config →
-    AreLoadEquations config.ring (map (λ cells. length cells) plan.chains) plan.cycles rows → IsFault (first_test n config plan rows cubes report) error → refusals.certify_refusal error ≡ Some refusal →
+    AreLoadEquations config.ring (map (λ cells. length cells) plan.chains) (falling_head plan) plan.cycles rows → IsFault (first_test n config plan rows cubes report) error → refusals.certify_refusal error ≡ Some refusal →
     IsOutcomeOfReport n config cubes report (Refused refusal)
 uncertified_is n config cubes report plan rows error refusal planned are fault told =
     tested n config cubes report plan rows (Refused refusal) planned are
@@ -71,7 +71,7 @@ test_one report (Some error) a b x y = refusal_one (refusals.certify_refusal err
 test_one report None a b x y = x ∙ sym y
 
 rows_one : (n : Netlist) (config : Config) (a b : LoadRows) → AreRows n config a → AreRows n config b → a ≡ b
-rows_one n config a b x y = equations_one config.ring (map (λ cells. length cells) (plan_of n config).chains) (plan_of n config).cycles a b x y
+rows_one n config a b x y = equations_one config.ring (map (λ cells. length cells) (plan_of n config).chains) (falling_head (plan_of n config)) (plan_of n config).cycles a b x y
 
 -- over these load equations
 pub report_over : (n : Netlist) (config : Config) (cubes : List Cube) (report : Report) (rows : LoadRows) (o : Outcome) → AreRows n config rows → IsOutcomeOfReport n config cubes report o →

@@ -9,7 +9,7 @@ use Rattle.dft_netlist.specs.Netlist.{Netlist}
 use Rattle.dft_config.specs.Config.{Config}
 use Rattle.dft_equations.specs.LoadRows.{LoadRows}
 use Rattle.dft_gf2.proofs.OneChosen.{chosen_one}
-use Rattle.dft_stitch.specs.Plans.{Plan}
+use Rattle.dft_stitch.specs.Plans.{Plan, falling_head}
 use Rattle.dft_cubes.specs.declared.cube.Cube.{Cube}
 use Rattle.dft_cubes.specs.declared.cube.Merged.{Merged}
 use Rattle.dft_expect.specs.declared.response.Response.{Response}
@@ -35,7 +35,7 @@ pub record SamePlacing (config : Config) (plan : Plan) (cubes : List Cube) (p q 
 
 pub placing_one : (config : Config) (plan : Plan) (cubes : List Cube) (p q : Placing config plan cubes) → SamePlacing config plan cubes p q
 placing_one config plan cubes p q =
-    let rows = equations_one config.ring (map (λ cells. length cells) plan.chains) plan.cycles p.rows q.rows p.equations q.equations in
+    let rows = equations_one config.ring (map (λ cells. length cells) plan.chains) (falling_head plan) plan.cycles p.rows q.rows p.equations q.equations in
     let is : PlacesAll p.rows.columns (cell_row plan.chains p.rows) config.window [] cubes q.placed q.merged =
     subst (λ (r : LoadRows). PlacesAll r.columns (cell_row plan.chains r) config.window [] cubes q.placed q.merged) (sym rows) q.is in
     let one = placement_one p.rows.columns (cell_row plan.chains p.rows) config.window cubes p.placed q.placed p.merged q.merged p.is is in
@@ -50,11 +50,11 @@ pattern_one n rank config plan rows number p q ordered merged x y =
     let fill = fill_of config.fill number rows.columns in
     let chosen : IsChosen rows.columns (equations_of row p.merged.cells) fill q.bits = subst (λ (m : Merged). IsChosen rows.columns (equations_of row m.cells) fill q.bits) (sym merged) y.bits in
     let bits : p.bits ≡ q.bits = chosen_one rows.columns (equations_of row p.merged.cells) fill p.bits q.bits x.bits chosen in
-    let by_merged : IsCapture n config plan.chains p.merged (loaded_of config.ring (table_of config.ring (bit_at q.bits)) plan.cycles plan.chains) q.response =
-    subst (λ (m : Merged). IsCapture n config plan.chains m (loaded_of config.ring (table_of config.ring (bit_at q.bits)) plan.cycles plan.chains) q.response) (sym merged) y.captured in
-    let captured : IsCapture n config plan.chains p.merged (loaded_of config.ring (table_of config.ring (bit_at p.bits)) plan.cycles plan.chains) q.response =
-    subst (λ (b : List Bool). IsCapture n config plan.chains p.merged (loaded_of config.ring (table_of config.ring (bit_at b)) plan.cycles plan.chains) q.response) (sym bits) by_merged in
-    let response : p.response ≡ q.response = one_capture n rank config plan.chains p.merged (loaded_of config.ring (load_of config p) plan.cycles plan.chains) p.response q.response ordered x.captured captured in
+    let by_merged : IsCapture n config plan.chains p.merged (loaded_of config.ring (table_of config.ring (bit_at q.bits)) plan.cycles (falling_head plan) plan.chains) q.response =
+    subst (λ (m : Merged). IsCapture n config plan.chains m (loaded_of config.ring (table_of config.ring (bit_at q.bits)) plan.cycles (falling_head plan) plan.chains) q.response) (sym merged) y.captured in
+    let captured : IsCapture n config plan.chains p.merged (loaded_of config.ring (table_of config.ring (bit_at p.bits)) plan.cycles (falling_head plan) plan.chains) q.response =
+    subst (λ (b : List Bool). IsCapture n config plan.chains p.merged (loaded_of config.ring (table_of config.ring (bit_at b)) plan.cycles (falling_head plan) plan.chains) q.response) (sym bits) by_merged in
+    let response : p.response ≡ q.response = one_capture n rank config plan.chains p.merged (loaded_of config.ring (load_of config p) plan.cycles (falling_head plan) plan.chains) p.response q.response ordered x.captured captured in
     let masks : p.masks ≡ q.masks = x.masks ∙ ap (λ (r : Response). masks_of (always_of config) (by_chain plan.chains r.cells)) response ∙ sym y.masks in
     λ i. record { merged = merged i; bits = bits i; masks = masks i; response = response i }
 

@@ -11,7 +11,7 @@ use Rattle.dft_netlist.proofs.Ranks.{order_is_rank}
 use Rattle.dft_config.specs.Config.{Config}
 use Rattle.dft_equations.specs.LoadRows.{LoadRows}
 use Rattle.dft_stitch.specs.Chains.{plan_of}
-use Rattle.dft_stitch.specs.Plans.{Plan}
+use Rattle.dft_stitch.specs.Plans.{Plan, falling_head}
 use Rattle.dft_cubes.specs.declared.cube.Cube.{Cube}
 use Rattle.dft_cubes.specs.declared.cube.Merged.{Merged}
 use Rattle.dft_expect.specs.declared.response.Response.{Response}
@@ -67,7 +67,7 @@ pattern_some : (n : Netlist) (rank : ℕ → ℕ) (config : Config) (plan : Plan
 pattern_some n rank config plan rows number merged ordered loadable =
     let row = cell_row plan.chains rows in
     let chosen = some_choice rows.columns (equations_of row merged.cells) (fill_of config.fill number rows.columns) loadable.solvable in
-    let captured = capture_some n rank config plan.chains merged (loaded_of config.ring (table_of config.ring (bit_at chosen.bits)) plan.cycles plan.chains) ordered in
+    let captured = capture_some n rank config plan.chains merged (loaded_of config.ring (table_of config.ring (bit_at chosen.bits)) plan.cycles (falling_head plan) plan.chains) ordered in
     let p : PatternData = record { merged = merged; bits = chosen.bits; masks = masks_of (always_of config) (by_chain plan.chains captured.0.cells); response = captured.0 } in
     (p, refl, record { bits = chosen.is; loads = solves_loads rows.columns row (bit_at chosen.bits) merged.cells chosen.solves; captured = captured.1; masks = refl })
 

@@ -61,12 +61,18 @@ fn are_at_most(lengths: &[u16], cycles: u16) -> bool
 
 // The columns of each cell's row on a line of its own, chain after chain, for loads of so many cycles through the ring of this
 // configuration.
-fn told(alloc: Global, text: &str, lengths: &[u16], cycles: u16) -> Result<String, AllocError> {
+fn told(
+    alloc: Global,
+    text: &str,
+    lengths: &[u16],
+    falling: &[bool],
+    cycles: u16,
+) -> Result<String, AllocError> {
     if text.len() > 4096 || cycles > 512 || !are_at_most(lengths, cycles) {
         return String::from_str(alloc, "too long");
     }
     match Config::read(alloc, text.as_bytes()) {
-        Ok(config) => fitting_rows(alloc, &config, lengths, cycles),
+        Ok(config) => fitting_rows(alloc, &config, lengths, falling, cycles),
         Err(_) => String::from_str(alloc, "not read"),
     }
 }
@@ -75,24 +81,32 @@ fn fitting_rows(
     alloc: Global,
     config: &Config,
     lengths: &[u16],
+    falling: &[bool],
     cycles: u16,
 ) -> Result<String, AllocError>
     requires lengths { IsTrue (list_all (λ cells. nat_le cells cycles) lengths.now) }
     requires columns { cycles ≤ 512 }
 {
-    if usize::from(config.chains()) != lengths.len() {
+    if usize::from(config.chains()) != lengths.len() || falling.len() != lengths.len() {
         return String::from_str(alloc, "not of so many chains");
     }
-    rows(alloc, config, lengths, cycles)
+    rows(alloc, config, lengths, falling, cycles)
 }
 
-fn rows(alloc: Global, config: &Config, lengths: &[u16], cycles: u16) -> Result<String, AllocError>
+fn rows(
+    alloc: Global,
+    config: &Config,
+    lengths: &[u16],
+    falling: &[bool],
+    cycles: u16,
+) -> Result<String, AllocError>
     requires chains { length lengths.now ≡ config.now.chains }
+    requires heads { length falling.now ≡ length lengths.now }
     requires lengths { IsTrue (list_all (λ cells. nat_le cells cycles) lengths.now) }
     requires columns { cycles ≤ 512 }
 {
     config.soundness();
-    let equations = equations(alloc, config, lengths, cycles)?;
+    let equations = equations(alloc, config, lengths, falling, cycles)?;
     let mut text = String::new(alloc);
     for chain in 0..config.chains() {
         let places = lengths[usize::from(chain)];
@@ -138,6 +152,12 @@ static WITH_WARM_CYCLES: &str = "1 3\n0 2\n1\n1 2\n0 1\n";
 
 static WITH_NONE: &str = "1\n0\n\n0\n\n";
 
+// The first chain begins with a falling cell.
+static WITH_A_FALLING_HEAD: &str = "0 2 4\n1 3\n0 2\n1 2\n0 1\n";
+
+// One cell a chain and no warm cycle: a first cell that falls takes the variable of the load's last cycle too.
+static WITH_THE_LAST_VARIABLE: &str = "0\n\n";
+
 // The states of the crossed ring, stage by stage, the sixth one first; column 2 t is channel 0 at cycle t, and 2 t + 1 channel 1.
 static BY_HAND: &str =
     "0 2 5 7 8\n0 3 5 6\n1 3 4\n1 2\n0\n\n1 2 4 7 9\n0 2 5 7\n0 3 5\n1 3\n1\n\n0 3 5 6 8\n1 3 4 6\n1 2 4\n0 2\n0\n\n";
@@ -147,7 +167,7 @@ static AS_LONG_AS_MASKS: &str = "1 2\n1 3\n0 2\n";
 #[test]
 fn a_small_ring_gives_its_equations(rt: HostRuntime) -> Result<(), Fail> {
     let alloc = rt.alloc();
-    let rows = told(alloc, SMALL_RING, &[3u16, 2], 5)?;
+    let rows = told(alloc, SMALL_RING, &[3u16, 2], &[false; 2], 5)?;
     assert_eq!(rt; rows.as_str(), WITH_WARM_CYCLES);
     Ok(())
 }
@@ -155,15 +175,31 @@ fn a_small_ring_gives_its_equations(rt: HostRuntime) -> Result<(), Fail> {
 #[test]
 fn without_warm_cycles_some_equations_are_empty(rt: HostRuntime) -> Result<(), Fail> {
     let alloc = rt.alloc();
-    let rows = told(alloc, SMALL_RING, &[3u16, 2], 3)?;
+    let rows = told(alloc, SMALL_RING, &[3u16, 2], &[false; 2], 3)?;
     assert_eq!(rt; rows.as_str(), WITH_NONE);
+    Ok(())
+}
+
+#[test]
+fn a_falling_head_takes_its_variables_a_cycle_later(rt: HostRuntime) -> Result<(), Fail> {
+    let alloc = rt.alloc();
+    let rows = told(alloc, SMALL_RING, &[3u16, 2], &[true, false], 5)?;
+    assert_eq!(rt; rows.as_str(), WITH_A_FALLING_HEAD);
+    Ok(())
+}
+
+#[test]
+fn a_falling_head_takes_the_variable_of_the_last_cycle(rt: HostRuntime) -> Result<(), Fail> {
+    let alloc = rt.alloc();
+    let rows = told(alloc, SMALL_RING, &[1u16, 1], &[true, false], 1)?;
+    assert_eq!(rt; rows.as_str(), WITH_THE_LAST_VARIABLE);
     Ok(())
 }
 
 #[test]
 fn states_of_crossed_taps_are_as_by_hand(rt: HostRuntime) -> Result<(), Fail> {
     let alloc = rt.alloc();
-    let rows = told(alloc, CROSSED_RING, &[6u16, 6, 6], 6)?;
+    let rows = told(alloc, CROSSED_RING, &[6u16, 6, 6], &[false; 3], 6)?;
     assert_eq!(rt; rows.as_str(), BY_HAND);
     Ok(())
 }
@@ -171,7 +207,13 @@ fn states_of_crossed_taps_are_as_by_hand(rt: HostRuntime) -> Result<(), Fail> {
 #[test]
 fn the_newest_variables_of_a_realistic_ring_fall_by_a_cycle(rt: HostRuntime) -> Result<(), Fail> {
     let alloc = rt.alloc();
-    let rows = told(alloc, REALISTIC_RING, &[5u16, 5, 5, 5, 5, 5, 5, 5], 13)?;
+    let rows = told(
+        alloc,
+        REALISTIC_RING,
+        &[5u16, 5, 5, 5, 5, 5, 5, 5],
+        &[false; 8],
+        13,
+    )?;
     assert!(rt;
         newest(alloc, rows.as_str())?
             .as_str()
@@ -184,7 +226,7 @@ fn the_newest_variables_of_a_realistic_ring_fall_by_a_cycle(rt: HostRuntime) -> 
 #[test]
 fn loads_may_be_as_long_as_the_longest_mask_segment(rt: HostRuntime) -> Result<(), Fail> {
     let alloc = rt.alloc();
-    let rows = told(alloc, CROSSED_RING, &[1u16, 1, 1], 3)?;
+    let rows = told(alloc, CROSSED_RING, &[1u16, 1, 1], &[false; 3], 3)?;
     assert_eq!(rt; rows.as_str(), AS_LONG_AS_MASKS);
     Ok(())
 }

@@ -9,7 +9,7 @@ use Rattle.dft_lanes.specs.Rows.{bits_of, IsPacked}
 use Rattle.dft_netlist.specs.Netlist.{Netlist}
 use Rattle.dft_config.specs.Config.{Config}
 use Rattle.dft_config.specs.Ring.{Table}
-use Rattle.dft_stitch.specs.Plans.{Plan}
+use Rattle.dft_stitch.specs.Plans.{Plan, falling_head}
 use Rattle.dft_expect.specs.Loaded.{table_of}
 use Rattle.dft_expect.specs.Masks.{by_chain}
 use Rattle.dft_expect.specs.Expected.{output_bit, expected_of}
@@ -27,7 +27,7 @@ shown_is : (config : Config) (plan : Plan) (load : Table) (before : Option Patte
 shown_is config plan load None t less = refl
 shown_is config plan load (Some p) t less =
     let groups = config.compactor.groups in
-    let bit = output_bit config.ring load p.masks (by_chain plan.chains p.response.cells) in
+    let bit = output_bit config.ring load (falling_head plan) p.masks (by_chain plan.chains p.response.cells) in
     let here : 0 + t ≡ t = omega arith in
     ap (map expect) (block_at (λ u. map (bit u) groups) (length groups) (λ u. length-map groups (bit u)) 0 plan.cycles t less ∙ ap (λ (u : ℕ). map (bit u) groups) here)
     ∙ map-map expect (bit t) groups
@@ -41,8 +41,8 @@ loaded_so n config plan load masks before shown is =
     (λ t less. ap (shift_with n config plan load masks t) (shown_is config plan load before t (omega (arith, less))))
 
 -- the bits of all cycles are as many as the outputs in each
-pub expected_length : (ring : RingConfig) (groups : List (List ℕ)) (load : Table) (masks : List Bool) (values : List (List Tri)) (cycles : ℕ) → length (expected_of ring groups load masks values cycles) ≡ cycles * length groups
-expected_length ring groups load masks values cycles = flat_length (λ t. map (output_bit ring load masks values t) groups) (length groups) (λ t. length-map groups (output_bit ring load masks values t)) 0 cycles
+pub expected_length : (ring : RingConfig) (groups : List (List ℕ)) (load : Table) (late : ℕ → Bool) (masks : List Bool) (values : List (List Tri)) (cycles : ℕ) → length (expected_of ring groups load late masks values cycles) ≡ cycles * length groups
+expected_length ring groups load late masks values cycles = flat_length (λ t. map (output_bit ring load late masks values t) groups) (length groups) (λ t. length-map groups (output_bit ring load late masks values t)) 0 cycles
 
 -- ---- tables of channel bits
 

@@ -6,7 +6,7 @@ use Rattle.dft_vectors.specs.declared.layout.Layout.{Layout}
 use Rattle.dft_vectors.specs.declared.listing.VectorList.TheInside.{Inside}
 use Rattle.dft_config.specs.Config.{Config}
 use Rattle.dft_config.specs.Ring.{Table}
-use Rattle.dft_stitch.specs.Plans.{Plan}
+use Rattle.dft_stitch.specs.Plans.{Plan, falling_head}
 use Rattle.dft_expect.specs.Expected.{expected_of}
 use Rattle.dft_expect.specs.Masks.{by_chain}
 use Rattle.dft_vectors.specs.PatternData.{PatternData}
@@ -39,4 +39,4 @@ shown_at width (Some bits) t = map expect (take width (drop (t * width) bits))
 -- What the outputs are to show in all cycles of a load, cycle by cycle: what the pattern before it captured, if there is one.
 abbrev pub expected_if_any : Config → Plan → (load : Table) → (before : Option PatternData) → Option (List Bool)
 expected_if_any config plan load None = None
-expected_if_any config plan load (Some p) = Some (expected_of config.ring config.compactor.groups load p.masks (by_chain plan.chains p.response.cells) plan.cycles)
+expected_if_any config plan load (Some p) = Some (expected_of config.ring config.compactor.groups load (falling_head plan) p.masks (by_chain plan.chains p.response.cells) plan.cycles)

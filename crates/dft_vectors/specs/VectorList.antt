@@ -6,7 +6,7 @@ use Rattle.dft_base.specs.Solutions.{bit_at}
 use Rattle.dft_netlist.specs.Netlist.{Netlist}
 use Rattle.dft_config.specs.Config.{Config}
 use Rattle.dft_config.specs.Ring.{Table}
-use Rattle.dft_stitch.specs.Plans.{Plan}
+use Rattle.dft_stitch.specs.Plans.{Plan, falling_head}
 use Rattle.dft_config.specs.Segments.{sent_mask}
 use Rattle.dft_expect.specs.Captures.{capture_vector}
 use Rattle.dft_expect.specs.Expected.{output_bit}
@@ -32,7 +32,7 @@ set_up_acts n config = inputs_by n (quiet_vector n config) ++ (clearing config +
 -- load come in. The first load compares nothing.
 abbrev pub unloaded : Config → Plan → (load : Table) → (before : Option PatternData) → (cycle : ℕ) → List Act
 unloaded config plan load None t = ignored (length config.compactor.groups)
-unloaded config plan load (Some p) t = map (λ group. expect (output_bit config.ring load p.masks (by_chain plan.chains p.response.cells) t group)) config.compactor.groups
+unloaded config plan load (Some p) t = map (λ group. expect (output_bit config.ring load (falling_head plan) p.masks (by_chain plan.chains p.response.cells) t group)) config.compactor.groups
 
 -- The inputs in a cycle of a load: every clock pulses, the channels carry the load's bits and the mask ports send the masks.
 abbrev pub shift_inputs : Netlist → Config → Plan → (load : Table) → (masks : List Bool) → (cycle : ℕ) → List Act

@@ -5,4 +5,4 @@ use Rattle.dft_config.specs.Loads.{load_equation}
 use Rattle.dft_equations.proofs.making.first_bits.Given as goal
 
 abbrev pub invariant-loop-column : goal.invariant-loop-column
-invariant-loop-column l = l.bits.items ≡ map (load_equation l.config.ring l.cycles l.chain 0) (range_with_len 0 l.column)
+invariant-loop-column l = l.bits.items ≡ map (load_equation l.config.ring l.cycles l.late l.chain 0) (range_with_len 0 l.column)

@@ -1,5 +1,6 @@
 use Rattle.std.proofs.Common.{◌++◌, List, Some, length, ap, ◌∙◌, arith}
 use Rattle.dft_base.specs.Packed.{packed_bit}
+use Rattle.dft_stitch.specs.Plans.{falling_head}
 use Rattle.dft_expect.specs.Loaded.{table_of}
 use Rattle.dft_expect.specs.Masks.{by_chain}
 use Rattle.dft_patterns.specs.declared.act.Act.{Act}
@@ -14,7 +15,7 @@ add_shifts-requires-clause-expected c =
     omega (
       arith,
       ap length (c.deref.ensures.value ∙ c.in_ok-shown.ensures),
-      expected_length config.ring config.compactor.groups (table_of config.ring (packed_bit c.args.bits.now)) c.args.before.masks.now (by_chain l.chains.now.chains c.args.before.response.now.cells) l.chains.now.cycles,
+      expected_length config.ring config.compactor.groups (table_of config.ring (packed_bit c.args.bits.now)) (falling_head l.chains.now) c.args.before.masks.now (by_chain l.chains.now.chains c.args.before.response.now.cells) l.chains.now.cycles,
     )
 
 pub returns : goal.returns

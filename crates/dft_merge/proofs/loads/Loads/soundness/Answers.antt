@@ -1,6 +1,7 @@
 -- What is known of the planned design, and that its load equations fit its chains.
 use Rattle.std.proofs.Common.{◌≡◌, refl, subst}
 use Rattle.dft_stitch.specs.Chains.{plan_of}
+use Rattle.dft_stitch.specs.Plans.{falling_head}
 use Rattle.dft_merge.specs.LoadPlan.{LoadPlan}
 use Rattle.dft_merge.specs.Slots.{AreRows}
 use Rattle.dft_merge.proofs.MergerLemmas.{rows_are}
@@ -18,4 +19,4 @@ returns-clause-rows c =
     let config = c.self.inside.planned.config in
     let plan = plan_of n config in
     let rows = c.self.inside.equations in
-    subst (λ (l : LoadPlan). AreRows l.plan.chains l.rows) c.self.view_is (rows_are config.ring plan.chains plan.cycles rows c.self.invariant (c.plans_stand_apart.ensures n config c.soundness.ensures.range))
+    subst (λ (l : LoadPlan). AreRows l.plan.chains l.rows) c.self.view_is (rows_are config.ring plan.chains (falling_head plan) plan.cycles rows c.self.invariant (c.plans_stand_apart.ensures n config c.soundness.ensures.range))
