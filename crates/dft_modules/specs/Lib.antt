@@ -1,0 +1,4 @@
+pub mod Modules
+pub mod ModuleShown
+pub mod SubInstances
+pub mod ModuleTexts

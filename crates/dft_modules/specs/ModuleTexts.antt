@@ -1,0 +1,110 @@
+-- The modules that a text says, in its order, or why it is refused (IEEE 1364, structural part).
+use Rattle.std.specs.Prelude.{ℕ, zero, suc, ◌+◌, ◌-◌, Bool, ◌&&◌, ◌||◌, if◌then◌else◌, List, [], ◌∷◌, ◌++◌, length, map, take, drop, is_some, slice_index_or, Option, Some, None, Result, Ok, Err}
+use Rattle.std.specs.List.{list_any}
+use Rattle.std.specs.Str.{bytes_eq}
+use Rattle.dft_base.specs.Lexing.{Text, place_of}
+use Rattle.dft_base.specs.Parser as parser
+use Rattle.dft_cells.specs.declared.cell.Cell.{Cell}
+use Rattle.dft_cells.specs.Cells.{find_cell}
+use Rattle.dft_netlist.specs.declared.port.Port.{Port}
+use Rattle.dft_netlist.specs.declared.instance.Instance.{Instance}
+use Rattle.dft_netlist.specs.declared.instance.Join.{Join}
+use Rattle.dft_netlist.specs.Building.{port_of}
+use Rattle.dft_netlist.specs.NetNumbers.{nets_from}
+use Rattle.dft_netlist_text.specs.declared.text.TokenKind.TheVariants as kind
+use Rattle.dft_netlist_text.specs.declared.text.Declared.{Declared}
+use Rattle.dft_netlist_text.specs.declared.text.Fault.{Fault}
+use Rattle.dft_netlist_text.specs.Lexemes.{Token, tokens}
+use Rattle.dft_netlist_text.specs.Steps.{bytes, left, next, sees, refusal}
+use Rattle.dft_netlist_text.specs.Modules.{Draft, HeaderPort, net_count}
+use Rattle.dft_netlist_text.specs.NetlistText.{nets_of_port, net_order, final_signal, final_join}
+use Rattle.dft_modules.specs.declared.connections.Connection.{Connection}
+use Rattle.dft_modules.specs.declared.fault.ModulesFault.{ModulesFault}
+use Rattle.dft_modules.specs.declared.fault.ModulesFault.TheVariants as fault
+use Rattle.dft_modules.specs.declared.module.Item.{Item}
+use Rattle.dft_modules.specs.declared.module.Item.TheVariants as item
+use Rattle.dft_modules.specs.Modules.{Module}
+use Rattle.dft_modules.specs.SubInstances.{SubConnection, DraftSub, Said, one_module}
+
+-- ---- a module by the final numbers of its nets
+
+-- the port of a name, whose first bit has this number
+abbrev pub port_said : (first : ℕ) → Text → Option Declared → List Port
+port_said first word None = []
+port_said first word (Some declared) = port_of word declared.dir declared.shape.range (nets_from first (net_count declared.shape.range)) ∷ []
+
+-- the ports in the order of the header, whose bits are numbered one after another
+abbrev pub ports_said : (first : ℕ) → List HeaderPort → List Port
+ports_said first [] = []
+ports_said first (port ∷ ports) = port_said first port.name port.declared ++ ports_said (length (nets_of_port port.declared) + first) ports
+
+-- the names of nets in this order
+abbrev pub names_in_order : List ℕ → List Text → List Text
+names_in_order order nets = map (λ net. slice_index_or nets net []) order
+
+-- a join, and a cell or gate, with the final numbers of their nets
+abbrev pub join_said : (order : List ℕ) → Join → Item
+join_said order j = item.Join (final_join order j)
+
+abbrev pub cell_said : (order : List ℕ) → Instance → Item
+cell_said order i = item.Cell (record i { pins = map (final_signal order) i.pins })
+
+-- a connection, with the line and column of its port's name
+abbrev pub connection_said : Text → (order : List ℕ) → SubConnection → Connection
+connection_said text order c = record { place = place_of text c.left; port = c.port; signals = map (final_signal order) c.signals }
+
+abbrev pub sub_said : Text → (order : List ℕ) → DraftSub → Item
+sub_said text order s = item.Sub (record { name = s.name; of = s.of; connections = map (connection_said text order) s.connections })
+
+-- those of a list from one place up to another
+abbrev pub between : {A : Type 0} → (from to : ℕ) → List A → List A
+between from to xs = take (to - from) (drop from xs)
+
+-- the joins and then the cells from these places up to those
+abbrev pub parts_between : (order : List ℕ) → Draft → (join cell joins cells : ℕ) → List Item
+parts_between order d join cell joins cells = map (join_said order) (between join joins d.joins) ++ map (cell_said order) (between cell cells d.instances)
+
+-- the items from a join and a cell on: each module instance comes behind the joins and then the cells that stand before it
+abbrev pub items_said : Text → (order : List ℕ) → Draft → (join cell : ℕ) → List DraftSub → List Item
+items_said text order d join cell [] = parts_between order d join cell (length d.joins) (length d.instances)
+items_said text order d join cell (s ∷ subs) = parts_between order d join cell s.joins s.cells ++ sub_said text order s ∷ items_said text order d s.joins s.cells subs
+
+-- the module that was said: its nets are the bits of its ports in the order of the header, and then the others as they were first named
+abbrev pub module_said : Text → Said → Module
+module_said text m = record {
+  name = m.draft.name;
+  ports = ports_said 0 m.draft.ports;
+  nets = names_in_order (net_order m.draft) m.draft.nets;
+  items = items_said text (net_order m.draft) m.draft 0 0 m.subs;
+}
+
+-- ---- the modules of a text
+
+-- the modules of a text, or its first fault
+abbrev pub Modules : Type 0
+Modules = Result (List Module) ModulesFault
+
+-- whether a module's name is that of a cell, or of one of these modules
+abbrev pub is_repeated : List Cell → List Module → Text → Bool
+is_repeated library before word = is_some (find_cell library word) || list_any (λ (m : Module). bytes_eq m.name word) before
+
+-- whether a module begins here whose name is
+abbrev pub repeats : List Cell → List Module → List Token → Bool
+repeats library before ts = (sees kind.Module ts && sees kind.Name (next ts)) && is_repeated library before (bytes (next ts))
+
+-- what comes behind a module, or its fault
+abbrev pub behind_module : parser.Outcome Token Fault Said → (Said → List Token → Modules) → Modules
+behind_module (Ok p) rest = rest p.0 p.1
+behind_module (Err f) rest = Err (fault.Module f)
+
+-- The modules from here to the end of the text, behind those before. A module's name is tested at itself, before its header.
+unfoldable pub modules_from : ℕ → Text → List Cell → (before : List Module) → List Token → Modules
+modules_from zero text library before ts = Err (fault.Module (refusal ts))
+modules_from (suc n) text library before ts =
+    if repeats library before ts then Err (fault.Repeated (bytes (next ts)))
+    else behind_module (one_module library ts) (λ m us.
+    if sees kind.End us then Ok (before ++ module_said text m ∷ []) else modules_from n text library (before ++ module_said text m ∷ []) us)
+
+-- the modules of a text over the cells of a library: one at least
+unfoldable pub modules_of : List Cell → Text → Modules
+modules_of library text = modules_from (left (tokens text)) text library [] (tokens text)
