@@ -9,12 +9,13 @@ use Rattle.dft_netlist.specs.Netlist.{Netlist}
 use Rattle.dft_netlist_text.specs.NetlistText.{Grown}
 use Rattle.dft_modules.specs.declared.connections.Connection.{Connection}
 use Rattle.dft_modules.specs.Modules.{Module}
-use Rattle.dft_modules.specs.ModuleTexts.{Modules, modules_of}
+use Rattle.dft_modules.specs.declared.fault.ModulesFault.{ModulesFault}
+use Rattle.dft_modules.specs.ModuleTexts.{modules_of}
 use Rattle.dft_hier.specs.Hierarchy.{all_subs, tops}
 use Rattle.dft_hier.specs.Flat.{flat_netlist}
 use Rattle.dft_hier.specs.Refusals.{first_unknown, first_misfit}
 
-abbrev pub said_by : Modules → List Module
+abbrev pub said_by : Result (List Module) ModulesFault → List Module
 said_by (Ok ms) = ms
 said_by (Err why) = []
 

@@ -6,9 +6,10 @@ use Rattle.dft_cells.specs.Standard.{standard_cells}
 use Rattle.dft_netlist_text.specs.declared.text.Cause.{Cause}
 use Rattle.dft_modules.specs.declared.fault.ModulesFault.TheVariants as fault
 use Rattle.dft_modules.specs.Modules.{Module}
-use Rattle.dft_modules.specs.ModuleTexts.{Modules, modules_of}
+use Rattle.dft_modules.specs.declared.fault.ModulesFault.{ModulesFault}
+use Rattle.dft_modules.specs.ModuleTexts.{modules_of}
 
-abbrev pub said_by : Modules → Option (List Module)
+abbrev pub said_by : Result (List Module) ModulesFault → Option (List Module)
 said_by (Ok ms) = Some ms
 said_by (Err why) = None
 
@@ -24,7 +25,7 @@ pub data Why : Type 0 where
   At : Cause → Place → Why
   Name : Text → Why
 
-abbrev pub why_refused : Text → Modules → Option Why
+abbrev pub why_refused : Text → Result (List Module) ModulesFault → Option Why
 why_refused text (Ok ms) = None
 why_refused text (Err (fault.Module f)) = Some (At f.cause (place_of text f.left))
 why_refused text (Err (fault.Repeated name)) = Some (Name name)

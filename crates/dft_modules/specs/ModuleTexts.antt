@@ -4,6 +4,7 @@ use Rattle.std.specs.List.{list_any}
 use Rattle.std.specs.Str.{bytes_eq}
 use Rattle.dft_base.specs.Lexing.{Text, place_of}
 use Rattle.dft_base.specs.Parser as parser
+use Rattle.dft_base.specs.Parser.{◌>>=◌}
 use Rattle.dft_cells.specs.declared.cell.Cell.{Cell}
 use Rattle.dft_cells.specs.Cells.{find_cell}
 use Rattle.dft_netlist.specs.declared.port.Port.{Port}
@@ -36,7 +37,7 @@ port_said first word (Some declared) = port_of word declared.dir declared.shape.
 -- the ports in the order of the header, whose bits are numbered one after another
 abbrev pub ports_said : (first : ℕ) → List HeaderPort → List Port
 ports_said first [] = []
-ports_said first (port ∷ ports) = port_said first port.name port.declared ++ ports_said (length (nets_of_port port.declared) + first) ports
+ports_said first (port ∷ ports) = port_said first port.name port.declared ++ ports_said (first + length (nets_of_port port.declared)) ports
 
 -- the names of nets in this order
 abbrev pub names_in_order : List ℕ → List Text → List Text
@@ -80,31 +81,43 @@ module_said text m = record {
 
 -- ---- the modules of a text
 
--- the modules of a text, or its first fault
-abbrev pub Modules : Type 0
-Modules = Result (List Module) ModulesFault
+-- a rule of texts of several modules
+abbrev pub ModulesRule : Type 0 → Type 0
+ModulesRule A = parser.Parser Token ModulesFault A
 
--- whether a module's name is that of a cell, or of one of these modules
-abbrev pub is_repeated : List Cell → List Module → Text → Bool
-is_repeated library before word = is_some (find_cell library word) || list_any (λ (m : Module). bytes_eq m.name word) before
+-- what a rule of a module gives
+abbrev pub in_module : {A : Type 0} → parser.Outcome Token Fault A → parser.Outcome Token ModulesFault A
+in_module (Ok p) = Ok p
+in_module (Err f) = Err (fault.Module f)
+
+-- the name of the module that begins here
+abbrev pub name_ahead : List Token → Text
+name_ahead ts = bytes (next ts)
+
+-- whether a name is that of a cell, or one of these
+abbrev pub is_repeated : List Cell → (names : List Text) → Text → Bool
+is_repeated library names word = is_some (find_cell library word) || list_any (λ name. bytes_eq name word) names
 
 -- whether a module begins here whose name is
-abbrev pub repeats : List Cell → List Module → List Token → Bool
-repeats library before ts = (sees kind.Module ts && sees kind.Name (next ts)) && is_repeated library before (bytes (next ts))
+abbrev pub repeats : List Cell → (names : List Text) → List Token → Bool
+repeats library names ts = (sees kind.Module ts && sees kind.Name (next ts)) && is_repeated library names (name_ahead ts)
 
--- what comes behind a module, or its fault
-abbrev pub behind_module : parser.Outcome Token Fault Said → (Said → List Token → Modules) → Modules
-behind_module (Ok p) rest = rest p.0 p.1
-behind_module (Err f) rest = Err (fault.Module f)
+-- The next module behind those with these names. Its name is tested at itself, before its header.
+unfoldable pub next_module : List Cell → (names : List Text) → ModulesRule Said
+next_module library names = λ ts. if repeats library names ts then Err (fault.Repeated (name_ahead ts)) else in_module (one_module library ts)
 
--- The modules from here to the end of the text, behind those before. A module's name is tested at itself, before its header.
-unfoldable pub modules_from : ℕ → Text → List Cell → (before : List Module) → List Token → Modules
-modules_from zero text library before ts = Err (fault.Module (refusal ts))
-modules_from (suc n) text library before ts =
-    if repeats library before ts then Err (fault.Repeated (bytes (next ts)))
-    else behind_module (one_module library ts) (λ m us.
-    if sees kind.End us then Ok (before ++ module_said text m ∷ []) else modules_from n text library (before ++ module_said text m ∷ []) us)
+-- the modules so far, where the text ends, or else with those behind them
+abbrev pub and_more : (before : List Module) → ModulesRule (List Module) → ModulesRule (List Module)
+and_more before more = λ ts. if sees kind.End ts then Ok (before, ts) else more ts
 
--- the modules of a text over the cells of a library: one at least
-unfoldable pub modules_of : List Cell → Text → Modules
-modules_of library text = modules_from (left (tokens text)) text library [] (tokens text)
+-- the modules from here to the end of the text, behind those before, which have these names
+unfoldable pub modules_from : ℕ → Text → List Cell → (names : List Text) → (before : List Module) → ModulesRule (List Module)
+modules_from zero text library names before = λ ts. Err (fault.Module (refusal ts))
+modules_from (suc n) text library names before = λ ts.
+    (next_module library names >>= (λ m.
+    let all = before ++ module_said text m ∷ [] in
+    and_more all (modules_from n text library (names ++ name_ahead ts ∷ []) all))) ts
+
+-- the modules of a text over the cells of a library, one at least, or the first fault
+unfoldable pub modules_of : List Cell → Text → Result (List Module) ModulesFault
+modules_of library text = parser.value_of (modules_from (left (tokens text)) text library [] [] (tokens text))

@@ -114,13 +114,16 @@ sub_instances_from (suc n) of m = do
   comma ← eat kind.Comma
   if comma then sub_instances_from n of more else pure more
 
--- the name of a module, and instances of it with commas between them
-unfoldable pub sub_item : Said → Rule Said
-sub_item m = do
-  of ← expect kind.Name
-  more ← λ ts. sub_instances_from (left ts) of m ts
+-- instances of a module with commas between them, and the semicolon
+unfoldable pub sub_instances : (of : Text) → Said → Rule Said
+sub_instances of m = λ ts. (do
+  more ← sub_instances_from (left ts) of m
   expect kind.Semicolon
-  pure more
+  pure more) ts
+
+-- the name of a module, and instances of it
+unfoldable pub sub_item : Said → Rule Said
+sub_item m = λ ts. (expect kind.Name >>= (λ of. sub_instances of m)) ts
 
 -- ---- a module
 

@@ -31,7 +31,7 @@ pub meaning-new : (names : List TakenName) (word : Text) → has_word (map (λ (
 meaning-new names word e = none_by (meaning_in names word) (has_word_names names word ∙ e)
 
 pub names-added : (names : List TakenName) (e : TakenName) → map (λ (o : TakenName). o.name) (names ++ e ∷ []) ≡ map (λ (o : TakenName). o.name) names ++ e.name ∷ []
-names-added names e = map-append
+names-added names e = map-append (λ (o : TakenName). o.name) names (e ∷ [])
 
 pub ruleset name_sets = (meaning-new, names-added)
 
@@ -44,6 +44,6 @@ was_named_ports [] word = refl
 was_named_ports (c ∷ cs) word = or_same (bytes_eq c.port word) _ _ (was_named_ports cs word)
 
 pub ports-added : (connections : List SubConnection) (c : SubConnection) → map (λ (o : SubConnection). o.port) (connections ++ c ∷ []) ≡ map (λ (o : SubConnection). o.port) connections ++ c.port ∷ []
-ports-added connections c = map-append
+ports-added connections c = map-append (λ (o : SubConnection). o.port) connections (c ∷ [])
 
 pub ruleset port_sets = (was_named_ports, ports-added)

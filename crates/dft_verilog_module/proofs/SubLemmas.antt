@@ -1,0 +1,169 @@
+-- Rules of several modules, by the steps in which they are read.
+use Rattle.std.proofs.Common.{◌≡◌, ℕ, Bool, true, false, not, ◌&&◌, cond, List, [], ◌∷◌, ◌++◌, Option, Some, None, is_some, slice_get, Ok, Err, refl, sym, ap, ◌∙◌, rules}
+use denote.Enum.Bare.{same_true}
+use Rattle.dft_base.specs.Lexing.{Text}
+use Rattle.dft_base.specs.Parser as parser
+use Rattle.dft_base.specs.Parser.{and_then}
+use Rattle.dft_cells.specs.declared.cell.Cell.{Cell}
+use Rattle.dft_cells.specs.declared.cell.CellId.{CellId}
+use Rattle.dft_cells.specs.Cells.{find_cell}
+use Rattle.dft_netlist_text.specs.contracts.text.TokenKind.{the_type}
+use Rattle.dft_netlist_text.specs.declared.text.TokenKind.{TokenKind}
+use Rattle.dft_netlist_text.specs.declared.text.TokenKind.TheVariants as kind
+use Rattle.dft_netlist_text.specs.declared.text.Cause.TheVariants as cause
+use Rattle.dft_netlist_text.specs.declared.text.Fault.{Fault}
+use Rattle.dft_netlist_text.specs.declared.text.Meaning.TheVariants as meaning
+use Rattle.dft_netlist_text.specs.Lexemes.{Token}
+use Rattle.dft_netlist_text.specs.Steps.{Outcome, Rule, bytes, left, next, kind_of, sees, same_kind, expect, fault, refusal}
+use Rattle.dft_netlist_text.specs.Modules.{Draft, empty_draft, is_taken, with_name}
+use Rattle.dft_netlist_text.specs.Items.{instances_of, instances, instances_named, cell_item, item_of, item}
+use Rattle.dft_netlist_text.specs.NetlistText.{header, heading, module_end}
+use Rattle.dft_modules.specs.declared.fault.ModulesFault.{ModulesFault}
+use Rattle.dft_modules.specs.declared.fault.ModulesFault.TheVariants as told
+use Rattle.dft_modules.specs.SubInstances.{DraftSub, Said, name_sub, sub_instances, sub_item, names_module, module_item, module_items, one_module}
+use Rattle.dft_modules.specs.ModuleTexts.{in_module, is_repeated, repeats, name_ahead, next_module}
+use Rattle.dft_verilog_module.specs.SaidModules.{said, module_name, headed, behind_name}
+
+-- ---- the name of an instance
+
+named_by : (t : Bool) (place : ℕ) (word : Text) (d e : Draft) → cond t (Err (fault (cause.Taken word) place)) (Ok (with_name word meaning.Instance d)) ≡ Ok e → e.library ≡ d.library
+named_by true place word d e h = absurd (cc)
+named_by false place word d e h = let same : with_name word meaning.Instance d ≡ e = cc in sym (ap (λ (x : Draft). x.library) same)
+
+-- the cells are the same behind the name of a module instance
+pub sub_library : (place : ℕ) (word : Text) (d e : Draft) → name_sub place word d ≡ Ok e → e.library ≡ d.library
+sub_library place word d e h = named_by (is_taken d word) place word d e h
+
+pub ruleset sub_rules = (sub_library)
+
+-- ---- items that begin with a name
+
+-- what was expected comes next
+expected_by : (t : Bool) (k : TokenKind) (ts us : List Token) (word : Text) → cond t (Ok (bytes ts, next ts)) (Err (refusal ts)) ≡ Ok (word, us) → t ≡ true
+expected_by true k ts us word h = refl
+expected_by false k ts us word h = absurd (cc)
+
+expected : (k : TokenKind) (ts us : List Token) (word : Text) → expect k ts ≡ Ok (word, us) → sees k ts ≡ true
+unfolding expect
+expected k ts us word h = expected_by (sees k ts) k ts us word h
+
+taken_by : (t : Bool) (ts us : List Token) (word : Text) → t ≡ true → cond t (Ok (bytes ts, next ts)) (Err (refusal ts)) ≡ Ok (word, us) → (bytes ts ≡ word) × (next ts ≡ us)
+taken_by true ts us word is h = let same : (bytes ts, next ts) ≡ (word, us) = cc in (ap (λ (p : Text × List Token). p.0) same, ap (λ (p : Text × List Token). p.1) same)
+taken_by false ts us word is h = absurd (cc)
+
+taken : (k : TokenKind) (ts us : List Token) (word : Text) → expect k ts ≡ Ok (word, us) → (bytes ts ≡ word) × (next ts ≡ us)
+unfolding expect
+taken k ts us word h = taken_by (sees k ts) ts us word (expected k ts us word h) h
+
+kind_is : (k : TokenKind) (ts : List Token) → sees k ts ≡ true → kind_of ts ≡ k
+unfolding sees same_kind
+kind_is k ts h = same_true the_type (search rules) (kind_of ts) k h
+
+-- instances of a module, where no cell has the name
+pub named_sub : (d : Draft) (subs : List DraftSub) (ts us : List Token) (word : Text) → expect kind.Name ts ≡ Ok (word, us) → find_cell d.library word ≡ None → module_item (said d subs) ts ≡ sub_instances word (said d subs) us
+unfolding module_item sub_item
+named_sub d subs ts us word h none =
+    let m : Said = said d subs in
+    let other = and_then (item d ts) (λ e vs. Ok (said e subs, vs)) in
+    let name : find_cell d.library (bytes ts) ≡ None = ap (λ w. find_cell d.library w) (taken kind.Name ts us word h).0 ∙ none in
+    ap (λ b. cond (b && not (is_some (find_cell d.library (bytes ts)))) (sub_item m ts) other) (expected kind.Name ts us word h)
+    ∙ ap (λ o. cond (true && not (is_some o)) (sub_item m ts) other) name
+    ∙ ap (λ (o : Outcome Text). and_then o (λ of vs. sub_instances of m vs)) h
+
+-- instances of the cell that has it
+pub named_cell : (d : Draft) (subs : List DraftSub) (ts us : List Token) (word : Text) (id : CellId) (cell : Cell) → expect kind.Name ts ≡ Ok (word, us) → find_cell d.library word ≡ Some id → slice_get d.library id.0 ≡ Some cell →
+    module_item (said d subs) ts ≡ and_then (instances id cell d us) (λ e vs. Ok (said e subs, vs))
+unfolding module_item item cell_item
+named_cell d subs ts us word id cell h some at =
+    let m : Said = said d subs in
+    let put : Draft → List Token → Outcome Said = λ e vs. Ok (said e subs, vs) in
+    let name : find_cell d.library (bytes ts) ≡ Some id = ap (λ w. find_cell d.library w) (taken kind.Name ts us word h).0 ∙ some in
+    ap (λ b. cond (b && not (is_some (find_cell d.library (bytes ts)))) (sub_item m ts) (and_then (item d ts) put)) (expected kind.Name ts us word h)
+    ∙ ap (λ o. cond (true && not (is_some o)) (sub_item m ts) (and_then (item d ts) put)) name
+    ∙ ap (λ k. and_then (item_of k d ts) put) (kind_is kind.Name ts (expected kind.Name ts us word h))
+    ∙ ap (λ (o : Outcome Text). and_then (and_then o (λ w vs. instances_named (left ts) w (find_cell d.library w) d vs)) put) h
+    ∙ ap (λ o. and_then (instances_named (left ts) word o d us) put) some
+    ∙ ap (λ o. and_then (instances_of id o d us) put) at
+
+pub ruleset named_items = (named_sub, named_cell)
+
+-- any other item
+pub other_item : (d : Draft) (subs : List DraftSub) (ts : List Token) → sees kind.Name ts ≡ false → module_item (said d subs) ts ≡ and_then (item d ts) (λ e vs. Ok (said e subs, vs))
+unfolding module_item
+other_item d subs ts h =
+    ap (λ b. cond (b && not (is_some (find_cell d.library (bytes ts)))) (sub_item (said d subs) ts) (and_then (item d ts) (λ e vs. Ok (said e subs, vs)))) h
+
+pub ruleset other_items = (other_item)
+
+-- ---- a module behind its name
+
+then_then : {A B C : Type 0} (o : Outcome A) (f : A → Rule B) (g : B → Rule C) → and_then (and_then o f) g ≡ and_then o (λ a us. and_then (f a us) g)
+then_then (Ok p) f g = refl
+then_then (Err e) f g = refl
+
+two_then : {A B C D : Type 0} (o : Outcome A) (n : Rule B) (h : B → Rule C) (rest : C → Rule D) →
+    and_then (and_then o (λ _ us. and_then (n us) h)) rest ≡ and_then (and_then o (λ _ us. n us)) (λ b vs. and_then (h b vs) rest)
+two_then (Ok p) n h rest = then_then (n p.1) h rest
+two_then (Err e) n h rest = refl
+
+-- a module is its name, and what comes behind it
+one_by : (library : List Cell) (ts : List Token) → one_module library ts ≡ and_then (module_name ts) (λ word us. behind_name word library us)
+unfolding one_module heading headed behind_name
+one_by library ts =
+    two_then (expect kind.Module ts) (expect kind.Name) (λ word us. headed word library us) (λ start us. and_then (module_items (said start []) us) (λ m vs. and_then (module_end m.draft vs) (λ whole ws. Ok (record m { draft = whole }, ws))))
+
+-- what comes of a module with this name
+abbrev next_by : List Cell → List Text → Outcome Text → parser.Outcome Token ModulesFault Said
+next_by library names (Err f) = Err (told.Module f)
+next_by library names (Ok p) = cond (is_repeated library names p.0) (Err (told.Repeated p.0)) (in_module (behind_name p.0 library p.1))
+
+second_by : (b : Bool) (library : List Cell) (names : List Text) (ts : List Token) →
+    cond ((true && b) && is_repeated library names (bytes ts)) (Err (told.Repeated (bytes ts))) (in_module (and_then (cond b (Ok (bytes ts, next ts)) (Err (refusal ts))) (λ word us. behind_name word library us)))
+    ≡ next_by library names (cond b (Ok (bytes ts, next ts)) (Err (refusal ts)))
+second_by true library names ts = refl
+second_by false library names ts = refl
+
+first_by : (a : Bool) (library : List Cell) (names : List Text) (ts : List Token) →
+    cond ((a && sees kind.Name (next ts)) && is_repeated library names (bytes (next ts))) (Err (told.Repeated (bytes (next ts))))
+    (in_module (and_then (and_then (cond a (Ok (bytes ts, next ts)) (Err (refusal ts))) (λ _ us. expect kind.Name us)) (λ word us. behind_name word library us)))
+    ≡ next_by library names (and_then (cond a (Ok (bytes ts, next ts)) (Err (refusal ts))) (λ _ us. expect kind.Name us))
+unfolding expect
+first_by true library names ts = second_by (sees kind.Name (next ts)) library names (next ts)
+first_by false library names ts = refl
+
+-- the next module, by its name
+pub next_module_is : (library : List Cell) (names : List Text) (ts : List Token) → next_module library names ts ≡ next_by library names (module_name ts)
+unfolding next_module expect
+next_module_is library names ts =
+    ap (λ o. cond (repeats library names ts) (Err (told.Repeated (name_ahead ts))) (in_module o)) (one_by library ts) ∙ first_by (sees kind.Module ts) library names ts
+
+ahead_by : (a b : Bool) (ts us : List Token) (word : Text) →
+    and_then (cond a (Ok (bytes ts, next ts)) (Err (refusal ts))) (λ _ vs. cond b (Ok (bytes (next ts), next (next ts))) (Err (refusal (next ts)))) ≡ Ok (word, us) → bytes (next ts) ≡ word
+ahead_by true true ts us word h = let same : (bytes (next ts), next (next ts)) ≡ (word, us) = cc in ap (λ (p : Text × List Token). p.0) same
+ahead_by true false ts us word h = absurd (cc)
+ahead_by false b ts us word h = absurd (cc)
+
+name_by : (a : Bool) (ts us : List Token) (word : Text) → and_then (cond a (Ok (bytes ts, next ts)) (Err (refusal ts))) (λ _ vs. expect kind.Name vs) ≡ Ok (word, us) → bytes (next ts) ≡ word
+unfolding expect
+name_by true ts us word h = ahead_by true (sees kind.Name (next ts)) ts us word h
+name_by false ts us word h = absurd (cc)
+
+-- the name that is read is the one ahead
+pub name_ahead_is : (ts us : List Token) (word : Text) → module_name ts ≡ Ok (word, us) → name_ahead ts ≡ word
+unfolding expect
+name_ahead_is ts us word h = name_by (sees kind.Module ts) ts us word h
+
+-- ---- the next module, step by step
+
+pub next_unnamed : (library : List Cell) (names : List Text) (ts : List Token) (f : Fault) → module_name ts ≡ Err f → next_module library names ts ≡ Err (told.Module f)
+next_unnamed library names ts f h = next_module_is library names ts ∙ ap (next_by library names) h
+
+pub next_repeated : (library : List Cell) (names : List Text) (ts us : List Token) (word : Text) → module_name ts ≡ Ok (word, us) → is_repeated library names word ≡ true → next_module library names ts ≡ Err (told.Repeated word)
+next_repeated library names ts us word h again =
+    next_module_is library names ts ∙ ap (next_by library names) h ∙ ap (λ b. cond b (Err (told.Repeated word)) (in_module (behind_name word library us))) again
+
+pub next_new : (library : List Cell) (names : List Text) (ts us : List Token) (word : Text) → module_name ts ≡ Ok (word, us) → is_repeated library names word ≡ false → next_module library names ts ≡ in_module (behind_name word library us)
+next_new library names ts us word h new =
+    next_module_is library names ts ∙ ap (next_by library names) h ∙ ap (λ b. cond b (Err (told.Repeated word)) (in_module (behind_name word library us))) new
+
+pub ruleset next_modules = (next_unnamed, next_repeated, next_new, name_ahead_is)
