@@ -1,3 +1,6 @@
+ghost use Rattle.std.specs.Prelude.{◌≡◌};
+ghost use Rattle.dft_hier.specs.declared.error.HierError.TheVariants.{Memory};
+
 use dft_base::{Name, Place};
 use dft_netlist::NetlistError;
 use std::alloc::AllocError;
@@ -18,4 +21,12 @@ pub enum HierError {
     Netlist(NetlistError),
     /// Memory ran out.
     Memory(AllocError),
+}
+
+impl From<AllocError> for HierError {
+    ghost from_gives = { λ error gives. gives ≡ Memory error };
+
+    fn from(error: AllocError) -> HierError {
+        HierError::Memory(error)
+    }
 }
