@@ -24,7 +24,7 @@ pub fn module_numbers<'a>(
 }
 
 // The modules of a module's instances. Refused for the first that is not there.
-fn children(
+fn children_of(
     alloc: Global,
     module: &Module,
     numbers: &Numbered<'_>,
@@ -53,7 +53,7 @@ pub fn all_children(
 ) -> Result<Vec<Children>, HierError> {
     let mut all = Vec::with_capacity(alloc, modules.len())?;
     for module in modules {
-        all.push(children(alloc, module, numbers)?)
+        all.push(children_of(alloc, module, numbers)?)
             .map_err(AllocError::from)?;
     }
     Ok(all)

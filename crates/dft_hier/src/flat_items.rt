@@ -194,13 +194,15 @@ impl ItemWalk {
             sub,
         )?;
         go_inside(&mut self.prefix, visit.prefix, &sub.name)?;
-        self.way.push(Visit {
-            module: child,
-            first: visit.next,
-            item: 0,
-            next: visit.next + module.nets().len(),
-            prefix: self.prefix.len(),
-        })?;
+        self.way
+            .push(Visit {
+                module: child,
+                first: visit.next,
+                item: 0,
+                next: visit.next + module.nets().len(),
+                prefix: self.prefix.len(),
+            })
+            .map_err(AllocError::from)?;
         Ok(())
     }
 
@@ -218,13 +220,15 @@ impl ItemWalk {
             Some(child) => hierarchy.weights[child].nets,
             None => 0,
         };
-        self.way.push(Visit {
-            module: visit.module,
-            first: visit.first,
-            item: visit.item + 1,
-            next: visit.next + below,
-            prefix: visit.prefix,
-        })?;
+        self.way
+            .push(Visit {
+                module: visit.module,
+                first: visit.first,
+                item: visit.item + 1,
+                next: visit.next + below,
+                prefix: visit.prefix,
+            })
+            .map_err(AllocError::from)?;
         match (
             &hierarchy.modules[visit.module].items()[live.item],
             live.child,

@@ -86,11 +86,13 @@ impl NetWalk {
             &self.prefix,
             hierarchy.modules[module].nets(),
         )?;
-        self.way.push(Visit {
-            module,
-            next: 0,
-            prefix: self.prefix.len(),
-        })?;
+        self.way
+            .push(Visit {
+                module,
+                next: 0,
+                prefix: self.prefix.len(),
+            })
+            .map_err(AllocError::from)?;
         Ok(())
     }
 
@@ -103,11 +105,13 @@ impl NetWalk {
         visit: Visit,
         live: LiveItem,
     ) -> Result<(), NetlistError> {
-        self.way.push(Visit {
-            module: visit.module,
-            next: visit.next + 1,
-            prefix: visit.prefix,
-        })?;
+        self.way
+            .push(Visit {
+                module: visit.module,
+                next: visit.next + 1,
+                prefix: visit.prefix,
+            })
+            .map_err(AllocError::from)?;
         match (
             live.child,
             &hierarchy.modules[visit.module].items()[live.item],

@@ -53,7 +53,7 @@ fn alone(module: &Module) -> Weight {
 }
 
 // A module with all below it.
-fn weight(module: &Module, children: &Children, weights: &[Weight]) -> Weight {
+fn weight_of(module: &Module, children: &Children, weights: &[Weight]) -> Weight {
     let mut all = alone(module);
     for child in &children.modules {
         all = with(all, weights[*child]);
@@ -74,7 +74,7 @@ pub fn weights(
     };
     let mut weights = vec![in alloc; none; modules.len()]?;
     for module in order {
-        weights[*module] = weight(&modules[*module], &children[*module], &weights);
+        weights[*module] = weight_of(&modules[*module], &children[*module], &weights);
     }
     Ok(weights)
 }
