@@ -1,5 +1,5 @@
 -- What texts of several modules stand for, worked by hand.
-use Rattle.std.proofs.Common.{true, false, ◌≡◌, refl, codes, Some, None, [], ◌∷◌}
+use Rattle.std.proofs.Common.{true, false, ◌≡◌, refl, codes, Some, None, List, [], ◌∷◌, map}
 use Rattle.std.specs.Fmt as fmt
 use Rattle.dft_base.specs.Words as words
 use Rattle.dft_base.specs.Lexing.{place_after, next_place}
@@ -18,6 +18,11 @@ use Rattle.dft_modules.specs.ModuleTexts.{next_module, modules_from, modules_of}
 use Rattle.dft_netlist.specs.declared.error.NetlistError.TheVariants as netlist
 use Rattle.std.specs.Prelude.{pos, Err}
 use Rattle.dft_hier.specs.Flat.{flat_netlist}
+use Rattle.std.proofs.lemmas.List.Elements.{All-nil}
+use Rattle.dft_base.specs.Lexing.{Text}
+use Rattle.dft_modules.specs.declared.module.Item.TheVariants as item
+use Rattle.dft_modules.specs.Modules.{Module}
+use Rattle.dft_hier.specs.Refusals.{IsBelow, Within, Deeper, IsFirstInItself, first_unknown}
 use Rattle.dft_hier.proofs.Outcomes.{flat, stands, top_count, misfit}
 
 pub two_inverters_in_a_module :
@@ -63,3 +68,14 @@ nothing_at_any_width = refl
 pub a_flat_name_that_is_taken : flat (codes "module k (a); input a; endmodule module t; wire \\u/a ; k u (); endmodule") ≡ Some (Err (netlist.DuplicateName (codes "u/a")))
 unfolding comment_rest attribute_rest blank_len begins_blank to_blank word_kind mark_kind escaped quote directive lexeme kind_of bytes left next same_kind sees refusal expect after number rest_of_range range range_if_any digits constant followed rest_of_select selection named_operand constant_operand operand opening closing concatenations_from expression declared_name declared_names_from declared_names declaration port_item wire_item right_side net_assignment net_assignments_from net_assignments assign_item terminal input_terminals_from input_terminals terminals named_gate unnamed_gate one_gate gates_from gates gate_item connected_pin pin_signal pin_content named_connection named_connections_from named_connections connections instance instances_from instances cell_item item items_from items announced_name announced_names_from announced_names declared_port port_declaration_of port_declaration declared_ports_from declared_ports header_names header heading module_end place_after next_place words.reserved_words fmt.digits named_port port_content port_connection port_connections_from port_connections sub_instance sub_instances_from sub_instances sub_item module_item module_items_from module_items one_module next_module modules_from modules_of flat_netlist
 a_flat_name_that_is_taken = refl
+
+-- a module without ports and nets, with instances of these modules
+abbrev with_instances : Text → List Text → Module
+with_instances name of = record { name = name; ports = []; nets = []; items = map (λ m. item.Sub (record { name = codes "u"; of = m; connections = [] })) of }
+
+pub in_itself : IsFirstInItself (with_instances (codes "m") (codes "m" ∷ []) ∷ []) (codes "m")
+in_itself = record { front = []; m = with_instances (codes "m") (codes "m" ∷ []); back = []; split = refl; named = refl; below = Within refl refl; first = All-nil _ }
+
+-- the first module in the order of the text, and not the module of the first instance on a circle
+pub below_itself : IsFirstInItself (with_instances (codes "a") (codes "b" ∷ []) ∷ with_instances (codes "b") (codes "a" ∷ []) ∷ []) (codes "a")
+below_itself = record { front = []; m = with_instances (codes "a") (codes "b" ∷ []); back = with_instances (codes "b") (codes "a" ∷ []) ∷ []; split = refl; named = refl; below = Deeper refl refl (Within refl refl); first = All-nil _ }

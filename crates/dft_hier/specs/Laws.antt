@@ -1,12 +1,16 @@
 -- Laws of flat designs. These are statements that nothing proves yet.
-use Rattle.std.specs.Prelude.{◌≡◌, ◌↔◌, ℕ, ◌<◌, ◌≤◌, Bool, List, [], ◌∷◌, length, Some, slice_get}
+use Rattle.std.specs.Prelude.{◌≡◌, ◌↔◌, None, Ok, ℕ, ◌<◌, ◌≤◌, Bool, List, [], ◌∷◌, length, Some, slice_get}
 use Rattle.dft_base.specs.Lexing.{Text}
 use Rattle.dft_cells.specs.declared.cell.Cell.{Cell}
 use Rattle.dft_netlist.specs.declared.instance.Instance.{Instance}
 use Rattle.dft_netlist.specs.Netlist.{Netlist}
 use Rattle.dft_netlist.specs.Logic.{Ports, logic_of}
 use Rattle.dft_netlist.specs.Settled.{Sources, IsSettled}
+use Rattle.dft_cells.specs.Cells.{find_cell}
+use Rattle.dft_netlist_text.specs.NetlistText.{StandsFor}
 use Rattle.dft_modules.specs.Modules.{Module}
+use Rattle.dft_modules.specs.ModuleTexts.{modules_of}
+use Rattle.dft_modules.specs.Sound.{AreModules}
 use Rattle.dft_hier.specs.Hierarchy.{cells_of}
 use Rattle.dft_hier.specs.Paths.{Path, Spot, module_at, net_spots, instance_spots}
 use Rattle.dft_hier.specs.Joined.{JoinedSources, IsJoinedSettled}
@@ -38,7 +42,8 @@ pub record NetsAreOne (ms : List Module) (top : Module) (design : Netlist) : Typ
       (number : ℕ) × (slice_get (net_spots ms top) number ≡ Some (record { path = path; at = at }))
 
 abbrev pub FlatIsOneForOne : Type 0
-FlatIsOneForOne = (ms : List Module) (library : List Cell) (design : Netlist) (flat : IsFlat ms library design) → InstancesAreOne ms flat.top design × NetsAreOne ms flat.top design
+FlatIsOneForOne =
+    (ms : List Module) (library : List Cell) (design : Netlist) → AreModules library ms → (flat : IsFlat ms library design) → InstancesAreOne ms flat.top design × NetsAreOne ms flat.top design
 
 -- ---- settled assignments, read by path
 
@@ -61,6 +66,22 @@ IsFreePast design s bits = (net : ℕ) → length design.nets ≤ net → bits n
 -- The settled assignments of the flat design, read by path, are the settled joined ones, for all ports, states, levels of clocks, held and free bits.
 abbrev pub FlatIsJoined : Type 0
 FlatIsJoined =
-    (ms : List Module) (library : List Cell) (design : Netlist) (flat : IsFlat ms library design) (ports : Ports) (s : Sources) (j : JoinedSources) (bits : ℕ → Bool) (joined : Path → ℕ → Bool) →
+    (ms : List Module) (library : List Cell) (design : Netlist) → AreModules library ms → (flat : IsFlat ms library design) (ports : Ports) (s : Sources) (j : JoinedSources) (bits : ℕ → Bool) (joined : Path → ℕ → Bool) →
     AreByPath ms flat.top s j → ReadsByPath ms flat.top bits joined → IsFreePast design s bits →
     (IsSettled (logic_of design ports) s bits ↔ IsJoinedSettled ms library flat.top ports j joined)
+
+-- ---- texts, and texts of one module
+
+-- a text stands for this design: its modules, flattened
+pub record Gives (library : List Cell) (text : Text) (design : Netlist) : Type 0 where
+  pub modules : List Module
+  pub said : modules_of library text ≡ Ok modules
+  pub flat : IsFlat modules library design
+
+-- a text of one module that has no cell's name stands for the design that it stands for alone
+abbrev pub OneModuleGives : Type 0
+OneModuleGives = (library : List Cell) (text : Text) (design : Netlist) → StandsFor library text design → find_cell library design.name ≡ None → Gives library text design
+
+-- a text stands for one design at most
+abbrev pub GivesOne : Type 0
+GivesOne = (library : List Cell) (text : Text) (a b : Netlist) → Gives library text a → Gives library text b → a ≡ b

@@ -2,6 +2,7 @@
 
 ghost use Rattle.std.specs.Prelude.{IfOk, IfErr};
 ghost use Rattle.dft_hier.specs.Refusals.{IsFlat, CannotFlatten};
+ghost use Rattle.dft_modules.specs.Sound.{AreModules};
 
 use crate::children::{Children, all_children, module_numbers};
 use crate::descent::{finishes, in_order};
@@ -126,6 +127,7 @@ pub fn flatten(
     modules: &[Module],
     library: Library,
 ) -> Result<Design, HierError>
+    requires { AreModules library modules.now }
     ensures flat { IfOk result (λ design. IsFlat modules.now library design) }
     ensures refused { IfErr result (λ error. CannotFlatten modules.now library error) }
 {
