@@ -78,4 +78,4 @@ in_itself = record { front = []; m = with_instances (codes "m") (codes "m" ∷ [
 
 -- the first module in the order of the text, and not the module of the first instance on a circle
 pub below_itself : IsFirstInItself (with_instances (codes "a") (codes "b" ∷ []) ∷ with_instances (codes "b") (codes "a" ∷ []) ∷ []) (codes "a")
-below_itself = record { front = []; m = with_instances (codes "a") (codes "b" ∷ []); back = with_instances (codes "b") (codes "a" ∷ []) ∷ []; split = refl; named = refl; below = Deeper refl refl (Within refl refl); first = All-nil _ }
+below_itself = record { front = []; m = with_instances (codes "a") (codes "b" ∷ []); back = with_instances (codes "b") (codes "a" ∷ []) ∷ []; split = refl; named = refl; below = Deeper {between = codes "b"} refl refl (Within refl refl); first = All-nil _ }

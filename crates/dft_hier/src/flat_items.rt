@@ -177,7 +177,6 @@ impl ItemWalk {
         &mut self,
         alloc: Global,
         hierarchy: Hierarchy<'_>,
-        ports: &[Numbered<'_>],
         builder: &mut DesignBuilder,
         visit: Visit,
         child: usize,
@@ -190,7 +189,7 @@ impl ItemWalk {
             visit.first,
             visit.next,
             module,
-            &ports[child],
+            &hierarchy.ports[child],
             sub,
         )?;
         go_inside(&mut self.prefix, visit.prefix, &sub.name)?;
@@ -211,7 +210,6 @@ impl ItemWalk {
         &mut self,
         alloc: Global,
         hierarchy: Hierarchy<'_>,
-        ports: &[Numbered<'_>],
         builder: &mut DesignBuilder,
         visit: Visit,
         live: LiveItem,
@@ -239,7 +237,7 @@ impl ItemWalk {
                 add_cell(alloc, builder, &self.prefix, visit.first, instance)
             }
             (Item::Sub(sub), Some(child)) => {
-                self.enter(alloc, hierarchy, ports, builder, visit, child, sub)
+                self.enter(alloc, hierarchy, builder, visit, child, sub)
             }
             (Item::Sub(_), None) => Ok(()),
         }
@@ -250,14 +248,13 @@ impl ItemWalk {
         &mut self,
         alloc: Global,
         hierarchy: Hierarchy<'_>,
-        ports: &[Numbered<'_>],
         builder: &mut DesignBuilder,
     ) -> Result<(), NetlistError> {
         match self.way.pop() {
             None => Ok(()),
             Some(visit) => match hierarchy.items[visit.module].items.get(visit.item) {
                 None => Ok(()),
-                Some(live) => self.pass(alloc, hierarchy, ports, builder, visit, *live),
+                Some(live) => self.pass(alloc, hierarchy, builder, visit, *live),
             },
         }
     }
@@ -267,13 +264,12 @@ impl ItemWalk {
 pub fn add_items(
     alloc: Global,
     hierarchy: Hierarchy<'_>,
-    ports: &[Numbered<'_>],
     builder: &mut DesignBuilder,
     top: usize,
 ) -> Result<(), NetlistError> {
     let mut walk = ItemWalk::at(alloc, top, hierarchy.modules[top].nets().len())?;
     while !walk.way.is_empty() {
-        walk.step(alloc, hierarchy, ports, builder)?;
+        walk.step(alloc, hierarchy, builder)?;
     }
     Ok(())
 }

@@ -1,15 +1,17 @@
 //! The nets of a flat design: those of a module, and then those of each module instance below it, without recursion.
 
+use crate::numbered::Numbered;
 use crate::weights::{LiveItem, LiveItems, Weight};
 use dft_base::Name;
 use dft_modules::{Item, Module};
 use dft_netlist::{DesignBuilder, NetlistError};
 use std::alloc::{AllocError, Global};
 
-/// The modules of a hierarchy, the items of each that give something, and their weights.
+/// The modules of a hierarchy, their ports by their names, the items of each that give something, and their weights.
 #[derive(Clone, Copy)]
 pub struct Hierarchy<'a> {
     pub modules: &'a [Module],
+    pub ports: &'a [Numbered<'a>],
     pub items: &'a [LiveItems],
     pub weights: &'a [Weight],
 }

@@ -10,7 +10,6 @@ use crate::error::HierError;
 use crate::fitting::{all_ports, check_all};
 use crate::flat_items::add_items;
 use crate::flat_nets::{Hierarchy, add_nets_below};
-use crate::numbered::Numbered;
 use crate::reach::first_in_itself;
 use crate::tops::top;
 use crate::weights::{all_live_items, weights};
@@ -63,26 +62,24 @@ fn add_other_nets(
 fn add_all(
     alloc: Global,
     hierarchy: Hierarchy<'_>,
-    ports: &[Numbered<'_>],
     builder: &mut DesignBuilder,
     top: usize,
 ) -> Result<(), NetlistError> {
     add_top(alloc, builder, &hierarchy.modules[top])?;
     add_nets_below(alloc, hierarchy, builder, top)?;
-    add_items(alloc, hierarchy, ports, builder, top)
+    add_items(alloc, hierarchy, builder, top)
 }
 
 // The flat netlist of a hierarchy, not finished yet.
 fn built(
     alloc: Global,
     hierarchy: Hierarchy<'_>,
-    ports: &[Numbered<'_>],
     library: Library,
     top: usize,
 ) -> Result<DesignBuilder, NetlistError> {
     let name = hierarchy.modules[top].name().copy(alloc)?;
     let mut builder = DesignBuilder::new(alloc, name, library);
-    add_all(alloc, hierarchy, ports, &mut builder, top)?;
+    add_all(alloc, hierarchy, &mut builder, top)?;
     Ok(builder)
 }
 
@@ -110,10 +107,11 @@ fn design(
     let items = all_live_items(alloc, modules, children, &weights)?;
     let hierarchy = Hierarchy {
         modules,
+        ports: &ports,
         items: &items,
         weights: &weights,
     };
-    match built(alloc, hierarchy, &ports, library, top) {
+    match built(alloc, hierarchy, library, top) {
         Ok(builder) => builder.finish().map_err(told),
         Err(error) => Err(told(error)),
     }

@@ -8,6 +8,9 @@ use Rattle.dft_base.specs.Parser.{◌>>=◌}
 use Rattle.dft_cells.specs.declared.cell.Cell.{Cell}
 use Rattle.dft_cells.specs.Cells.{find_cell}
 use Rattle.dft_netlist.specs.declared.port.Port.{Port}
+use Rattle.dft_netlist.specs.declared.ids.NetId.{NetId}
+use Rattle.dft_netlist.specs.declared.instance.Signal.{Signal}
+use Rattle.dft_netlist.specs.declared.instance.Signal.TheVariants as signal
 use Rattle.dft_netlist.specs.declared.instance.Instance.{Instance}
 use Rattle.dft_netlist.specs.declared.instance.Join.{Join}
 use Rattle.dft_netlist.specs.Building.{port_of}
@@ -18,7 +21,7 @@ use Rattle.dft_netlist_text.specs.declared.text.Fault.{Fault}
 use Rattle.dft_netlist_text.specs.Lexemes.{Token, tokens}
 use Rattle.dft_netlist_text.specs.Steps.{bytes, left, next, sees, refusal}
 use Rattle.dft_netlist_text.specs.Modules.{Draft, HeaderPort, net_count}
-use Rattle.dft_netlist_text.specs.NetlistText.{nets_of_port, net_order, final_signal, final_join}
+use Rattle.dft_netlist_text.specs.NetlistText.{nets_of_port, net_order, final_net}
 use Rattle.dft_modules.specs.declared.connections.Connection.{Connection}
 use Rattle.dft_modules.specs.declared.fault.ModulesFault.{ModulesFault}
 use Rattle.dft_modules.specs.declared.fault.ModulesFault.TheVariants as fault
@@ -43,32 +46,43 @@ ports_said first (port ∷ ports) = port_said first port.name port.declared ++ p
 abbrev pub names_in_order : List ℕ → List Text → List Text
 names_in_order order nets = map (λ net. slice_index_or nets net []) order
 
--- a join, and a cell or gate, with the final numbers of their nets
-abbrev pub join_said : (order : List ℕ) → Join → Item
-join_said order j = item.Join (final_join order j)
+-- how the nets of a draft are numbered in the module
+abbrev pub Numbering : Type 0
+Numbering = NetId → NetId
 
-abbrev pub cell_said : (order : List ℕ) → Instance → Item
-cell_said order i = item.Cell (record i { pins = map (final_signal order) i.pins })
+-- a signal by the number of its net in the module
+abbrev pub signal_by : Numbering → Signal → Signal
+signal_by number (signal.Net net) = signal.Net (number net)
+signal_by number (signal.Constant bit) = signal.Constant bit
+signal_by number signal.Unconnected = signal.Unconnected
+
+-- a join, and a cell or gate
+abbrev pub join_said : Numbering → Join → Item
+join_said number j = item.Join (record { target = number j.target; source = signal_by number j.source })
+
+abbrev pub cell_said : Numbering → Instance → Item
+cell_said number i = item.Cell (record i { pins = map (signal_by number) i.pins })
 
 -- a connection, with the line and column of its port's name
-abbrev pub connection_said : Text → (order : List ℕ) → SubConnection → Connection
-connection_said text order c = record { place = place_of text c.left; port = c.port; signals = map (final_signal order) c.signals }
+abbrev pub connection_said : Text → Numbering → SubConnection → Connection
+connection_said text number c = record { place = place_of text c.left; port = c.port; signals = map (signal_by number) c.signals }
 
-abbrev pub sub_said : Text → (order : List ℕ) → DraftSub → Item
-sub_said text order s = item.Sub (record { name = s.name; of = s.of; connections = map (connection_said text order) s.connections })
+-- a module instance
+abbrev pub sub_said : Text → Numbering → DraftSub → Item
+sub_said text number s = item.Sub (record { name = s.name; of = s.of; connections = map (connection_said text number) s.connections })
 
 -- those of a list from one place up to another
 abbrev pub between : {A : Type 0} → (from to : ℕ) → List A → List A
 between from to xs = take (to - from) (drop from xs)
 
 -- the joins and then the cells from these places up to those
-abbrev pub parts_between : (order : List ℕ) → Draft → (join cell joins cells : ℕ) → List Item
-parts_between order d join cell joins cells = map (join_said order) (between join joins d.joins) ++ map (cell_said order) (between cell cells d.instances)
+abbrev pub parts_between : Numbering → Draft → (join cell joins cells : ℕ) → List Item
+parts_between number d join cell joins cells = map (join_said number) (between join joins d.joins) ++ map (cell_said number) (between cell cells d.instances)
 
 -- the items from a join and a cell on: each module instance comes behind the joins and then the cells that stand before it
-abbrev pub items_said : Text → (order : List ℕ) → Draft → (join cell : ℕ) → List DraftSub → List Item
-items_said text order d join cell [] = parts_between order d join cell (length d.joins) (length d.instances)
-items_said text order d join cell (s ∷ subs) = parts_between order d join cell s.joins s.cells ++ sub_said text order s ∷ items_said text order d s.joins s.cells subs
+abbrev pub items_said : Text → Numbering → Draft → (join cell : ℕ) → List DraftSub → List Item
+items_said text number d join cell [] = parts_between number d join cell (length d.joins) (length d.instances)
+items_said text number d join cell (s ∷ subs) = parts_between number d join cell s.joins s.cells ++ sub_said text number s ∷ items_said text number d s.joins s.cells subs
 
 -- the module that was said: its nets are the bits of its ports in the order of the header, and then the others as they were first named
 abbrev pub module_said : Text → Said → Module
@@ -76,7 +90,7 @@ module_said text m = record {
   name = m.draft.name;
   ports = ports_said 0 m.draft.ports;
   nets = names_in_order (net_order m.draft) m.draft.nets;
-  items = items_said text (net_order m.draft) m.draft 0 0 m.subs;
+  items = items_said text (final_net (net_order m.draft)) m.draft 0 0 m.subs;
 }
 
 -- ---- the modules of a text

@@ -1,11 +1,9 @@
 //! The items of one of several modules, by the final numbers of their nets.
 
-ghost use Rattle.std.specs.Prelude.{◌≡◌, ◌++◌, ◌≤◌, map, length, IfOk, OnOk};
+ghost use Rattle.std.specs.Prelude.{◌≡◌, ◌≤◌, map, length, IfOk, OnOk};
 ghost use Rattle.dft_modules.specs.ModuleTexts as spec;
-ghost use Rattle.dft_netlist_text.specs.Modules.{Draft};
-ghost use Rattle.dft_netlist_text.specs.NetlistText as netlist;
 ghost use Rattle.dft_verilog.specs.Passing.{HasPassed};
-ghost use Rattle.dft_verilog.specs.SaidParts.{GivesFinals, net_or_first, signal_or_first};
+ghost use Rattle.dft_verilog.specs.SaidParts.{net_or_first, with_items};
 
 use crate::places::{Passed, passed_to};
 use dft_base::Name;
@@ -27,7 +25,7 @@ fn final_net(finals: &[NetId], net: NetId) -> NetId
 
 // A signal with the final number of its net.
 fn final_signal(finals: &[NetId], signal: Signal) -> Signal
-    ensures { result ≡ signal_or_first finals.now signal }
+    ensures { result ≡ spec.signal_by (net_or_first finals.now) signal }
 {
     match signal {
         Signal::Net(net) => Signal::Net(final_net(finals, net)),
@@ -42,7 +40,7 @@ fn final_signals(
     finals: &[NetId],
     signals: &[Signal],
 ) -> Result<PinSignals, AllocError>
-    ensures { IfOk result (λ pins. pins ≡ map (signal_or_first finals.now) signals.now) }
+    ensures { IfOk result (λ pins. pins ≡ map (spec.signal_by (net_or_first finals.now)) signals.now) }
 {
     let mut pins = PinSignals::new(alloc);
     for signal in signals {
@@ -62,7 +60,7 @@ fn between<T>(list: &[T], from: usize, to: usize) -> &[T]
 
 // Adds joins.
 fn add_joins(module: &mut Module, finals: &[NetId], joins: &[Join]) -> Result<(), AllocError>
-    ensures { (d : Draft) → GivesFinals d finals.now → OnOk result (module.new ≡ record module.old { items = module.old.items ++ map (spec.join_said (netlist.net_order d)) joins.now }) }
+    ensures { OnOk result (module.new ≡ with_items (map (spec.join_said (net_or_first finals.now)) joins.now) module.old) }
 {
     for join in joins {
         module.add_item(Item::Join(Join {
@@ -79,7 +77,7 @@ fn cell(
     finals: &[NetId],
     instance: &DraftInstance<'_>,
 ) -> Result<Item, AllocError>
-    ensures { (d : Draft) → GivesFinals d finals.now → IfOk result (λ item. item ≡ spec.cell_said (netlist.net_order d) instance.now) }
+    ensures { IfOk result (λ item. item ≡ spec.cell_said (net_or_first finals.now) instance.now) }
 {
     Ok(Item::Cell(Instance {
         name: instance.name(alloc)?,
@@ -95,7 +93,7 @@ fn add_cells(
     finals: &[NetId],
     instances: &[DraftInstance<'_>],
 ) -> Result<(), AllocError>
-    ensures { (d : Draft) → GivesFinals d finals.now → OnOk result (module.new ≡ record module.old { items = module.old.items ++ map (spec.cell_said (netlist.net_order d)) instances.now }) }
+    ensures { OnOk result (module.new ≡ with_items (map (spec.cell_said (net_or_first finals.now)) instances.now) module.old) }
 {
     for instance in instances {
         module.add_item(cell(alloc, finals, instance)?)?;
@@ -113,7 +111,7 @@ fn connection(
 ) -> Result<Connection, AllocError>
     requires few { length text.now ≤ MAX_TEXT }
     requires passed { HasPassed text.now passed.old }
-    ensures said { (d : Draft) → GivesFinals d finals.now → IfOk result (λ c. c ≡ spec.connection_said text.now (netlist.net_order d) connection.now) }
+    ensures said { IfOk result (λ c. c ≡ spec.connection_said text.now (net_or_first finals.now) connection.now) }
     ensures passed { HasPassed text.now passed.new }
 {
     *passed = passed_to(text, *passed, connection.left());
@@ -134,7 +132,7 @@ fn connections(
 ) -> Result<Connections, AllocError>
     requires few { length text.now ≤ MAX_TEXT }
     requires passed { HasPassed text.now passed.old }
-    ensures said { (d : Draft) → GivesFinals d finals.now → IfOk result (λ cs. cs ≡ map (spec.connection_said text.now (netlist.net_order d)) list.now) }
+    ensures said { IfOk result (λ cs. cs ≡ map (spec.connection_said text.now (net_or_first finals.now)) list.now) }
     ensures passed { HasPassed text.now passed.new }
 {
     let mut connections = Connections::new(alloc);
@@ -154,7 +152,7 @@ fn sub(
 ) -> Result<Item, AllocError>
     requires few { length text.now ≤ MAX_TEXT }
     requires passed { HasPassed text.now passed.old }
-    ensures said { (d : Draft) → GivesFinals d finals.now → IfOk result (λ item. item ≡ spec.sub_said text.now (netlist.net_order d) sub.now) }
+    ensures said { IfOk result (λ item. item ≡ spec.sub_said text.now (net_or_first finals.now) sub.now) }
     ensures passed { HasPassed text.now passed.new }
 {
     Ok(Item::Sub(SubInstance {
@@ -180,8 +178,7 @@ fn add_parts(
     from: NextParts,
     to: NextParts,
 ) -> Result<(), AllocError>
-    requires { GivesFinals draft.now finals.now }
-    ensures { OnOk result (module.new ≡ record module.old { items = module.old.items ++ spec.parts_between (netlist.net_order draft.now) draft.now from.join from.cell to.join to.cell }) }
+    ensures { OnOk result (module.new ≡ with_items (spec.parts_between (net_or_first finals.now) draft.now from.join from.cell to.join to.cell) module.old) }
 {
     add_joins(module, finals, between(draft.joins(), from.join, to.join))?;
     add_cells(
@@ -204,8 +201,7 @@ pub fn add_items(
 ) -> Result<(), AllocError>
     requires few { length text.now ≤ MAX_TEXT }
     requires passed { HasPassed text.now passed.old }
-    requires finals { GivesFinals draft.now finals.now }
-    ensures items { OnOk result (module.new ≡ record module.old { items = module.old.items ++ spec.items_said text.now (netlist.net_order draft.now) draft.now 0 0 subs.now }) }
+    ensures items { OnOk result (module.new ≡ with_items (spec.items_said text.now (net_or_first finals.now) draft.now 0 0 subs.now) module.old) }
     ensures passed { HasPassed text.now passed.new }
 {
     let mut next = NextParts { join: 0, cell: 0 };

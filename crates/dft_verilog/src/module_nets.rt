@@ -1,14 +1,13 @@
 //! The ports and nets of one of several modules, by their final numbers.
 
-ghost use Rattle.std.specs.Prelude.{◌≡◌, ◌+◌, ◌<◌, ◌≤◌, ◌^◌, ◌++◌, length, Some, unwrap_or, IfOk, OnOk};
+ghost use Rattle.std.specs.Prelude.{◌≡◌, ◌+◌, ◌<◌, ◌≤◌, ◌^◌, length, Some, unwrap_or, IfOk, OnOk};
 ghost use Rattle.std.specs.List.{All};
 ghost use Rattle.dft_base.specs.Ranges.{going_up};
 ghost use Rattle.dft_modules.specs.ModuleTexts as spec;
 ghost use Rattle.dft_netlist.specs.NetNumbers.{nets_from};
-ghost use Rattle.dft_netlist_text.specs.NetlistText.{nets_of_port, nets_of_ports};
 ghost use Rattle.dft_verilog_draft.specs.Drafts.{IsDeclaredWithin};
 ghost use Rattle.dft_verilog.specs.FinalNets.{without_number, all_numbered};
-ghost use Rattle.dft_verilog.specs.SaidParts.{WithPortsSaid, next_number};
+ghost use Rattle.dft_verilog.specs.SaidParts.{with_nets, with_port, with_ports, next_number};
 
 use crate::final_nets::net_count;
 use dft_base::Name;
@@ -40,7 +39,7 @@ fn add_run(
     count: usize,
 ) -> Result<(), AllocError>
     requires { first + count ≤ length names.now }
-    ensures { OnOk result (module.new ≡ record module.old { nets = module.old.nets ++ spec.names_in_order (going_up first count) names.now }) }
+    ensures { OnOk result (module.new ≡ with_nets (spec.names_in_order (going_up first count) names.now) module.old) }
 {
     for bit in 0..count {
         module.add_net(Name::from_slice(alloc, names[first + bit].as_slice())?)?;
@@ -58,10 +57,7 @@ fn add_declared(
 ) -> Result<(), AllocError>
     requires within { IsDeclaredWithin (length names.now) (Some declared) }
     requires few { length module.old.nets + 65536 ≤ 2 ^ 32 }
-    ensures { OnOk result (module.new ≡ record module.old {
-      ports = module.old.ports ++ spec.port_said (length module.old.nets) name.now (Some declared);
-      nets = module.old.nets ++ spec.names_in_order (nets_of_port (Some declared)) names.now;
-    }) }
+    ensures { OnOk result (module.new ≡ with_port names.now name.now (Some declared) module.old) }
 {
     let count = net_count(declared.shape.range);
     module.add_port(Port {
@@ -88,10 +84,7 @@ fn add_port(
 ) -> Result<(), AllocError>
     requires within { IsDeclaredWithin (length names.now) port.now.declared }
     requires few { length module.old.nets + 65536 ≤ 2 ^ 32 }
-    ensures { OnOk result (module.new ≡ record module.old {
-      ports = module.old.ports ++ spec.port_said (length module.old.nets) port.now.name port.now.declared;
-      nets = module.old.nets ++ spec.names_in_order (nets_of_port port.now.declared) names.now;
-    }) }
+    ensures { OnOk result (module.new ≡ with_port names.now port.now.name port.now.declared module.old) }
 {
     match port.declared() {
         Some(declared) => add_declared(alloc, module, names, port.name(), declared),
@@ -109,7 +102,7 @@ pub fn add_ports(
     requires none { length module.old.nets ≡ 0 }
     requires few { length ports.now ≤ MAX_PORTS }
     requires within { All (λ p. IsDeclaredWithin (length names.now) p.declared) ports.now }
-    ensures { OnOk result (WithPortsSaid names.now ports.now module.old module.new) }
+    ensures { OnOk result (module.new ≡ with_ports names.now ports.now module.old) }
 {
     for port in ports {
         add_port(alloc, module, names, port)?;
@@ -125,7 +118,7 @@ pub fn add_others(
     numbers: &[Option<NetId>],
 ) -> Result<(), AllocError>
     requires { length names.now ≡ length numbers.now }
-    ensures { OnOk result (module.new ≡ record module.old { nets = module.old.nets ++ without_number names.now numbers.now }) }
+    ensures { OnOk result (module.new ≡ with_nets (without_number names.now numbers.now) module.old) }
 {
     for (net, number) in numbers.iter().enumerate() {
         if number.is_none() {

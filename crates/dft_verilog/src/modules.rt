@@ -6,7 +6,6 @@ ghost use Rattle.dft_modules.specs.ModuleTexts as spec;
 ghost use Rattle.dft_netlist_text.specs.Steps.{left};
 ghost use Rattle.dft_verilog.specs.ModuleRefusals.{IsModulesRefused, told_of, told_of_error};
 ghost use Rattle.dft_verilog.specs.Passing.{HasPassed};
-ghost use Rattle.dft_verilog.specs.SaidParts.{GivesFinals};
 ghost use Rattle.dft_verilog_module.specs.SaidModules.{said};
 
 use crate::error::{ModulesError, VerilogError};

@@ -51,11 +51,11 @@ fn place_behind(place: Place, passed: usize, bytes: &[u8]) -> Place
     requires few { passed + length bytes.now ≤ MAX_TEXT }
     ensures { result ≡ spec.place_after place bytes.now }
 {
-    let mut place = place;
+    let mut at = place;
     for &byte in bytes {
-        place = next_place(place, byte);
+        at = next_place(at, byte);
     }
-    place
+    at
 }
 
 // What was passed, if it does not go past so many bytes, or else nothing.
