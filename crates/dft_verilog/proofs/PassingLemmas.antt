@@ -21,11 +21,15 @@ unfolding place_after
 near_after p n [] h = record { line = omega (arith, h.line); column = omega (arith, h.column) }
 near_after p n (b ∷ bytes) h = let rest = near_after (next_place p b) (n + 1) bytes (next_place_below p b n h) in record { line = omega (arith, rest.line); column = omega (arith, rest.column) }
 
+take_none : {A : Type 0} (n : ℕ) → take {A = A} n [] ≡ []
+take_none zero = refl
+take_none (suc n) = refl
+
 -- the front of a text, and what comes up to a later place, is the longer front
 pub take_between : {A : Type 0} (a b : ℕ) (xs : List A) → a ≤ b → take a xs ++ take (b - a) (drop a xs) ≡ take b xs
 take_between zero b xs le = let all : b - 0 ≡ b = omega arith in ap (λ n. take n xs) all
 take_between (suc a) zero xs le = absurd (omega arith)
-take_between (suc a) (suc b) [] le = refl
+take_between (suc a) (suc b) [] le = take_none (suc b - suc a)
 take_between (suc a) (suc b) (x ∷ xs) le =
     let same : suc b - suc a ≡ b - a = omega arith in
     ap (λ n. x ∷ (take a xs ++ take n (drop a xs))) same ∙ ap (λ ys. x ∷ ys) (take_between a b xs (omega arith))

@@ -39,7 +39,7 @@ pub ruleset sub_rules = (sub_library)
 -- ---- items that begin with a name
 
 -- what was expected comes next
-expected_by : (t : Bool) (k : TokenKind) (ts us : List Token) (word : Text) → cond t (Ok (bytes ts, next ts)) (Err (refusal ts)) ≡ Ok (word, us) → t ≡ true
+expected_by : (t : Bool) (k : TokenKind) (ts us : List Token) (word : Text) → cond {A = Outcome Text} t (Ok (bytes ts, next ts)) (Err (refusal ts)) ≡ Ok (word, us) → t ≡ true
 expected_by true k ts us word h = refl
 expected_by false k ts us word h = absurd (cc)
 
@@ -47,7 +47,7 @@ expected : (k : TokenKind) (ts us : List Token) (word : Text) → expect k ts �
 unfolding expect
 expected k ts us word h = expected_by (sees k ts) k ts us word h
 
-taken_by : (t : Bool) (ts us : List Token) (word : Text) → t ≡ true → cond t (Ok (bytes ts, next ts)) (Err (refusal ts)) ≡ Ok (word, us) → (bytes ts ≡ word) × (next ts ≡ us)
+taken_by : (t : Bool) (ts us : List Token) (word : Text) → t ≡ true → cond {A = Outcome Text} t (Ok (bytes ts, next ts)) (Err (refusal ts)) ≡ Ok (word, us) → (bytes ts ≡ word) × (next ts ≡ us)
 taken_by true ts us word is h = let same : (bytes ts, next ts) ≡ (word, us) = cc in (ap (λ (p : Text × List Token). p.0) same, ap (λ (p : Text × List Token). p.1) same)
 taken_by false ts us word is h = absurd (cc)
 
