@@ -1,5 +1,5 @@
 -- Rules of several modules, by the steps in which they are read.
-use Rattle.std.proofs.Common.{◌≡◌, ℕ, Bool, true, false, not, ◌&&◌, cond, List, [], ◌∷◌, ◌++◌, Option, Some, None, is_some, slice_get, Ok, Err, refl, sym, ap, ◌∙◌, rules}
+use Rattle.std.proofs.Common.{◌≡◌, ℕ, Bool, true, false, not, ◌&&◌, cond, List, [], ◌∷◌, ◌++◌, Option, Some, None, is_some, slice_get, Result, Ok, Err, refl, sym, ap, subst, ◌∙◌, rules}
 use denote.Enum.Bare.{same_true}
 use Rattle.dft_base.specs.Lexing.{Text}
 use Rattle.dft_base.specs.Parser as parser
@@ -22,7 +22,9 @@ use Rattle.dft_modules.specs.declared.fault.ModulesFault.{ModulesFault}
 use Rattle.dft_modules.specs.declared.fault.ModulesFault.TheVariants as told
 use Rattle.dft_modules.specs.SubInstances.{DraftSub, Said, name_sub, sub_instances, sub_item, names_module, module_item, module_items, one_module}
 use Rattle.dft_modules.specs.ModuleTexts.{in_module, is_repeated, repeats, name_ahead, next_module}
-use Rattle.dft_verilog_module.specs.SaidModules.{said, module_name, headed, behind_name}
+use Rattle.dft_lexing.specs.declared.read_error.ReadError.TheVariants as errors
+use Rattle.dft_verilog_tokens.specs.Reading.{Reads, ReadError}
+use Rattle.dft_verilog_module.specs.SaidModules.{said, named_as, behind_item_name, module_name, headed, behind_name}
 
 -- ---- the name of an instance
 
@@ -38,62 +40,64 @@ pub ruleset sub_rules = (sub_library)
 
 -- ---- items that begin with a name
 
--- what was expected comes next
-expected_by : (t : Bool) (k : TokenKind) (ts us : List Token) (word : Text) → cond {A = Outcome Text} t (Ok (bytes ts, next ts)) (Err (refusal ts)) ≡ Ok (word, us) → t ≡ true
-expected_by true k ts us word h = refl
-expected_by false k ts us word h = absurd (cc)
-
-expected : (k : TokenKind) (ts us : List Token) (word : Text) → expect k ts ≡ Ok (word, us) → sees k ts ≡ true
-unfolding expect
-expected k ts us word h = expected_by (sees k ts) k ts us word h
-
-taken_by : (t : Bool) (ts us : List Token) (word : Text) → t ≡ true → cond {A = Outcome Text} t (Ok (bytes ts, next ts)) (Err (refusal ts)) ≡ Ok (word, us) → (bytes ts ≡ word) × (next ts ≡ us)
-taken_by true ts us word is h = let same : (bytes ts, next ts) ≡ (word, us) = cc in (ap (λ (p : Text × List Token). p.0) same, ap (λ (p : Text × List Token). p.1) same)
-taken_by false ts us word is h = absurd (cc)
-
-taken : (k : TokenKind) (ts us : List Token) (word : Text) → expect k ts ≡ Ok (word, us) → (bytes ts ≡ word) × (next ts ≡ us)
-unfolding expect
-taken k ts us word h = taken_by (sees k ts) ts us word (expected k ts us word h) h
-
 kind_is : (k : TokenKind) (ts : List Token) → sees k ts ≡ true → kind_of ts ≡ k
 unfolding sees same_kind
 kind_is k ts h = same_true the_type (search rules) (kind_of ts) k h
 
--- instances of a module, where no cell has the name
-pub named_sub : (d : Draft) (subs : List DraftSub) (ts us : List Token) (word : Text) → expect kind.Name ts ≡ Ok (word, us) → find_cell d.library word ≡ None → module_item (said d subs) ts ≡ sub_instances word (said d subs) us
-unfolding module_item sub_item
-named_sub d subs ts us word h none =
-    let m : Said = said d subs in
-    let other = and_then (item d ts) (λ e vs. Ok (said e subs, vs)) in
-    let name : find_cell d.library (bytes ts) ≡ None = ap (λ w. find_cell d.library w) (taken kind.Name ts us word h).0 ∙ none in
-    ap (λ b. cond (b && not (is_some (find_cell d.library (bytes ts)))) (sub_item m ts) other) (expected kind.Name ts us word h)
-    ∙ ap (λ o. cond (true && not (is_some o)) (sub_item m ts) other) name
-    ∙ ap (λ (o : Outcome Text). and_then o (λ of vs. sub_instances of m vs)) h
-
--- instances of the cell that has it
-pub named_cell : (d : Draft) (subs : List DraftSub) (ts us : List Token) (word : Text) (id : CellId) (cell : Cell) → expect kind.Name ts ≡ Ok (word, us) → find_cell d.library word ≡ Some id → slice_get d.library id.0 ≡ Some cell →
-    module_item (said d subs) ts ≡ and_then (instances id cell d us) (λ e vs. Ok (said e subs, vs))
-unfolding module_item item cell_item
-named_cell d subs ts us word id cell h some at =
-    let m : Said = said d subs in
-    let put : Draft → List Token → Outcome Said = λ e vs. Ok (said e subs, vs) in
-    let name : find_cell d.library (bytes ts) ≡ Some id = ap (λ w. find_cell d.library w) (taken kind.Name ts us word h).0 ∙ some in
-    ap (λ b. cond (b && not (is_some (find_cell d.library (bytes ts)))) (sub_item m ts) (and_then (item d ts) put)) (expected kind.Name ts us word h)
-    ∙ ap (λ o. cond (true && not (is_some o)) (sub_item m ts) (and_then (item d ts) put)) name
-    ∙ ap (λ k. and_then (item_of k d ts) put) (kind_is kind.Name ts (expected kind.Name ts us word h))
-    ∙ ap (λ (o : Outcome Text). and_then (and_then o (λ w vs. instances_named (left ts) w (find_cell d.library w) d vs)) put) h
-    ∙ ap (λ o. and_then (instances_named (left ts) word o d us) put) some
-    ∙ ap (λ o. and_then (instances_of id o d us) put) at
-
-pub ruleset named_items = (named_sub, named_cell)
+-- an item that begins with a name is what comes behind the name
+named_by_find : (m : Said) (ts : List Token) (id : Option CellId) → find_cell m.draft.library (bytes ts) ≡ id → sees kind.Name ts ≡ true → module_item m ts ≡ named_as (bytes ts) m id (next ts)
+unfolding module_item sub_item expect
+named_by_find m ts None none h =
+    let other : Outcome Said = and_then (item m.draft ts) (λ e vs. Ok (said e m.subs, vs)) in
+    ap (λ b. cond (b && not (is_some (find_cell m.draft.library (bytes ts)))) (sub_item m ts) other) h
+    ∙ ap (λ o. cond (true && not (is_some o)) (sub_item m ts) other) none
+    ∙ ap (λ b. and_then (cond {A = Outcome Text} b (Ok (bytes ts, next ts)) (Err (refusal ts))) (λ of vs. sub_instances of m vs)) h
+named_by_find m ts (Some id) some h = named_cell m ts id some h where
+  named_cell : (m : Said) (ts : List Token) (id : CellId) → find_cell m.draft.library (bytes ts) ≡ Some id → sees kind.Name ts ≡ true → module_item m ts ≡ named_as (bytes ts) m (Some id) (next ts)
+  unfolding module_item sub_item expect item cell_item
+  named_cell m ts id some h =
+      let put : Draft → List Token → Outcome Said = λ e vs. Ok (said e m.subs, vs) in
+      ap (λ b. cond (b && not (is_some (find_cell m.draft.library (bytes ts)))) (sub_item m ts) (and_then (item m.draft ts) put)) h
+      ∙ ap (λ o. cond (true && not (is_some o)) (sub_item m ts) (and_then (item m.draft ts) put)) some
+      ∙ ap (λ k. and_then (item_of k m.draft ts) put) (kind_is kind.Name ts h)
+      ∙ ap (λ b. and_then (and_then (cond {A = Outcome Text} b (Ok (bytes ts, next ts)) (Err (refusal ts))) (λ w vs. instances_named (left ts) w (find_cell m.draft.library w) m.draft vs)) put) h
+      ∙ ap (λ o. and_then (instances_named (left ts) (bytes ts) o m.draft (next ts)) put) some
 
 -- any other item
-pub other_item : (d : Draft) (subs : List DraftSub) (ts : List Token) → sees kind.Name ts ≡ false → module_item (said d subs) ts ≡ and_then (item d ts) (λ e vs. Ok (said e subs, vs))
+other_item : (d : Draft) (subs : List DraftSub) (ts : List Token) → sees kind.Name ts ≡ false → module_item (said d subs) ts ≡ and_then (item d ts) (λ e vs. Ok (said e subs, vs))
 unfolding module_item
 other_item d subs ts h =
     ap (λ b. cond (b && not (is_some (find_cell d.library (bytes ts)))) (sub_item (said d subs) ts) (and_then (item d ts) (λ e vs. Ok (said e subs, vs)))) h
 
-pub ruleset other_items = (other_item)
+-- ---- what is read of an item
+
+-- what a rule of a lone module reads, beside the module instances
+reads_beside : (o : Outcome Draft) (d : Draft) (subs : List DraftSub) (result : Result (Unit {0}) ReadError) (ts : List Token) → Reads (λ _. d) o result ts → Reads (λ _. said d subs) (and_then o (λ e us. Ok (said e subs, us))) result ts
+reads_beside o d subs (Ok u) ts h = ap (λ (r : Outcome Draft). and_then r (λ e us. Ok (said e subs, us))) h
+reads_beside o d subs (Err (errors.Fault f)) ts h = ap (λ (r : Outcome Draft). and_then r (λ e us. Ok (said e subs, us))) h
+reads_beside o d subs (Err (errors.Memory e)) ts h = tt
+
+reads_same : (a b : Outcome Said) (m : Said) (result : Result (Unit {0}) ReadError) (ts : List Token) → b ≡ a → Reads (λ _. m) a result ts → Reads (λ _. m) b result ts
+reads_same a b m result ts e h = subst (λ (o : Outcome Said). Reads (λ _. m) o result ts) (sym e) h
+
+pub reads_other : (d new : Draft) (subs : List DraftSub) (ts us : List Token) (result : Result (Unit {0}) ReadError) → sees kind.Name ts ≡ false → Reads (λ _. new) (item d ts) result us → Reads (λ _. said new subs) (module_item (said d subs) ts) result us
+reads_other d new subs ts us result h r = reads_same _ _ (said new subs) result us (other_item d subs ts h) (reads_beside (item d ts) new subs result us r)
+
+pub reads_named : (m new : Said) (ts us : List Token) (result : Result (Unit {0}) ReadError) → sees kind.Name ts ≡ true → Reads (λ _. new) (behind_item_name (bytes ts) m (next ts)) result us → Reads (λ _. new) (module_item m ts) result us
+reads_named m new ts us result h r = reads_same _ _ new result us (named_by_find m ts (find_cell m.draft.library (bytes ts)) refl h) r
+
+pub reads_cell : (word : Text) (d new : Draft) (subs : List DraftSub) (ts us : List Token) (id : CellId) (cell : Cell) (result : Result (Unit {0}) ReadError) → find_cell d.library word ≡ Some id → slice_get d.library id.0 ≡ Some cell →
+    Reads (λ _. new) (instances id cell d ts) result us → Reads (λ _. said new subs) (behind_item_name word (said d subs) ts) result us
+reads_cell word d new subs ts us id cell result some at r =
+    let put : Draft → List Token → Outcome Said = λ e vs. Ok (said e subs, vs) in
+    reads_same _ _ (said new subs) result us (ap (λ o. named_as word (said d subs) o ts) some ∙ ap (λ o. and_then (instances_of id o d ts) put) at) (reads_beside (instances id cell d ts) new subs result us r)
+
+pub reads_sub : (word : Text) (m new : Said) (ts us : List Token) (result : Result (Unit {0}) ReadError) → find_cell m.draft.library word ≡ None → Reads (λ _. new) (sub_instances word m ts) result us → Reads (λ _. new) (behind_item_name word m ts) result us
+reads_sub word m new ts us result none r = reads_same _ _ new result us (ap (λ o. named_as word m o ts) none) r
+
+pub ruleset named_items = (reads_cell, reads_sub)
+
+pub ruleset module_items_read = (reads_named, reads_other)
 
 -- ---- a module behind its name
 

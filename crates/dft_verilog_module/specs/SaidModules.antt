@@ -1,5 +1,5 @@
 -- What one of several modules says, by the steps in which it is read.
-use Rattle.std.specs.Prelude.{List, []}
+use Rattle.std.specs.Prelude.{List, [], Option, Some, None, slice_get}
 use Rattle.dft_base.specs.Lexing.{Text}
 use Rattle.dft_base.specs.Parser.{pure, ◌>>=◌, ◌>>◌}
 use Rattle.dft_cells.specs.declared.cell.Cell.{Cell}
@@ -12,11 +12,23 @@ use Rattle.dft_lexing.specs.declared.read_error.ReadError.TheVariants as errors
 use Rattle.dft_netlist_text.specs.declared.text.Fault.{Fault}
 use Rattle.dft_modules.specs.declared.fault.ModulesFault.{ModulesFault}
 use Rattle.dft_modules.specs.declared.fault.ModulesFault.TheVariants as fault
-use Rattle.dft_modules.specs.SubInstances.{DraftSub, Said, module_items}
+use Rattle.dft_cells.specs.declared.cell.CellId.{CellId}
+use Rattle.dft_cells.specs.Cells.{find_cell}
+use Rattle.dft_netlist_text.specs.Items.{instances_of}
+use Rattle.dft_modules.specs.SubInstances.{DraftSub, Said, sub_instances, module_items}
 
 -- what a module has said, and its module instances
 abbrev pub said : Draft → List DraftSub → Said
 said draft subs = record { draft = draft; subs = subs }
+
+-- the instances of the cell of a name, or of a module where no cell has it
+abbrev pub named_as : (word : Text) → Said → Option CellId → Rule Said
+named_as word m None = sub_instances word m
+named_as word m (Some id) = instances_of id (slice_get m.draft.library id.0) m.draft >>= (λ d. pure (said d m.subs))
+
+-- an item behind the name that it begins with
+abbrev pub behind_item_name : (word : Text) → Said → Rule Said
+behind_item_name word m = named_as word m (find_cell m.draft.library word)
 
 -- `module` and its name
 abbrev pub module_name : Rule Text

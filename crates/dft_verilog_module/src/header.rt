@@ -1,6 +1,7 @@
 //! The header of a module: names alone, or ports with their directions (IEEE 1364).
 
 ghost use Rattle.std.specs.Prelude.{◌≡◌, IfOk, OnOk};
+ghost use Rattle.dft_base.specs.Name.{IsName};
 ghost use Rattle.dft_netlist_text.specs.NetlistText as spec;
 ghost use Rattle.dft_verilog_module.specs.PortDeclarations.{port_declaration_as};
 ghost use Rattle.dft_verilog_module.specs.SaidModules.{headed, module_name};

@@ -1,13 +1,11 @@
 //! One of several modules of a text (IEEE 1364, structural part).
 
-ghost use Rattle.std.specs.Prelude.{◌≡◌, ◌++◌, ◌∷◌, [], true, IfOk, OnOk};
+ghost use Rattle.std.specs.Prelude.{◌≡◌, ◌++◌, ◌∷◌, [], IfOk, OnOk};
 ghost use Rattle.dft_base.specs.Name.{IsName};
 ghost use Rattle.dft_modules.specs.ModuleTexts as texts;
 ghost use Rattle.dft_modules.specs.SubInstances as spec;
-ghost use Rattle.dft_netlist_text.specs.Steps.{sees};
-ghost use Rattle.dft_netlist_text.specs.declared.text.TokenKind.TheVariants as kinds;
 ghost use Rattle.dft_lexing.specs.Reading as reading;
-ghost use Rattle.dft_verilog_module.specs.SaidModules.{said, behind_name, in_module_error};
+ghost use Rattle.dft_verilog_module.specs.SaidModules.{said, behind_item_name, behind_name, in_module_error};
 ghost use Rattle.dft_verilog_tokens.specs.Reading.{Reads};
 
 use crate::header::{headed, module_name};
@@ -34,26 +32,26 @@ pub struct SaidModule<'a> {
 pub type ModulesReadError = dft_lexing::ReadError<ModulesFault>;
 
 #[tactic(auto, using(crate::proofs::SubLemmas::named_items))]
-// An item that begins with a name: instances of the cell of that name, or of a module where no cell has it.
+// An item behind the name that it begins with: instances of the cell of that name, or of a module where no cell has it.
 fn named_item<'a>(
+    word: &'a [u8],
     library: &Library,
     subs: &mut Vec<DraftSub<'a>>,
     draft: &mut ModuleDraft<'a>,
     tokens: &mut Tokens<'a>,
 ) -> Result<(), ReadError>
+    requires name { IsName word.now }
     requires cells { draft.old.library ≡ library.now }
-    requires name { sees kinds.Name tokens.old ≡ true }
-    ensures read { Reads (λ _. said draft.new subs.new.items) (spec.module_item (said draft.old subs.old.items) tokens.old) result tokens.new }
+    ensures read { Reads (λ _. said draft.new subs.new.items) (behind_item_name word.now (said draft.old subs.old.items) tokens.old) result tokens.new }
     ensures library { OnOk result (draft.new.library ≡ draft.old.library) }
 {
-    let word = tokens.name()?;
     match library.find(word) {
         None => sub_instances(word, subs, draft, tokens),
         Some(id) => instances(id, library.cell(id), draft, tokens),
     }
 }
 
-#[tactic(auto, using(crate::proofs::SubLemmas::other_items))]
+#[tactic(auto, using(crate::proofs::SubLemmas::module_items_read))]
 // One item of one of several modules.
 fn module_item<'a>(
     library: &Library,
@@ -66,7 +64,8 @@ fn module_item<'a>(
     ensures library { OnOk result (draft.new.library ≡ draft.old.library) }
 {
     if tokens.sees(TokenKind::Name) {
-        named_item(library, subs, draft, tokens)
+        let word = tokens.take();
+        named_item(word, library, subs, draft, tokens)
     } else {
         item(library, draft, tokens)
     }
