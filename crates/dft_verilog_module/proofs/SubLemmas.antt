@@ -44,24 +44,30 @@ kind_is : (k : TokenKind) (ts : List Token) → sees k ts ≡ true → kind_of t
 unfolding sees same_kind
 kind_is k ts h = same_true the_type (search rules) (kind_of ts) k h
 
--- an item that begins with a name is what comes behind the name
-named_by_find : (m : Said) (ts : List Token) (id : Option CellId) → find_cell m.draft.library (bytes ts) ≡ id → sees kind.Name ts ≡ true → module_item m ts ≡ named_as (bytes ts) m id (next ts)
+-- an item that begins with the name of a cell
+named_cell : (m : Said) (ts : List Token) (id : CellId) → find_cell m.draft.library (bytes ts) ≡ Some id → sees kind.Name ts ≡ true → module_item m ts ≡ named_as (bytes ts) m (Some id) (next ts)
+unfolding module_item item cell_item expect
+named_cell m ts id some h =
+    let put : Draft → List Token → Outcome Said = λ e vs. Ok (said e m.subs, vs) in
+    ap (λ b. cond (b && not (is_some (find_cell m.draft.library (bytes ts)))) (sub_item m ts) (and_then (item m.draft ts) put)) h
+    ∙ ap (λ o. cond (true && not (is_some o)) (sub_item m ts) (and_then (item m.draft ts) put)) some
+    ∙ ap (λ k. and_then (item_of k m.draft ts) put) (kind_is kind.Name ts h)
+    ∙ ap (λ b. and_then (and_then (cond {A = Outcome Text} b (Ok (bytes ts, next ts)) (Err (refusal ts))) (λ w vs. instances_named (left ts) w (find_cell m.draft.library w) m.draft vs)) put) h
+    ∙ ap (λ o. and_then (instances_named (left ts) (bytes ts) o m.draft (next ts)) put) some
+
+-- an item that begins with another name
+named_sub : (m : Said) (ts : List Token) → find_cell m.draft.library (bytes ts) ≡ None → sees kind.Name ts ≡ true → module_item m ts ≡ named_as (bytes ts) m None (next ts)
 unfolding module_item sub_item expect
-named_by_find m ts None none h =
+named_sub m ts none h =
     let other : Outcome Said = and_then (item m.draft ts) (λ e vs. Ok (said e m.subs, vs)) in
     ap (λ b. cond (b && not (is_some (find_cell m.draft.library (bytes ts)))) (sub_item m ts) other) h
     ∙ ap (λ o. cond (true && not (is_some o)) (sub_item m ts) other) none
     ∙ ap (λ b. and_then (cond {A = Outcome Text} b (Ok (bytes ts, next ts)) (Err (refusal ts))) (λ of vs. sub_instances of m vs)) h
-named_by_find m ts (Some id) some h = named_cell m ts id some h where
-  named_cell : (m : Said) (ts : List Token) (id : CellId) → find_cell m.draft.library (bytes ts) ≡ Some id → sees kind.Name ts ≡ true → module_item m ts ≡ named_as (bytes ts) m (Some id) (next ts)
-  unfolding module_item sub_item expect item cell_item
-  named_cell m ts id some h =
-      let put : Draft → List Token → Outcome Said = λ e vs. Ok (said e m.subs, vs) in
-      ap (λ b. cond (b && not (is_some (find_cell m.draft.library (bytes ts)))) (sub_item m ts) (and_then (item m.draft ts) put)) h
-      ∙ ap (λ o. cond (true && not (is_some o)) (sub_item m ts) (and_then (item m.draft ts) put)) some
-      ∙ ap (λ k. and_then (item_of k m.draft ts) put) (kind_is kind.Name ts h)
-      ∙ ap (λ b. and_then (and_then (cond {A = Outcome Text} b (Ok (bytes ts, next ts)) (Err (refusal ts))) (λ w vs. instances_named (left ts) w (find_cell m.draft.library w) m.draft vs)) put) h
-      ∙ ap (λ o. and_then (instances_named (left ts) (bytes ts) o m.draft (next ts)) put) some
+
+-- an item that begins with a name is what comes behind the name
+named_by_find : (m : Said) (ts : List Token) (id : Option CellId) → find_cell m.draft.library (bytes ts) ≡ id → sees kind.Name ts ≡ true → module_item m ts ≡ named_as (bytes ts) m id (next ts)
+named_by_find m ts None none h = named_sub m ts none h
+named_by_find m ts (Some id) some h = named_cell m ts id some h
 
 -- any other item
 other_item : (d : Draft) (subs : List DraftSub) (ts : List Token) → sees kind.Name ts ≡ false → module_item (said d subs) ts ≡ and_then (item d ts) (λ e vs. Ok (said e subs, vs))
