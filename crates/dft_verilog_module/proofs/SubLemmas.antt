@@ -22,9 +22,10 @@ use Rattle.dft_modules.specs.declared.fault.ModulesFault.{ModulesFault}
 use Rattle.dft_modules.specs.declared.fault.ModulesFault.TheVariants as told
 use Rattle.dft_modules.specs.SubInstances.{DraftSub, Said, name_sub, sub_instances, sub_item, names_module, module_item, module_items, one_module}
 use Rattle.dft_modules.specs.ModuleTexts.{in_module, is_repeated, repeats, name_ahead, next_module}
+use Rattle.dft_lexing.specs.declared.read_error.ReadError as reading
 use Rattle.dft_lexing.specs.declared.read_error.ReadError.TheVariants as errors
 use Rattle.dft_verilog_tokens.specs.Reading.{Reads, ReadError}
-use Rattle.dft_verilog_module.specs.SaidModules.{said, named_as, behind_item_name, module_name, headed, behind_name}
+use Rattle.dft_verilog_module.specs.SaidModules.{in_module_error, next_named, said, named_as, behind_item_name, module_name, headed, behind_name}
 
 -- ---- the name of an instance
 
@@ -168,12 +169,25 @@ name_ahead_is ts us word h = name_by (sees kind.Module ts) ts us word h
 pub next_unnamed : (library : List Cell) (names : List Text) (ts : List Token) (f : Fault) → module_name ts ≡ Err f → next_module library names ts ≡ Err (told.Module f)
 next_unnamed library names ts f h = next_module_is library names ts ∙ ap (next_by library names) h
 
-pub next_repeated : (library : List Cell) (names : List Text) (ts us : List Token) (word : Text) → module_name ts ≡ Ok (word, us) → is_repeated library names word ≡ true → next_module library names ts ≡ Err (told.Repeated word)
-next_repeated library names ts us word h again =
-    next_module_is library names ts ∙ ap (next_by library names) h ∙ ap (λ b. cond b (Err (told.Repeated word)) (in_module (behind_name word library us))) again
+-- a module whose name was read
+pub reads_next : {X : Type 0} (view : X → Said) (library : List Cell) (names : List Text) (ts us vs : List Token) (word : Text) (result : Result X (reading.ReadError ModulesFault)) → module_name ts ≡ Ok (word, us) →
+    Reads view (next_named library names word us) result vs → Reads view (next_module library names ts) result vs
+reads_next view library names ts us vs word result h r =
+    subst (λ (o : parser.Outcome Token ModulesFault Said). Reads view o result vs) (sym (next_module_is library names ts ∙ ap (next_by library names) h)) r
 
-pub next_new : (library : List Cell) (names : List Text) (ts us : List Token) (word : Text) → module_name ts ≡ Ok (word, us) → is_repeated library names word ≡ false → next_module library names ts ≡ in_module (behind_name word library us)
-next_new library names ts us word h new =
-    next_module_is library names ts ∙ ap (next_by library names) h ∙ ap (λ b. cond b (Err (told.Repeated word)) (in_module (behind_name word library us))) new
+-- and one whose name was not
+pub reads_unnamed : {X : Type 0} (view : X → Said) (library : List Cell) (names : List Text) (ts us : List Token) (e : ReadError) → Reads {X = Text} {Y = Text} (λ w. w) (module_name ts) (Err e) us →
+    Reads view (next_module library names ts) (Err (in_module_error e)) us
+reads_unnamed view library names ts us (errors.Fault f) h = next_unnamed library names ts f h
+reads_unnamed view library names ts us (errors.Memory e) h = tt
 
-pub ruleset next_modules = (next_unnamed, next_repeated, next_new, name_ahead_is)
+pub ok_in_module : (o : Outcome Said) (m : Said) (ts : List Token) → o ≡ Ok (m, ts) → in_module o ≡ Ok (m, ts)
+ok_in_module o m ts h = ap in_module h
+
+pub err_in_module : {X : Type 0} (view : X → Said) (o : Outcome Said) (e : ReadError) (ts : List Token) → Reads view o (Err e) ts → Reads view (in_module o) (Err (in_module_error e)) ts
+err_in_module view o (errors.Fault f) ts h = ap in_module h
+err_in_module view o (errors.Memory e) ts h = tt
+
+pub ruleset next_modules = (reads_next, next_unnamed, name_ahead_is)
+
+pub ruleset named_modules = (ok_in_module, err_in_module)

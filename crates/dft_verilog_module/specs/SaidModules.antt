@@ -1,5 +1,5 @@
 -- What one of several modules says, by the steps in which it is read.
-use Rattle.std.specs.Prelude.{List, [], Option, Some, None, slice_get}
+use Rattle.std.specs.Prelude.{List, [], Option, Some, None, slice_get, Err, if◌then◌else◌}
 use Rattle.dft_base.specs.Lexing.{Text}
 use Rattle.dft_base.specs.Parser.{pure, ◌>>=◌, ◌>>◌}
 use Rattle.dft_cells.specs.declared.cell.Cell.{Cell}
@@ -15,6 +15,7 @@ use Rattle.dft_modules.specs.declared.fault.ModulesFault.TheVariants as fault
 use Rattle.dft_cells.specs.declared.cell.CellId.{CellId}
 use Rattle.dft_cells.specs.Cells.{find_cell}
 use Rattle.dft_netlist_text.specs.Items.{instances_of}
+use Rattle.dft_modules.specs.ModuleTexts.{ModulesRule, in_module, is_repeated}
 use Rattle.dft_modules.specs.SubInstances.{DraftSub, Said, sub_instances, module_items}
 
 -- what a module has said, and its module instances
@@ -53,3 +54,7 @@ behind_name word library = do
 abbrev pub in_module_error : ReadError Fault → ReadError ModulesFault
 in_module_error (errors.Fault f) = errors.Fault (fault.Module f)
 in_module_error (errors.Memory e) = errors.Memory e
+
+-- the next module of a text behind its name, which is none of a cell or of these
+abbrev pub next_named : List Cell → (names : List Text) → (word : Text) → ModulesRule Said
+next_named library names word = λ ts. if is_repeated library names word then Err (fault.Repeated word) else in_module (behind_name word library ts)

@@ -5,7 +5,7 @@ ghost use Rattle.dft_base.specs.Name.{IsName};
 ghost use Rattle.dft_modules.specs.ModuleTexts as texts;
 ghost use Rattle.dft_modules.specs.SubInstances as spec;
 ghost use Rattle.dft_lexing.specs.Reading as reading;
-ghost use Rattle.dft_verilog_module.specs.SaidModules.{said, behind_item_name, behind_name, in_module_error};
+ghost use Rattle.dft_verilog_module.specs.SaidModules.{said, behind_item_name, behind_name, in_module_error, next_named};
 ghost use Rattle.dft_verilog_tokens.specs.Reading.{Reads};
 
 use crate::header::{headed, module_name};
@@ -140,6 +140,32 @@ fn repeated(alloc: Global, word: &[u8]) -> ModulesReadError
     }
 }
 
+#[tactic(auto, using(crate::proofs::SubLemmas::named_modules))]
+// The next module behind its name, which is one of these from here on.
+fn next_named<'a>(
+    alloc: Global,
+    word: &'a [u8],
+    names: &mut NameSet<'a>,
+    library: Library,
+    cells: &Library,
+    tokens: &mut Tokens<'a>,
+) -> Result<SaidModule<'a>, ModulesReadError>
+    requires name { IsName word.now }
+    requires same { cells.now ≡ library }
+    ensures read { reading.Reads (λ m. said m.draft m.subs.items) (next_named library names.old word.now tokens.old) result tokens.new }
+    ensures library { IfOk result (λ m. m.draft.library ≡ library) }
+    ensures names { OnOk result (names.new ≡ names.old ++ word.now ∷ []) }
+{
+    if is_repeated(names, cells, word) {
+        return Err(repeated(alloc, word));
+    }
+    names.add(Word::read(word))?;
+    match module_behind(alloc, word, library, cells, tokens) {
+        Ok(said) => Ok(said),
+        Err(error) => Err(in_module(error)),
+    }
+}
+
 #[tactic(auto, using(crate::proofs::SubLemmas::next_modules))]
 /// The next module of a text behind those with these names, over the cells of a library, which are given once more. Its name
 /// is one of these from here on.
@@ -155,10 +181,8 @@ pub fn next_module<'a>(
     ensures library { IfOk result (λ m. m.draft.library ≡ library) }
     ensures names { OnOk result (names.new ≡ names.old ++ texts.name_ahead tokens.old ∷ []) }
 {
-    let word = module_name(tokens).map_err(in_module)?;
-    if is_repeated(names, cells, word) {
-        return Err(repeated(alloc, word));
+    match module_name(tokens) {
+        Ok(word) => next_named(alloc, word, names, library, cells, tokens),
+        Err(error) => Err(in_module(error)),
     }
-    names.add(Word::read(word))?;
-    module_behind(alloc, word, library, cells, tokens).map_err(in_module)
 }
