@@ -120,11 +120,7 @@ fn design(
 /// The flat design of the modules of a text over the cells that it was read with: the one module that no module has an
 /// instance of is its top, and names below instances stand behind their paths, with `/` between. Refused with `H2`, `H3`,
 /// `H4`, `H5` in this order, each for the first in the order of the text, and then as the flat netlist is.
-pub fn flatten(
-    alloc: Global,
-    modules: &[Module],
-    library: Library,
-) -> Result<Design, HierError>
+pub fn flatten(alloc: Global, modules: &[Module], library: Library) -> Result<Design, HierError>
     requires { AreModules library modules.now }
     ensures flat { IfOk result (λ design. IsFlat modules.now library design) }
     ensures refused { IfErr result (λ error. CannotFlatten modules.now library error) }

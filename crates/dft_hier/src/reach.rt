@@ -5,11 +5,7 @@ use crate::components::components;
 use std::alloc::{AllocError, Global};
 
 // Meets the modules of a module's instances that were not met, and puts them behind those before.
-fn meet(
-    met: &mut [bool],
-    ahead: &mut Vec<usize>,
-    children: &Children,
-) -> Result<(), AllocError> {
+fn meet(met: &mut [bool], ahead: &mut Vec<usize>, children: &Children) -> Result<(), AllocError> {
     for module in &children.modules {
         if !met[*module] {
             met[*module] = true;
@@ -59,10 +55,7 @@ fn is_not_above(numbers: &[usize], number: usize, children: &Children) -> bool {
 
 // Whether no module has a higher number than those of its instances.
 fn never_fall(numbers: &[usize], children: &[Children]) -> bool {
-    children
-        .iter()
-        .enumerate()
-        .all(|(module, one)| is_not_above(numbers, numbers[module], one))
+    children.iter().enumerate().all(|(module, one)| is_not_above(numbers, numbers[module], one))
 }
 
 // The first module that has an instance of a module of its own number.
@@ -98,11 +91,8 @@ fn first_by_components(
 ) -> Result<Option<usize>, AllocError> {
     let numbers = components(alloc, children, finishes)?;
     match first_with_own(&numbers, children) {
-        Some(module)
-            if never_fall(&numbers, children) && is_in_itself(alloc, children, module)? =>
-        {
-            Ok(Some(module))
-        }
+        Some(module) if never_fall(&numbers, children) && is_in_itself(alloc, children, module)? =>
+            { Ok(Some(module)) }
         _ => first_by_search(alloc, children),
     }
 }

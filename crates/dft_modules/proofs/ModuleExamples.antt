@@ -22,10 +22,20 @@ use Rattle.dft_modules.proofs.Outcomes.{modules, says, refused_at, refused, repe
 pub two_modules :
     modules (codes "module inv2 (a, y); input a; output y; INV i0 (.A(a), .Y(n)); INV i1 (.A(n), .Y(y)); endmodule module m (c, d, q); input c, d; output q; inv2 u (.a(d), .y(w)); DFF f (.CK(c), .D(w), .Q(q)); endmodule")
     ≡ says
-    (record { name = codes "inv2"; ports = record { name = codes "a"; dir = dir.Input; range = None; bits = record { 0 = 0 } ∷ [] } ∷ record { name = codes "y"; dir = dir.Output; range = None; bits = record { 0 = 1 } ∷ [] } ∷ []; nets = codes "a" ∷ codes "y" ∷ codes "n" ∷ []; items =
-        item.Cell (record { name = Some (codes "i0"); cell = cell_ref.Library (record { 0 = 8 }); pins = signal.Net (record { 0 = 0 }) ∷ signal.Net (record { 0 = 2 }) ∷ [] }) ∷ item.Cell (record { name = Some (codes "i1"); cell = cell_ref.Library (record { 0 = 8 }); pins = signal.Net (record { 0 = 2 }) ∷ signal.Net (record { 0 = 1 }) ∷ [] }) ∷ [] }
-    ∷ record { name = codes "m"; ports = record { name = codes "c"; dir = dir.Input; range = None; bits = record { 0 = 0 } ∷ [] } ∷ record { name = codes "d"; dir = dir.Input; range = None; bits = record { 0 = 1 } ∷ [] } ∷ record { name = codes "q"; dir = dir.Output; range = None; bits = record { 0 = 2 } ∷ [] } ∷ []; nets = codes "c" ∷ codes "d" ∷ codes "q" ∷ codes "w" ∷ []; items =
-        item.Sub (record { name = codes "u"; of = codes "inv2"; connections = record { place = record { line = 1; column = 147 }; port = codes "a"; signals = signal.Net (record { 0 = 1 }) ∷ [] } ∷ record { place = record { line = 1; column = 154 }; port = codes "y"; signals = signal.Net (record { 0 = 3 }) ∷ [] } ∷ [] }) ∷ item.Cell (record { name = Some (codes "f"); cell = cell_ref.Library (record { 0 = 5 }); pins = signal.Net (record { 0 = 0 }) ∷ signal.Net (record { 0 = 3 }) ∷ signal.Net (record { 0 = 2 }) ∷ signal.Unconnected ∷ [] }) ∷ [] }
+    (record {
+      name = codes "inv2";
+      ports = record { name = codes "a"; dir = dir.Input; range = None; bits = record { 0 = 0 } ∷ [] } ∷ record { name = codes "y"; dir = dir.Output; range = None; bits = record { 0 = 1 } ∷ [] } ∷ [];
+      nets = codes "a" ∷ codes "y" ∷ codes "n" ∷ [];
+      items =
+          item.Cell (record { name = Some (codes "i0"); cell = cell_ref.Library (record { 0 = 8 }); pins = signal.Net (record { 0 = 0 }) ∷ signal.Net (record { 0 = 2 }) ∷ [] }) ∷ item.Cell (record { name = Some (codes "i1"); cell = cell_ref.Library (record { 0 = 8 }); pins = signal.Net (record { 0 = 2 }) ∷ signal.Net (record { 0 = 1 }) ∷ [] }) ∷ [];
+    }
+    ∷ record {
+      name = codes "m";
+      ports = record { name = codes "c"; dir = dir.Input; range = None; bits = record { 0 = 0 } ∷ [] } ∷ record { name = codes "d"; dir = dir.Input; range = None; bits = record { 0 = 1 } ∷ [] } ∷ record { name = codes "q"; dir = dir.Output; range = None; bits = record { 0 = 2 } ∷ [] } ∷ [];
+      nets = codes "c" ∷ codes "d" ∷ codes "q" ∷ codes "w" ∷ [];
+      items =
+          item.Sub (record { name = codes "u"; of = codes "inv2"; connections = record { place = record { line = 1; column = 147 }; port = codes "a"; signals = signal.Net (record { 0 = 1 }) ∷ [] } ∷ record { place = record { line = 1; column = 154 }; port = codes "y"; signals = signal.Net (record { 0 = 3 }) ∷ [] } ∷ [] }) ∷ item.Cell (record { name = Some (codes "f"); cell = cell_ref.Library (record { 0 = 5 }); pins = signal.Net (record { 0 = 0 }) ∷ signal.Net (record { 0 = 3 }) ∷ signal.Net (record { 0 = 2 }) ∷ signal.Unconnected ∷ [] }) ∷ [];
+    }
     ∷ [])
 unfolding comment_rest attribute_rest blank_len begins_blank to_blank word_kind mark_kind escaped quote directive lexeme kind_of bytes left next same_kind sees refusal expect after number rest_of_range range range_if_any digits constant followed rest_of_select selection named_operand constant_operand operand opening closing concatenations_from expression declared_name declared_names_from declared_names declaration port_item wire_item right_side net_assignment net_assignments_from net_assignments assign_item terminal input_terminals_from input_terminals terminals named_gate unnamed_gate one_gate gates_from gates gate_item connected_pin pin_signal pin_content named_connection named_connections_from named_connections connections instance instances_from instances cell_item item items_from items announced_name announced_names_from announced_names declared_port port_declaration_of port_declaration declared_ports_from declared_ports header_names header heading module_end place_after next_place words.reserved_words fmt.digits named_port port_content port_connection port_connections_from port_connections sub_instance sub_instances_from sub_instances sub_item module_item module_items_from module_items one_module next_module modules_from modules_of
 two_modules = refl
@@ -33,8 +43,13 @@ two_modules = refl
 pub in_itself :
     modules (codes "module m (a); input a; m u (.a(a)); endmodule")
     ≡ says
-    (record { name = codes "m"; ports = record { name = codes "a"; dir = dir.Input; range = None; bits = record { 0 = 0 } ∷ [] } ∷ []; nets = codes "a" ∷ []; items =
-        item.Sub (record { name = codes "u"; of = codes "m"; connections = record { place = record { line = 1; column = 30 }; port = codes "a"; signals = signal.Net (record { 0 = 0 }) ∷ [] } ∷ [] }) ∷ [] }
+    (record {
+      name = codes "m";
+      ports = record { name = codes "a"; dir = dir.Input; range = None; bits = record { 0 = 0 } ∷ [] } ∷ [];
+      nets = codes "a" ∷ [];
+      items =
+          item.Sub (record { name = codes "u"; of = codes "m"; connections = record { place = record { line = 1; column = 30 }; port = codes "a"; signals = signal.Net (record { 0 = 0 }) ∷ [] } ∷ [] }) ∷ [];
+    }
     ∷ [])
 unfolding comment_rest attribute_rest blank_len begins_blank to_blank word_kind mark_kind escaped quote directive lexeme kind_of bytes left next same_kind sees refusal expect after number rest_of_range range range_if_any digits constant followed rest_of_select selection named_operand constant_operand operand opening closing concatenations_from expression declared_name declared_names_from declared_names declaration port_item wire_item right_side net_assignment net_assignments_from net_assignments assign_item terminal input_terminals_from input_terminals terminals named_gate unnamed_gate one_gate gates_from gates gate_item connected_pin pin_signal pin_content named_connection named_connections_from named_connections connections instance instances_from instances cell_item item items_from items announced_name announced_names_from announced_names declared_port port_declaration_of port_declaration declared_ports_from declared_ports header_names header heading module_end place_after next_place words.reserved_words fmt.digits named_port port_content port_connection port_connections_from port_connections sub_instance sub_instances_from sub_instances sub_item module_item module_items_from module_items one_module next_module modules_from modules_of
 in_itself = refl
@@ -46,8 +61,13 @@ undeclared_with_select = refl
 pub widths :
     modules (codes "module t (y); output y; wire [1:0] z; assign y = z[0]; k u (.a(), .b({x, z, 2'b01})), v (); not (x, y); assign z = 2'b10; endmodule")
     ≡ says
-    (record { name = codes "t"; ports = record { name = codes "y"; dir = dir.Output; range = None; bits = record { 0 = 0 } ∷ [] } ∷ []; nets = codes "y" ∷ codes "z[1]" ∷ codes "z[0]" ∷ codes "x" ∷ []; items =
-        item.Join (record { target = record { 0 = 0 }; source = signal.Net (record { 0 = 2 }) }) ∷ item.Sub (record { name = codes "u"; of = codes "k"; connections = record { place = record { line = 1; column = 62 }; port = codes "a"; signals = [] } ∷ record { place = record { line = 1; column = 68 }; port = codes "b"; signals = signal.Net (record { 0 = 3 }) ∷ signal.Net (record { 0 = 1 }) ∷ signal.Net (record { 0 = 2 }) ∷ signal.Constant false ∷ signal.Constant true ∷ [] } ∷ [] }) ∷ item.Sub (record { name = codes "v"; of = codes "k"; connections = [] }) ∷ item.Join (record { target = record { 0 = 1 }; source = signal.Constant true }) ∷ item.Join (record { target = record { 0 = 2 }; source = signal.Constant false }) ∷ item.Cell (record { name = None; cell = cell_ref.Gate primitive.Inv 1; pins = signal.Net (record { 0 = 0 }) ∷ signal.Net (record { 0 = 3 }) ∷ [] }) ∷ [] }
+    (record {
+      name = codes "t";
+      ports = record { name = codes "y"; dir = dir.Output; range = None; bits = record { 0 = 0 } ∷ [] } ∷ [];
+      nets = codes "y" ∷ codes "z[1]" ∷ codes "z[0]" ∷ codes "x" ∷ [];
+      items =
+          item.Join (record { target = record { 0 = 0 }; source = signal.Net (record { 0 = 2 }) }) ∷ item.Sub (record { name = codes "u"; of = codes "k"; connections = record { place = record { line = 1; column = 62 }; port = codes "a"; signals = [] } ∷ record { place = record { line = 1; column = 68 }; port = codes "b"; signals = signal.Net (record { 0 = 3 }) ∷ signal.Net (record { 0 = 1 }) ∷ signal.Net (record { 0 = 2 }) ∷ signal.Constant false ∷ signal.Constant true ∷ [] } ∷ [] }) ∷ item.Sub (record { name = codes "v"; of = codes "k"; connections = [] }) ∷ item.Join (record { target = record { 0 = 1 }; source = signal.Constant true }) ∷ item.Join (record { target = record { 0 = 2 }; source = signal.Constant false }) ∷ item.Cell (record { name = None; cell = cell_ref.Gate primitive.Inv 1; pins = signal.Net (record { 0 = 0 }) ∷ signal.Net (record { 0 = 3 }) ∷ [] }) ∷ [];
+    }
     ∷ [])
 unfolding comment_rest attribute_rest blank_len begins_blank to_blank word_kind mark_kind escaped quote directive lexeme kind_of bytes left next same_kind sees refusal expect after number rest_of_range range range_if_any digits constant followed rest_of_select selection named_operand constant_operand operand opening closing concatenations_from expression declared_name declared_names_from declared_names declaration port_item wire_item right_side net_assignment net_assignments_from net_assignments assign_item terminal input_terminals_from input_terminals terminals named_gate unnamed_gate one_gate gates_from gates gate_item connected_pin pin_signal pin_content named_connection named_connections_from named_connections connections instance instances_from instances cell_item item items_from items announced_name announced_names_from announced_names declared_port port_declaration_of port_declaration declared_ports_from declared_ports header_names header heading module_end place_after next_place words.reserved_words fmt.digits named_port port_content port_connection port_connections_from port_connections sub_instance sub_instances_from sub_instances sub_item module_item module_items_from module_items one_module next_module modules_from modules_of
 widths = refl

@@ -59,11 +59,11 @@ fn between<T>(list: &[T], from: usize, to: usize) -> &[T]
 }
 
 // Adds joins.
-fn add_joins(module: &mut Module, finals: &[NetId], joins: &[Join]) -> Result<(), AllocError>
-    ensures { OnOk result (module.new ≡ with_items (map (spec.join_said (net_or_first finals.now)) joins.now) module.old) }
+fn add_joins(made: &mut Module, finals: &[NetId], joins: &[Join]) -> Result<(), AllocError>
+    ensures { OnOk result (made.new ≡ with_items (map (spec.join_said (net_or_first finals.now)) joins.now) made.old) }
 {
     for join in joins {
-        module.add_item(Item::Join(Join {
+        made.add_item(Item::Join(Join {
             target: final_net(finals, join.target),
             source: final_signal(finals, join.source),
         }))?;
@@ -72,11 +72,7 @@ fn add_joins(module: &mut Module, finals: &[NetId], joins: &[Join]) -> Result<()
 }
 
 // An instance of a cell or a gate.
-fn cell(
-    alloc: Global,
-    finals: &[NetId],
-    instance: &DraftInstance<'_>,
-) -> Result<Item, AllocError>
+fn cell(alloc: Global, finals: &[NetId], instance: &DraftInstance<'_>) -> Result<Item, AllocError>
     ensures { IfOk result (λ item. item ≡ spec.cell_said (net_or_first finals.now) instance.now) }
 {
     Ok(Item::Cell(Instance {
@@ -89,14 +85,14 @@ fn cell(
 // Adds instances of cells and gates.
 fn add_cells(
     alloc: Global,
-    module: &mut Module,
+    made: &mut Module,
     finals: &[NetId],
     instances: &[DraftInstance<'_>],
 ) -> Result<(), AllocError>
-    ensures { OnOk result (module.new ≡ with_items (map (spec.cell_said (net_or_first finals.now)) instances.now) module.old) }
+    ensures { OnOk result (made.new ≡ with_items (map (spec.cell_said (net_or_first finals.now)) instances.now) made.old) }
 {
     for instance in instances {
-        module.add_item(cell(alloc, finals, instance)?)?;
+        made.add_item(cell(alloc, finals, instance)?)?;
     }
     Ok(())
 }
@@ -172,18 +168,18 @@ pub struct NextParts {
 // Adds the joins and then the cells of a draft from one place up to another.
 fn add_parts(
     alloc: Global,
-    module: &mut Module,
+    made: &mut Module,
     finals: &[NetId],
     draft: &ModuleDraft<'_>,
     from: NextParts,
     to: NextParts,
 ) -> Result<(), AllocError>
-    ensures { OnOk result (module.new ≡ with_items (spec.parts_between (net_or_first finals.now) draft.now from.join from.cell to.join to.cell) module.old) }
+    ensures { OnOk result (made.new ≡ with_items (spec.parts_between (net_or_first finals.now) draft.now from.join from.cell to.join to.cell) made.old) }
 {
-    add_joins(module, finals, between(draft.joins(), from.join, to.join))?;
+    add_joins(made, finals, between(draft.joins(), from.join, to.join))?;
     add_cells(
         alloc,
-        module,
+        made,
         finals,
         between(draft.instances(), from.cell, to.cell),
     )
@@ -194,14 +190,14 @@ pub fn add_items(
     alloc: Global,
     text: &[u8],
     passed: &mut Passed,
-    module: &mut Module,
+    made: &mut Module,
     finals: &[NetId],
     draft: &ModuleDraft<'_>,
     subs: &[DraftSub<'_>],
 ) -> Result<(), AllocError>
     requires few { length text.now ≤ MAX_TEXT }
     requires passed { HasPassed text.now passed.old }
-    ensures items { OnOk result (module.new ≡ with_items (spec.items_said text.now (net_or_first finals.now) draft.now 0 0 subs.now) module.old) }
+    ensures items { OnOk result (made.new ≡ with_items (spec.items_said text.now (net_or_first finals.now) draft.now 0 0 subs.now) made.old) }
     ensures passed { HasPassed text.now passed.new }
 {
     let mut next = NextParts { join: 0, cell: 0 };
@@ -210,13 +206,13 @@ pub fn add_items(
             join: one.joins(),
             cell: one.cells(),
         };
-        add_parts(alloc, module, finals, draft, next, here)?;
-        module.add_item(sub(alloc, text, passed, finals, one)?)?;
+        add_parts(alloc, made, finals, draft, next, here)?;
+        made.add_item(sub(alloc, text, passed, finals, one)?)?;
         next = here;
     }
     let end = NextParts {
         join: draft.joins().len(),
         cell: draft.instances().len(),
     };
-    add_parts(alloc, module, finals, draft, next, end)
+    add_parts(alloc, made, finals, draft, next, end)
 }

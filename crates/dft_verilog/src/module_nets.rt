@@ -33,16 +33,16 @@ fn counted(alloc: Global, first: usize, count: usize) -> Result<NetIds, AllocErr
 // Adds nets with these numbers one after another, by their names.
 fn add_run(
     alloc: Global,
-    module: &mut Module,
+    made: &mut Module,
     names: &[Word<'_>],
     first: usize,
     count: usize,
 ) -> Result<(), AllocError>
     requires { first + count ≤ length names.now }
-    ensures { OnOk result (module.new ≡ with_nets (spec.names_in_order (going_up first count) names.now) module.old) }
+    ensures { OnOk result (made.new ≡ with_nets (spec.names_in_order (going_up first count) names.now) made.old) }
 {
     for bit in 0..count {
-        module.add_net(Name::from_slice(alloc, names[first + bit].as_slice())?)?;
+        made.add_net(Name::from_slice(alloc, names[first + bit].as_slice())?)?;
     }
     Ok(())
 }
@@ -50,44 +50,38 @@ fn add_run(
 // Adds a port that was declared so, with its nets.
 fn add_declared(
     alloc: Global,
-    module: &mut Module,
+    made: &mut Module,
     names: &[Word<'_>],
     name: &Name,
     declared: Declared,
 ) -> Result<(), AllocError>
     requires within { IsDeclaredWithin (length names.now) (Some declared) }
-    requires few { length module.old.nets + 65536 ≤ 2 ^ 32 }
-    ensures { OnOk result (module.new ≡ with_port names.now name.now (Some declared) module.old) }
+    requires few { length made.old.nets + 65536 ≤ 2 ^ 32 }
+    ensures { OnOk result (made.new ≡ with_port names.now name.now (Some declared) made.old) }
 {
     let count = net_count(declared.shape.range);
-    module.add_port(Port {
+    made.add_port(Port {
         name: name.copy(alloc)?,
         dir: declared.dir,
         range: declared.shape.range,
-        bits: counted(alloc, module.nets().len(), count)?,
+        bits: counted(alloc, made.nets().len(), count)?,
     })?;
-    add_run(
-        alloc,
-        module,
-        names,
-        declared.shape.first.0 as usize,
-        count,
-    )
+    add_run(alloc, made, names, declared.shape.first.0 as usize, count)
 }
 
 // Adds a port of the header with its nets, if it was declared.
 fn add_port(
     alloc: Global,
-    module: &mut Module,
+    made: &mut Module,
     names: &[Word<'_>],
     port: &HeaderPort,
 ) -> Result<(), AllocError>
     requires within { IsDeclaredWithin (length names.now) port.now.declared }
-    requires few { length module.old.nets + 65536 ≤ 2 ^ 32 }
-    ensures { OnOk result (module.new ≡ with_port names.now port.now.name port.now.declared module.old) }
+    requires few { length made.old.nets + 65536 ≤ 2 ^ 32 }
+    ensures { OnOk result (made.new ≡ with_port names.now port.now.name port.now.declared made.old) }
 {
     match port.declared() {
-        Some(declared) => add_declared(alloc, module, names, port.name(), declared),
+        Some(declared) => add_declared(alloc, made, names, port.name(), declared),
         None => Ok(()),
     }
 }
@@ -95,17 +89,17 @@ fn add_port(
 /// Adds the ports of a header with their nets.
 pub fn add_ports(
     alloc: Global,
-    module: &mut Module,
+    made: &mut Module,
     names: &[Word<'_>],
     ports: &[HeaderPort],
 ) -> Result<(), AllocError>
-    requires none { length module.old.nets ≡ 0 }
+    requires none { length made.old.nets ≡ 0 }
     requires few { length ports.now ≤ MAX_PORTS }
     requires within { All (λ p. IsDeclaredWithin (length names.now) p.declared) ports.now }
-    ensures { OnOk result (module.new ≡ with_ports names.now ports.now module.old) }
+    ensures { OnOk result (made.new ≡ with_ports names.now ports.now made.old) }
 {
     for port in ports {
-        add_port(alloc, module, names, port)?;
+        add_port(alloc, made, names, port)?;
     }
     Ok(())
 }
@@ -113,16 +107,16 @@ pub fn add_ports(
 /// Adds the nets that have no number, by their names.
 pub fn add_others(
     alloc: Global,
-    module: &mut Module,
+    made: &mut Module,
     names: &[Word<'_>],
     numbers: &[Option<NetId>],
 ) -> Result<(), AllocError>
     requires { length names.now ≡ length numbers.now }
-    ensures { OnOk result (module.new ≡ with_nets (without_number names.now numbers.now) module.old) }
+    ensures { OnOk result (made.new ≡ with_nets (without_number names.now numbers.now) made.old) }
 {
     for (net, number) in numbers.iter().enumerate() {
         if number.is_none() {
-            module.add_net(Name::from_slice(alloc, names[net].as_slice())?)?;
+            made.add_net(Name::from_slice(alloc, names[net].as_slice())?)?;
         }
     }
     Ok(())

@@ -31,25 +31,25 @@ fn module_said(
 ) -> Result<Module, AllocError>
     requires few { length text.now ≤ MAX_TEXT }
     requires passed { HasPassed text.now passed.old }
-    ensures said { IfOk result (λ module. module ≡ spec.module_said text.now (said said_module.now.draft said_module.now.subs.items)) }
+    ensures said { IfOk result (λ made. made ≡ spec.module_said text.now (said said_module.now.draft said_module.now.subs.items)) }
     ensures passed { HasPassed text.now passed.new }
 {
     let draft = &said_module.draft;
-    let mut module = Module::new(alloc, draft.name().copy(alloc)?);
+    let mut made = Module::new(alloc, draft.name().copy(alloc)?);
     let numbers = port_numbers(alloc, draft.ports(), draft.net_count())?;
-    add_ports(alloc, &mut module, draft.nets(), draft.ports())?;
-    let finals = all_numbers(alloc, &numbers, module.nets().len())?;
-    add_others(alloc, &mut module, draft.nets(), &numbers)?;
+    add_ports(alloc, &mut made, draft.nets(), draft.ports())?;
+    let finals = all_numbers(alloc, &numbers, made.nets().len())?;
+    add_others(alloc, &mut made, draft.nets(), &numbers)?;
     add_items(
         alloc,
         text,
         passed,
-        &mut module,
+        &mut made,
         &finals,
         draft,
         &said_module.subs,
     )?;
-    Ok(module)
+    Ok(made)
 }
 
 // The modules from here to the end of a text.

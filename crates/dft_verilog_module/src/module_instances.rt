@@ -125,13 +125,7 @@ fn sub_instance<'a>(
     let joins = draft.joins().len();
     let cells = draft.instances().len();
     let connections = connections.into_list();
-    subs.push(DraftSub::new(
-        Word::read(word),
-        Word::read(of),
-        joins,
-        cells,
-        connections,
-    ))?;
+    subs.push(DraftSub::new(Word::read(word), Word::read(of), joins, cells, connections))?;
     Ok(())
 }
 

@@ -6,4 +6,4 @@ use Rattle.dft_verilog.proofs.module_nets.add_run.Given as goal
 
 -- the names so far are there
 abbrev pub invariant-loop-bit : goal.invariant-loop-bit
-invariant-loop-bit l = l.module ≡ with_nets (names_in_order (going_up l.first l.bit) l.names) l.initial.module
+invariant-loop-bit l = l.made ≡ with_nets (names_in_order (going_up l.first l.bit) l.names) l.initial.made
