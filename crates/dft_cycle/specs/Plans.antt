@@ -18,6 +18,7 @@ use Rattle.dft_logic.specs.Takings.{AreTakings, is_loose}
 use Rattle.dft_logic.specs.ShownTables.{edges_of}
 use Rattle.dft_cycle.specs.declared.plans.Pins.{Pins}
 use Rattle.dft_cycle.specs.declared.plans.Plan.{Plan}
+use Rattle.dft_cycle.specs.declared.plans.Sketch.{Sketch}
 use Rattle.dft_cycle.specs.declared.plans.Stage.{Stage}
 use Rattle.dft_cycle.specs.declared.plans.Stage.TheVariants.{Made}
 use Rattle.dft_cycle.specs.declared.planning.Plans.{Plans}
@@ -115,14 +116,18 @@ LooseAreUnknown x values = (c : ℕ) → is_loose (cell_at (map cell_of x.flops.
 
 -- ---- all plans
 
+-- the room has a place for each net and each instance
+pub record IsSketch (x : Circuit) (room : Sketch) : Type 0 where
+  pub origins : length room.origins.items ≡ length x.ops.items
+  pub shown : length room.shown.items ≡ length x.ops.items
+  pub entries : length room.entries.items ≡ length x.flops.items
+
 -- the plans of a circuit with these clocks, and what they are made from
 pub record ArePlans (x : Circuit) (clocks : List NetId) (p : Plans) : Type 0 where
   pub pins : IsPins x p.pins
-  pub origins : length p.origins.items ≡ length x.ops.items
+  pub sketch : IsSketch x p.sketch
   pub plans : All (IsPlan x clocks p.pins) p.plans.items
   pub some : 0 < length p.plans.items
-  pub shown : length p.shown.items ≡ length x.ops.items
-  pub entries : length p.entries.items ≡ length x.flops.items
 
 -- a phase of a pulse was found by one pass: these are the values of flip-flops after it, at a least map that is there
 pub record IsPassed (x : Circuit) (p : Pulse) (new : List Tri) : Type 0 where

@@ -7,21 +7,18 @@ ghost use Rattle.dft_cycle.specs.Views.{PulsesAmong};
 ghost use Rattle.dft_cycle.specs.Plans.{ArePlans, LooseAreUnknown, IsPassed};
 
 use crate::phases::Phase;
-use crate::plans::{Pins, Plan, Stage};
+use crate::plans::{Pins, Plan, Sketch, Stage};
 use dft_base::Tri;
-use dft_logic::{Entry, Pulse, Shown, settle_list};
-use dft_netlist::{InstanceId, NetId};
+use dft_logic::{Pulse, settle_list};
+use dft_netlist::NetId;
 
-// The plans of the last phases that came again, and what they are made from: the pins, and room for the flip-flop that
-// each net shows, for what else nets show and for entries. Then the places of the plan that was noted last and of the one
-// that was taken last.
+// The plans of the last phases that came again, and what they are made from. Then the places of the plan that was noted
+// last and of the one that was taken last.
 #[derive(Drop)]
 pub(crate) struct Plans {
     pub pins: Pins,
-    pub origins: Vec<Option<InstanceId>>,
+    pub sketch: Sketch,
     pub plans: Vec<Plan>,
-    pub shown: Vec<Shown>,
-    pub entries: Vec<Entry>,
     pub noted: usize,
     pub taken: usize,
 }
@@ -90,15 +87,7 @@ impl Plans {
         ensures count { length self.new.plans.items ≡ length self.old.plans.items }
         ensures clear { (k : ℕ) → is_up marked.new k ≡ false }
     {
-        self.plans[place].make(
-            phase,
-            &self.pins,
-            &mut self.origins,
-            values,
-            &mut self.shown,
-            &mut self.entries,
-            marked,
-        );
+        self.plans[place].make(phase, &self.pins, &mut self.sketch, values, marked);
     }
 
     // The place of the plan for a phase, which is made if the phase came before. Where there is none, one is noted.

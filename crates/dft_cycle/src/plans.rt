@@ -12,7 +12,7 @@ ghost use Rattle.dft_logic.specs.ShownTables.{shown_at, edges_of};
 ghost use Rattle.dft_logic.specs.EntryTables.{origin_at, entry_for, entry_needs, entry_at};
 ghost use Rattle.dft_cycle.specs.declared.plans.Stage.TheVariants.{Noted, Made};
 ghost use Rattle.dft_cycle.specs.Views.{PulsesAmong};
-ghost use Rattle.dft_cycle.specs.Plans.{row_of, flags_of, IsPins, IsNeedList, IsPlan, IsNoted, IsFilled, LooseAreUnknown, IsPassed};
+ghost use Rattle.dft_cycle.specs.Plans.{row_of, flags_of, IsPins, IsSketch, IsNeedList, IsPlan, IsNoted, IsFilled, LooseAreUnknown, IsPassed};
 
 use crate::phases::Phase;
 use dft_base::Tri;
@@ -136,29 +136,34 @@ impl Plan {
     }
 }
 
+// What plans are made from: room for the flip-flop that each net shows, for what else nets show, and for entries.
+#[derive(Drop)]
+pub(crate) struct Sketch {
+    pub origins: Vec<Option<InstanceId>>,
+    pub shown: Vec<Shown>,
+    pub entries: Vec<Entry>,
+}
+
 // Settles all nets before the edges of a phase, and finds what flip-flops take. Whether all take what is still.
-fn draw(
-    circuit: &Circuit,
-    pulse: Pulse<'_>,
-    origins: &mut [Option<InstanceId>],
-    values: &mut [Tri],
-    shown: &mut [Shown],
-    entries: &mut [Entry],
-) -> bool
-    requires circuit { IsCircuit circuit.now }
-    requires origins { length origins.old ≡ length circuit.now.ops.items }
-    requires values { length values.old ≡ length circuit.now.ops.items }
-    requires shown { length shown.old ≡ length circuit.now.ops.items }
-    requires entries { length entries.old ≡ length circuit.now.flops.items }
-    ensures origins { AreOrigins (logic_at circuit.now) (level_before (pulse_at pulse.entry)) (origin_at origins.new) }
-    ensures shows { IsShownOn (logic_at circuit.now) (edges_of pulse.entry.rising (is_up pulse.entry.pulsed.now)) (λ net. true) (shown_at shown.new) }
-    ensures entries { result ≡ true → (c : ℕ) → c < length circuit.now.flops.items → entry_for (cell_at (map cell_of circuit.now.flops.items) c) (pulse_at pulse.entry) (origin_at origins.new) (shown_at shown.new) (spec.value_at values.new) ≡ Some (entry_at entries.new c) }
+fn draw(phase: Phase<'_>, sketch: &mut Sketch, values: &mut [Tri]) -> bool
+    requires circuit { IsCircuit phase.circuit.now }
+    requires sketch { IsSketch phase.circuit.now sketch.old }
+    requires values { length values.old ≡ length phase.circuit.now.ops.items }
+    ensures sketch { IsSketch phase.entry.circuit.now sketch.new }
+    ensures origins { AreOrigins (logic_at phase.entry.circuit.now) (level_before (pulse_at phase.entry.pulse)) (origin_at sketch.new.origins.items) }
+    ensures shows { IsShownOn (logic_at phase.entry.circuit.now) (edges_of phase.entry.pulse.rising (is_up phase.entry.pulse.pulsed.now)) (λ net. true) (shown_at sketch.new.shown.items) }
+    ensures entries { result ≡ true → (c : ℕ) → c < length phase.entry.circuit.now.flops.items → entry_for (cell_at (map cell_of phase.entry.circuit.now.flops.items) c) (pulse_at phase.entry.pulse) (origin_at sketch.new.origins.items) (shown_at sketch.new.shown.items) (spec.value_at values.new) ≡ Some (entry_at sketch.new.entries.items c) }
 {
-    settle_list(circuit, pulse, &circuit.order, values);
-    find_origins(circuit, pulse, origins);
-    show_all(circuit, pulse.rising, pulse.pulsed, shown);
-    let sights = Sights { origins, shown };
-    find_entries(&circuit.flops, pulse, &sights, values, entries)
+    let pulse = phase.pulse;
+    settle_list(phase.circuit, pulse, &phase.circuit.order, values);
+    find_origins(phase.circuit, pulse, &mut sketch.origins);
+    show_all(phase.circuit, pulse.rising, pulse.pulsed, &mut sketch.shown);
+    let sights = Sights {
+        origins: &sketch.origins,
+        shown: &sketch.shown,
+    };
+    let flops = &phase.circuit.flops;
+    find_entries(flops, pulse, &sights, values, &mut sketch.entries)
 }
 
 // Lists the nets that are settled for flip-flops to take what they take, at the front of a list: how many.
@@ -216,27 +221,24 @@ impl Plan {
         &mut self,
         phase: Phase<'_>,
         pins: &Pins,
-        origins: &mut [Option<InstanceId>],
+        sketch: &mut Sketch,
         values: &mut [Tri],
-        shown: &mut [Shown],
-        entries: &mut [Entry],
         marked: &mut [bool],
     )
         requires circuit { IsCircuit phase.circuit.now }
         requires among { PulsesAmong phase.pulse.pulsed.now phase.clocks.now }
         requires ports { length phase.pulse.ports.now ≡ length phase.circuit.now.ops.items }
-        requires origins { length origins.old ≡ length phase.circuit.now.ops.items }
+        requires sketch { IsSketch phase.circuit.now sketch.old }
         requires values { length values.old ≡ length phase.circuit.now.ops.items }
-        requires shown { length shown.old ≡ length phase.circuit.now.ops.items }
-        requires entries { length entries.old ≡ length phase.circuit.now.flops.items }
         requires marked { length marked.old ≡ length phase.circuit.now.ops.items }
         requires clear { (k : ℕ) → is_up marked.old k ≡ false }
         requires plan { IsPlan phase.circuit.now phase.clocks.now pins.now self.old }
         ensures plan { IsPlan phase.entry.circuit.now phase.entry.clocks.now pins.now self.new }
+        ensures sketch { IsSketch phase.entry.circuit.now sketch.new }
         ensures clear { (k : ℕ) → is_up marked.new k ≡ false }
     {
-        if draw(phase.circuit, phase.pulse, origins, values, shown, entries) {
-            self.fill(phase.circuit, entries, marked);
+        if draw(phase, sketch, values) {
+            self.fill(phase.circuit, &sketch.entries, marked);
             self.note(phase, pins, values, Stage::Made);
         } else {
             self.stage = Stage::Barred;

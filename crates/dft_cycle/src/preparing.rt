@@ -11,7 +11,7 @@ ghost use Rattle.dft_cycle.specs.Looks.{IsLook, AreLooks};
 use crate::looking::Looks;
 use crate::looks::Look;
 use crate::planning::Plans;
-use crate::plans::{Pins, Plan, Stage};
+use crate::plans::{Pins, Plan, Sketch, Stage};
 use dft_base::Tri;
 use dft_logic::{
     Circuit, Entry, Shown, list_marked, lower, mark_entries, mark_forces, mark_needed,
@@ -146,12 +146,15 @@ impl Plans {
         let entries = vec![in alloc; Entry::Keeps; circuit.flops.len()]?;
         let pins = pins(alloc, circuit, &entries, marked)?;
         let plans = plans(alloc, circuit, clocks, &pins, PLANS)?;
-        Ok(Plans {
-            pins,
+        let sketch = Sketch {
             origins,
-            plans,
             shown,
             entries,
+        };
+        Ok(Plans {
+            pins,
+            sketch,
+            plans,
             noted: 0,
             taken: 0,
         })

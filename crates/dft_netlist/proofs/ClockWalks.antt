@@ -74,6 +74,12 @@ found n (suc steps) (Net net) root is = driver_found n (clock_within n steps) ne
 pub clock_found : ClockIsFound
 clock_found n source root is = found n (suc (length n.nets)) source root is
 
+-- the port that a clock comes from
+pub clock_driven : (n : Netlist) {source : Source} {port : ℕ} {inverted : Bool} → ClockRooted n source port inverted → driver n port ≡ Input
+clock_driven n (AtPort is) = is
+clock_driven n (ThroughGate is turns rest) = clock_driven n rest
+clock_driven n (ThroughJoin is rest) = clock_driven n rest
+
 -- ---- the bit there
 
 gate_bit : (f : Source → Bool) (kind : Kind) (source : Source) (turns : Bool) → turn_of kind ≡ Some turns → bit_of kind (map f (source ∷ [])) ≡ turned turns (f source)

@@ -25,6 +25,7 @@ pub mod DriverLaws
 pub mod TraceLemmas
 pub mod ClockWalks
 pub mod GateDrivers
+pub mod LockupPins
 pub mod ClockLemmas
 pub mod NumberLemmas
 pub mod BitLemmas

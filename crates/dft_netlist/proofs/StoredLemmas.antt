@@ -148,7 +148,7 @@ lockup_kind n net i is = found_keeps (kind_at n) (all_driven n) net (all_keep n)
 
 -- ---- what a lock-up's net shows is the cell of its instance
 
-no_port : (b : Bool) (c e : ℕ) (high : Bool) (source : Source) → (if b then Clock else Input) ≡ Lockup c e high source → ⊥
+pub no_port : (b : Bool) (c e : ℕ) (high : Bool) (source : Source) → (if b then Clock else Input) ≡ Lockup c e high source → ⊥
 no_port true c e high source h = cc
 no_port false c e high source h = cc
 

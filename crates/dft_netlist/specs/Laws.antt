@@ -1,10 +1,11 @@
 -- Laws of designs: an order gives one settled assignment, and walks find the roots.
 use Rattle.std.specs.Prelude.{ℕ, Bool, false, not, ◌≡◌, Some, if◌then◌else◌}
+use Rattle.dft_cells.specs.declared.kind.Role.TheVariants as role
 use Rattle.dft_netlist.specs.Netlist.{Netlist}
-use Rattle.dft_netlist.specs.Drivers.{Source, IsOrdered}
+use Rattle.dft_netlist.specs.Drivers.{Source, pins_of, IsOrdered}
 use Rattle.dft_netlist.specs.Traces.{Root, Port, Constant, Traces, root_of}
 use Rattle.dft_netlist.specs.ClockRoots.{ClockRoot, ClockRooted, clock_root_of}
-use Rattle.dft_netlist.specs.Logic.{Logic, Ports, logic_of, IsRanked}
+use Rattle.dft_netlist.specs.Logic.{Logic, Ports, Lockup, pin_of, logic_of, IsRanked}
 use Rattle.dft_netlist.specs.Settled.{Sources, bit_from, IsSettled}
 
 -- An order of a design's nets is one of what they mean, whatever its clock and reset ports.
@@ -44,6 +45,12 @@ ClockIsFound = (n : Netlist) (source : Source) (root : ClockRoot) → clock_root
 abbrev pub ClockBit : Type 0
 ClockBit = (n : Netlist) (ports : Ports) (s : Sources) (bits : ℕ → Bool) (source : Source) (port : ℕ) (inverted : Bool) → IsSettled (logic_of n ports) s bits → ClockRooted n source port inverted →
     bit_from s bits source ≡ (if inverted then not (bits port) else bits port)
+
+-- A lock-up on a clock port shows its input while the net at its clock pin is 0, and what it holds while that is 1, be that clock inverted or not.
+abbrev pub LockupByPin : Type 0
+LockupByPin =
+    (n : Netlist) (ports : Ports) (s : Sources) (bits : ℕ → Bool) (net c e : ℕ) (high : Bool) (source : Source) → IsSettled (logic_of n ports) s bits → (logic_of n ports).net net ≡ Lockup c e high source →
+    (pin : Source) × (pin_of role.Clock c (pins_of n c) ≡ Some pin) × (bits net ≡ (if bit_from s bits pin then s.flops c else bit_from s bits source))
 
 -- What traces to a port shows it.
 abbrev pub TracedIsClock : Type 0

@@ -1,7 +1,7 @@
 //! Laws about designs, as contracts of functions that do nothing.
 
 ghost use Rattle.dft_netlist.specs.DesignLaws.{ListedDrives, OrderRanks, OrderedIsOrderable};
-ghost use Rattle.dft_netlist.specs.Laws.{OrderIsRank, SettledIsOne, WalkFindsRoot, PortIsFound, ConstantIsFound, TracedBit, TracedConstant, WalkFindsClock, ClockIsFound, ClockBit, TracedIsClock};
+ghost use Rattle.dft_netlist.specs.Laws.{OrderIsRank, SettledIsOne, WalkFindsRoot, PortIsFound, ConstantIsFound, TracedBit, TracedConstant, WalkFindsClock, ClockIsFound, ClockBit, LockupByPin, TracedIsClock};
 
 /// A design with an order has exactly one settled assignment for given sources.
 pub fn settled_is_one()
@@ -18,11 +18,13 @@ pub fn traces_are_exact()
     ensures constant_bit { TracedConstant }
 {}
 
-/// Walks back find the clocks that nets show, and what shows one has its port's bit or the inverse.
+/// Walks back find the clocks that nets show, and what shows one has its port's bit or the inverse; a lock-up goes by the
+/// net at its clock pin.
 pub fn clocks_are_exact()
     ensures finds { WalkFindsClock }
     ensures found { ClockIsFound }
     ensures bit { ClockBit }
+    ensures lockup { LockupByPin }
     ensures traced { TracedIsClock }
 {}
 

@@ -1,5 +1,5 @@
 -- How many ports are added, and the nets of a design that are read and that are roots.
-use Rattle.std.proofs.Common.{ℕ, ◌+◌, ◌≡◌, ◌<◌, inl, inr, Bool, Some, List, ◌∷◌, length, refl, sym, subst, ap, arith, ◌∙◌, []}
+use Rattle.std.proofs.Common.{ℕ, ◌+◌, ◌≡◌, ◌<◌, inl, inr, Some, List, ◌∷◌, length, refl, sym, subst, ap, arith, ◌∙◌, []}
 use Rattle.std.specs.List.{AllByRecursion, range_with_len}
 use Rattle.std.proofs.lemmas.List.{length-append, length-map}
 use Rattle.std.proofs.lemmas.List.FromFn.{length-range_with_len}
@@ -11,9 +11,8 @@ use Rattle.dft_netlist.specs.Sound.{bits_of}
 use Rattle.dft_netlist.specs.Drivers.{Source, Driver, Input, driver, nets_read, AreBelow}
 use Rattle.dft_netlist.specs.Orders.{Has, reads_of, IsOrderFrom}
 use Rattle.dft_netlist.specs.Traces.{Root, Port, Traces, AtPort, AtConstant, AtTie, ThroughBuffer, ThroughJoin, root_of}
-use Rattle.dft_netlist.specs.ClockRoots.{ClockRoot, ClockRooted, clock_root_of}
-use Rattle.dft_netlist.specs.ClockRoots as clocks
-use Rattle.dft_netlist.proofs.ClockWalks.{clock_found}
+use Rattle.dft_netlist.specs.ClockRoots.{ClockRoot, clock_root_of}
+use Rattle.dft_netlist.proofs.ClockWalks.{clock_found, clock_driven}
 use Rattle.dft_netlist.proofs.Walks.{port_found}
 use Rattle.dft_netlist.proofs.LiveDriven.{ports_fit}
 use Rattle.dft_config.specs.Config.{Config}
@@ -63,11 +62,6 @@ pub root_among : (n : Netlist) (config : Config) (source : Source) (net : ℕ) �
 root_among n config source net ready is =
     let driven : driver n net ≡ Input = port_driven n net (port_found n source net is) refl in
     subst (λ (d : Driver). fine.FineBy n net d) driven (driver_fine n config net ready)
-
-pub clock_driven : (n : Netlist) {source : Source} {port : ℕ} {inverted : Bool} → ClockRooted n source port inverted → driver n port ≡ Input
-clock_driven n (clocks.AtPort is) = is
-clock_driven n (clocks.ThroughGate is turns rest) = clock_driven n rest
-clock_driven n (clocks.ThroughJoin is rest) = clock_driven n rest
 
 -- a port whose clock is shown is one of the first nets
 pub clock_among : (n : Netlist) (config : Config) (source : Source) (clock : ClockRoot) → IsReady n config → clock_root_of n source ≡ Some clock → clock.port < length (bits_of n.ports)
