@@ -136,13 +136,7 @@ struct Edges<'a> {
 }
 
 // What a net shows by its driver.
-fn op_shown(
-    op: &Op,
-    net: NetId,
-    flops: &[FlipFlop],
-    edges: Edges<'_>,
-    shown: &[Shown],
-) -> Shown
+fn op_shown(op: &Op, net: NetId, flops: &[FlipFlop], edges: Edges<'_>, shown: &[Shown]) -> Shown
     ensures { shown_of result ≡ shown_in (map cell_of flops.now) edges.entry.rising (is_up edges.entry.pulsed.now) (shown_at shown.now) net.0 (meaning op.now) }
 {
     match op {
