@@ -1,0 +1,6 @@
+mod OptionWords
+mod Taking
+mod GivenValues
+mod Forms
+mod Numbers
+mod Commands
