@@ -1,13 +1,13 @@
 -- Words of one form: without a fault they are a command, and a command has no fault among its options.
-use Rattle.std.proofs.Common.{◌≡◌, ◌∙◌, ◌<◌, ℕ, Bool, true, false, List, [], ◌∷◌, ◌++◌, length, map, inl, inr, Option, Some, None, refl, sym, ap, subst, arith, true≢false}
+use Rattle.std.proofs.Common.{◌≡◌, ◌∙◌, ◌<◌, Bool, true, false, List, [], ◌∷◌, ◌++◌, length, map, inl, inr, Option, Some, None, refl, sym, ap, subst}
 use Rattle.std.specs.List.{AllByRecursion}
-use Rattle.std.specs.Prelude.{◌⊎◌, flat_map, if◌then◌else◌}
+use Rattle.std.specs.Prelude.{flat_map, if◌then◌else◌}
 use Rattle.std.specs.Str.{bytes_eq}
-use Rattle.dft_command_line.specs.Words.{AreWordsOf, Given, IsCommand, IsOneOf, Valued, is_value, list_of, values_of, words_of}
-use Rattle.dft_explain.specs.Faults.{Fault, Missing, Form, Text, fault_where_none, has, is_among, missing, or_else, wrong_option}
+use Rattle.dft_command_line.specs.Words.{AreWordsOf, Given, IsOneOf, Valued, is_value, list_of, values_of, words_of}
+use Rattle.dft_explain.specs.Faults.{Form, Text, fault_where_none, is_among, missing, wrong_option}
 use Rattle.dft_explain.specs.Options.{value_of}
 use Rattle.dft_usage_laws.proofs.OptionWords.{OfName}
-use Rattle.dft_usage_laws.proofs.Taking.{IsPlain, IsRight, Once, given_right, or_both, or_none, read}
+use Rattle.dft_usage_laws.proofs.Taking.{IsPlain, IsRight, given_right, or_both, or_none, read}
 use Rattle.dft_usage_laws.proofs.GivenValues.{IsNamed, among_one, at_most_one, few_given, first, once_from, one_among, unknown_none, value_given}
 
 -- the options of a form

@@ -2,13 +2,13 @@
 use Rattle.std.proofs.Common.{◌≡◌, ◌∙◌, ◌⊎◌, ◌≤◌, ◌==◌, ◌&&◌, ℕ, Bool, true, false, not, List, [], ◌∷◌, ◌++◌, codes, length, map, inl, inr, Option, Some, None, refl, sym, ap, ap₂, subst, arith, true≢false}
 use Rattle.std.proofs.lemmas.Bool.{and_parts}
 use Rattle.std.proofs.lemmas.Bool.Decides.{nat_tests}
-use Rattle.std.specs.List.{AllByRecursion, list_all}
+use Rattle.std.specs.List.{AllByRecursion}
 use Rattle.std.specs.Prelude.{flat_map, if◌then◌else◌, option_and_then}
 use Rattle.std.specs.Str.{bytes_eq}
 use Rattle.dft_base.proofs.TextLemmas.{bytes_eq-self, same_text}
 use Rattle.dft_command_line.specs.Words.{Given, IsOneOf, Valued, is_value, is_value_word, list_of, values_of, words_of}
-use Rattle.dft_explain.specs.Faults.{Text, is_among, is_of_name}
-use Rattle.dft_explain.specs.Options.{behind, behind_option, or_else, value_behind, value_of}
+use Rattle.dft_explain.specs.Faults.{Text, is_among}
+use Rattle.dft_explain.specs.Options.{behind, or_else, value_behind, value_of}
 use Rattle.dft_usage_laws.proofs.OptionWords.{OfName, behind_own}
 use Rattle.dft_usage_laws.proofs.Taking.{Once, words_by}
 

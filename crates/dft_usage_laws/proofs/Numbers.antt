@@ -1,5 +1,5 @@
 -- Values that are numbers of a range.
-use Rattle.std.proofs.Common.{◌≡◌, ◌∙◌, ◌<◌, ◌≤◌, ◌&&◌, ◌^◌, ℕ, Bool, true, false, not, List, length, Option, Some, None, refl, sym, ap, ap₂, subst, arith}
+use Rattle.std.proofs.Common.{◌≡◌, ◌∙◌, ◌≤◌, ◌&&◌, ◌^◌, ℕ, Bool, true, false, not, length, Some, None, refl, ap, ap₂, arith}
 use Rattle.std.proofs.lemmas.Bool.{and_parts, le-leb, ltb-false}
 use Rattle.std.proofs.lemmas.Bool.Decides.{nat_tests}
 use Rattle.std.proofs.lemmas.Option.{same_Some}
@@ -10,7 +10,7 @@ use Rattle.std.specs.Str.Parse.{digits_value}
 use Rattle.dft_command_line.specs.CommandLine as line
 use Rattle.dft_command_line.specs.Words.{IsDecimal}
 use Rattle.dft_command_line.proofs.JobWords.{decimal_is, is_decimal_of}
-use Rattle.dft_explain.specs.Faults.{Fault, NoNumber, Range, Text, decimal_of, fault_of_number, is_between, is_in, seed, size}
+use Rattle.dft_explain.specs.Faults.{NoNumber, Range, Text, decimal_of, fault_of_number, is_between, is_in, seed, size}
 
 not_less : (a b : ℕ) → b ≤ a → nat_lt a b ≡ false
 not_less a b p = grind (arith, nat_tests, p)
@@ -59,8 +59,9 @@ tested false value number e = absurd cc
 number_read : (digits : ℕ) (text : Text) (number : ℕ) → IsDecimal digits text number → decimal_of text ≡ Some number
 number_read digits text number is =
     let test = tested (line.is_decimal digits text) (digits_value 10 text) number (decimal_is digits text number is) in
-    let some = and_parts _ _ test.0 in
-    let few = and_parts _ _ some.1 in
+    let rest = list_all is_ascii_digit text && nat_lt (digits_value 10 text) (2 ^ 64) in
+    let some = and_parts (nat_lt 0 (length text)) (nat_le (length text) digits && rest) test.0 in
+    let few = and_parts (nat_le (length text) digits) rest some.1 in
     ap (λ (b : Bool). if b then Some (digits_value 10 text) else None) (ap₂ (λ (a b : Bool). a && b) some.0 few.1) ∙ ap Some test.1
 
 number_in : (digits least most : ℕ) (text : Text) → Number digits least most text → (if nat_lt digits (length text) then false else is_between least most (decimal_of text)) ≡ true

@@ -1,8 +1,7 @@
 -- The words of an option, and what they are read as.
-use Rattle.std.proofs.Common.{◌≡◌, ◌∙◌, ◌<◌, ◌+◌, ◌&&◌, ℕ, suc, Bool, true, false, not, List, [], ◌∷◌, ◌++◌, codes, drop, length, take, Option, Some, None, refl, sym, ap, ap₂, subst, arith, append-nil}
+use Rattle.std.proofs.Common.{◌≡◌, ◌∙◌, ◌<◌, ◌+◌, ◌&&◌, ℕ, Bool, true, false, not, [], ◌∷◌, ◌++◌, codes, drop, length, take, Option, Some, None, refl, sym, ap, ap₂, subst, arith, append-nil}
 use Rattle.std.proofs.lemmas.Bool.{and_parts, eqb-true}
 use Rattle.std.proofs.lemmas.Bool.Decides.{nat_tests}
-use Rattle.std.proofs.lemmas.List.{take-append-drop}
 use Rattle.std.proofs.lemmas.Option.{same_Some}
 use Rattle.std.proofs.Math.Seq.{drop-append_seam, drop-length, take-append_seam, take-length}
 use Rattle.std.specs.List.{list_all, prefix_len}
@@ -37,11 +36,11 @@ longer b text e = rw e refl
 
 len_joined : (name value : Text) → OfName name → prefix_len is_of_name (name ++ 61 ∷ value) ≡ length name
 len_joined [] value of = refl
-len_joined (b ∷ name) value of = let parts = and_parts _ _ of in omega (arith, longer b (name ++ 61 ∷ value) parts.0, len_joined name value parts.1)
+len_joined (b ∷ name) value of = let parts = and_parts (is_of_name b) (list_all is_of_name name) of in omega (arith, longer b (name ++ 61 ∷ value) parts.0, len_joined name value parts.1)
 
 len_alone : (name : Text) → OfName name → prefix_len is_of_name name ≡ length name
 len_alone [] of = refl
-len_alone (b ∷ name) of = let parts = and_parts _ _ of in omega (arith, longer b name parts.0, len_alone name parts.1)
+len_alone (b ∷ name) of = let parts = and_parts (is_of_name b) (list_all is_of_name name) of in omega (arith, longer b name parts.0, len_alone name parts.1)
 
 not_zero : (k : ℕ) → 0 < k → (k == 0) ≡ false
 not_zero k some = grind (arith, nat_tests, some)

@@ -1,10 +1,10 @@
 -- Options that are given, and the first option that is wrong.
-use Rattle.std.proofs.Common.{◌≡◌, ◌∙◌, ◌<◌, ◌==◌, ℕ, Bool, true, false, not, List, [], ◌∷◌, ◌++◌, codes, drop, length, Option, Some, None, refl, sym, ap, ap₂, subst, arith}
+use Rattle.std.proofs.Common.{◌≡◌, ◌∙◌, ◌<◌, Bool, true, false, List, [], ◌∷◌, ◌++◌, codes, length, Option, Some, None, refl, sym, ap, ap₂, subst, arith}
 use Rattle.std.proofs.lemmas.Option.{same_Some}
 use Rattle.std.specs.List.{AllByRecursion}
 use Rattle.std.specs.Prelude.{flat_map, if◌then◌else◌}
 use Rattle.dft_command_line.specs.Words.{Given, is_value, is_value_word, words_of}
-use Rattle.dft_explain.specs.Faults.{Fault, NoOption, Twice, Form, Text, by_value, fault_of_named, fault_of_option, fault_of_value, has, is_among, joined_in, may_be_value, name_in, names_with, next_value, or_else, value_from, words_after, wrong_option}
+use Rattle.dft_explain.specs.Faults.{Fault, NoOption, Twice, Form, Text, by_value, fault_of_named, fault_of_option, fault_of_value, has, is_among, joined_in, may_be_value, name_in, names_with, or_else, value_from, words_after, wrong_option}
 use Rattle.dft_usage_laws.proofs.OptionWords.{OfName, Parsed, is_alone, is_joined, name_of_alone, name_of_joined, none_of_alone, parsed, value_of_joined}
 
 -- ---- one fault or another
@@ -120,7 +120,7 @@ step form before false name value rest of some known new is behind_it =
     let w = word_some value is in
     unrolled form before word (value ∷ rest)
     ∙ (or_none _ _ (ap₂ (λ (n v : Option Text). fault_of_named form before word n (value_from v (value ∷ rest))) a b
-      ∙ (ap (λ (t : Bool). fault_of_named form before word (Some name) (if t then Some value else None)) w.1 ∙ right_is form before word name value known new w.0))
+    ∙ (ap (λ (t : Bool). fault_of_named form before word (Some name) (if t then Some value else None)) w.1 ∙ right_is form before word name value known new w.0))
     ∙ (ap₂ (λ (n v : Option Text). wrong_option form (names_with before n) (words_after v (value ∷ rest))) a b ∙ behind_it))
 
 pub given_right : (form : Form) → IsPlain form → (before : List Text) (given : List Given) → AllByRecursion (IsRight form) given → Once before given → wrong_option form before (flat_map words_of given) ≡ None
