@@ -4,7 +4,7 @@ use dft_answers::{Answer, Refusal, Status, Unpassed, code_text};
 use dft_explain::{Ending, Page, explanation, fault_of_words, file_of, line_at, said_of};
 use dft_files::{Files, HostFiles, OutSink};
 use std::alloc::{AllocError, Global};
-use std::io;
+use std::{fs, io};
 
 // No file that is read is longer.
 const LIMIT: u32 = 268_435_456;
@@ -65,7 +65,8 @@ fn page_of_refusal<R: AllocGlobal + std::rt::Files>(
     }
 }
 
-// The text that a refusal with a place speaks of, where it can be loaded anew.
+// The text that a refusal with a place speaks of, where it can be loaded anew: of a file that is no pipe, which gives its bytes
+// once, and would wait for others.
 fn text_of<R: AllocGlobal + std::rt::Files>(
     rt: &R,
     words: &[String],
@@ -76,6 +77,9 @@ fn text_of<R: AllocGlobal + std::rt::Files>(
     }
     let file = file_of(code_text(refusal.code).as_bytes(), name_of(refusal), words)?;
     let name = str::from_utf8(file).ok()?;
+    if !fs::metadata(rt, name).ok()?.is_file() {
+        return None;
+    }
     let mut files = HostFiles::new(rt, rt.alloc());
     files.load(rt.alloc(), name, LIMIT).ok()
 }
