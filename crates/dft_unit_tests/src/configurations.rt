@@ -56,3 +56,43 @@ fn configurations_are_read_whole(rt: HostRuntime) -> Result<(), Fail> {
     }
     Ok(())
 }
+
+// The text of a configuration of so many chains: stage 0 drives each, and they are one group.
+fn of_chains(alloc: Global, chains: u16) -> Result<String, AllocError> {
+    let mut text = format!(in alloc;
+        "version = 1\ndomains = ['clk']\nchains = {chains}\nwarm = 0\nwindow = 1\n"
+    )?;
+    text.push_str("[ring]\nstages = 2\nchannels = 1\ntaps = []\ninjectors = [[0, 1]]\nphase = [")?;
+    for _chain in 0..chains {
+        text.push_str("[0], ")?;
+    }
+    text.push_str("]\n[compactor]\ngroups = [[")?;
+    for chain in 0..chains {
+        let number = format!(in alloc; "{chain}, ")?;
+        text.push_str(number.as_str())?;
+    }
+    text.push_str("]]\nmask_inputs = 1\n")?;
+    Ok(text)
+}
+
+// The chains and the window of a text's configuration.
+fn chains_of(alloc: Global, text: &str) -> Option<(u16, u8)> {
+    if text.len() > 65_536 {
+        return None;
+    }
+    let config = Config::read(alloc, text.as_bytes()).ok()?;
+    Some((config.chains(), config.window()))
+}
+
+#[test]
+fn as_many_chains_as_may_be_are_read(rt: HostRuntime) -> Result<(), Fail> {
+    for (chains, wanted) in [
+        (1023u16, Some((1023u16, 1u8))),
+        (1024, Some((1024, 1))),
+        (1025, None),
+    ] {
+        let text = of_chains(rt.alloc(), chains)?;
+        assert_eq!(rt; chains_of(rt.alloc(), text.as_str()), wanted, "{chains}");
+    }
+    Ok(())
+}
