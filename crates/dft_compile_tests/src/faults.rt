@@ -11,6 +11,7 @@ use std::alloc::Global;
 use std::test::Fail;
 
 // A call that fails: of files or of the sink. The configuration, the netlist and the cubes are loaded before the saves.
+#[derive(Drop)]
 struct Fault {
     files: Option<Failing>,
     put: Option<Failing>,
@@ -122,6 +123,58 @@ fn leaves(alloc: Global, files: &mut MemoryFiles, fault: &Fault) -> Result<(), U
 fn whole_files_and_a_prefix_are_left(rt: HostRuntime) -> Result<(), Fail> {
     for fault in &FAULTS {
         ends(rt.alloc(), fault)?;
+    }
+    Ok(())
+}
+
+// A text in two parts up to this many bytes.
+fn cut(text: (&'static str, &'static str), kept: usize) -> (&'static str, &'static str) {
+    let rest = kept.saturating_sub(text.0.len());
+    (
+        text.0.get(..kept).unwrap_or(text.0),
+        text.1.get(..rest).unwrap_or(text.1),
+    )
+}
+
+// What is left of the save at a place, where a call of the files fails: three loads come first, a save before the one that fails is
+// whole, of the one that fails so much is kept, and none comes behind it.
+fn left(
+    call: u32,
+    kept: usize,
+    place: u32,
+    text: (&'static str, &'static str),
+) -> (&'static str, &'static str) {
+    if call < 3 + place {
+        NONE
+    } else if call == 3 + place {
+        cut(text, kept)
+    } else {
+        text
+    }
+}
+
+fn failing(call: u32, kept: u32) -> Fault {
+    Fault {
+        files: Some(Failing { call, kept }),
+        put: None,
+        status: if call < 3 {
+            Status::ReadFault
+        } else {
+            Status::WriteFault
+        },
+        line: "",
+        netlist: left(call, kept as usize, 0, NETLIST),
+        patterns: left(call, kept as usize, 1, PATTERNS),
+        report: left(call, kept as usize, 2, REPORT),
+    }
+}
+
+#[test]
+fn each_failing_call_leaves_what_was_saved_before(rt: HostRuntime) -> Result<(), Fail> {
+    for call in 0..6u32 {
+        for kept in [0u32, 10, 1_000_000] {
+            ends(rt.alloc(), &failing(call, kept))?;
+        }
     }
     Ok(())
 }
