@@ -136,17 +136,17 @@ fn cut(text: (&'static str, &'static str), kept: usize) -> (&'static str, &'stat
     )
 }
 
-// What is left of the save at a place, where a call of the files fails: three loads come first, a save before the one that fails is
-// whole, of the one that fails so much is kept, and none comes behind it.
+// What is left of what a call saves, where a call of the files fails: of that one so much is kept, before it each save is whole, and
+// none comes behind it.
 fn left(
     call: u32,
     kept: usize,
-    place: u32,
+    save: u32,
     text: (&'static str, &'static str),
 ) -> (&'static str, &'static str) {
-    if call < 3 + place {
+    if call < save {
         NONE
-    } else if call == 3 + place {
+    } else if call == save {
         cut(text, kept)
     } else {
         text
@@ -163,9 +163,9 @@ fn failing(call: u32, kept: u32) -> Fault {
             Status::WriteFault
         },
         line: "",
-        netlist: left(call, kept as usize, 0, NETLIST),
-        patterns: left(call, kept as usize, 1, PATTERNS),
-        report: left(call, kept as usize, 2, REPORT),
+        netlist: left(call, kept as usize, 3, NETLIST),
+        patterns: left(call, kept as usize, 4, PATTERNS),
+        report: left(call, kept as usize, 5, REPORT),
     }
 }
 
