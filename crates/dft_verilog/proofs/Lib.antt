@@ -12,3 +12,9 @@ pub mod SaidLemmas
 pub mod GrammarLemmas
 pub mod PassingLemmas
 pub mod SaidPartLemmas
+pub mod ModulesLemmas
+pub mod KeepLemmas
+pub mod KeptGrammarLemmas
+pub mod SaidModuleLemmas
+pub mod SoundModuleLemmas
+pub mod KeptModuleLemmas

@@ -1,22 +1,29 @@
 -- A draft as a module, part by part.
-use Rattle.std.proofs.Common.{◌≡◌, ℕ, zero, suc, ◌+◌, ◌<◌, ◌≤◌, Bool, true, false, not, cond, eqb, filter, List, [], ◌∷◌, ◌++◌, length, map, get_or, Option, Some, None, option_map, unwrap_or, refl, sym, ap, ap₂, ◌∙◌, arith, length-append}
-use Rattle.std.specs.List.{position}
+use Rattle.std.proofs.Common.{◌≡◌, ℕ, zero, suc, ◌+◌, ◌*◌, ◌<◌, ◌≤◌, Bool, true, false, not, cond, eqb, nat_lt, filter, List, [], ◌∷◌, ◌++◌, length, map, get_or, slice_get, Option, Some, None, option_map, unwrap_or, refl, sym, ap, ap₂, subst, ◌∙◌, arith, length-append}
+use Rattle.std.specs.List.{All, position}
 use Rattle.std.proofs.Math.Path.{fun_ext}
+use Rattle.std.proofs.Math.ListN.{get_or-eq_default}
 use Rattle.std.proofs.lemmas.Bool.{ne_eqb}
-use Rattle.std.proofs.lemmas.List.{append_assoc, map-append, length-map}
+use Rattle.std.proofs.lemmas.Bool.Decides.{nat_tests}
+use Rattle.std.proofs.lemmas.List.{append_assoc, append-nil, map-append, length-map, get_or_default}
 use Rattle.dft_base.specs.Lexing.{Text}
 use Rattle.dft_base.specs.Ranges.{going_up}
 use Rattle.dft_base.proofs.ListLemmas.{going_up-append}
 use Rattle.dft_netlist.specs.declared.ids.NetId.{NetId}
 use Rattle.dft_netlist_text.specs.declared.text.Declared.{Declared}
-use Rattle.dft_netlist_text.specs.Modules.{Draft, HeaderPort}
+use Rattle.dft_netlist.specs.Building.{port_of}
+use Rattle.dft_netlist.specs.NetNumbers.{nets_from}
+use Rattle.dft_netlist_text.specs.Modules.{Draft, HeaderPort, net_count}
 use Rattle.dft_netlist_text.specs.NetlistText.{nets_of_port, nets_of_ports, other_nets, net_order, names_of_others, final_net}
 use Rattle.dft_modules.specs.declared.module.Item.{Item}
 use Rattle.dft_modules.specs.Modules.{Module}
 use Rattle.dft_modules.specs.SubInstances.{DraftSub}
-use Rattle.dft_modules.specs.ModuleTexts.{Numbering, port_said, ports_said, names_in_order, items_said}
-use Rattle.dft_verilog.specs.SaidParts.{with_nets, with_items, with_port, with_ports, net_or_first, GivesFinals}
-use Rattle.dft_verilog.proofs.NumberingLemmas.{AreBelow, is_net, position-cons}
+use Rattle.dft_modules.specs.ModuleTexts.{Numbering, port_said, ports_said, names_in_order, join_said, cell_said, sub_said, between, parts_between, items_said, module_said}
+use Rattle.dft_verilog_draft.specs.Drafts.{IsDeclaredWithin}
+use Rattle.dft_verilog.specs.FinalNets.{numbers_among, name_unless, without_number, all_numbered, AreFinal}
+use Rattle.dft_verilog.specs.SaidParts.{with_nets, with_items, with_port, with_ports, next_number, net_or_first, GivesFinals}
+use Rattle.dft_verilog.proofs.NumberingLemmas.{AreBelow, AreBelow-append, AreBelow-count, AreBelow-ports, is_net, position-cons}
+use Rattle.dft_verilog.proofs.FinalLemmas.{without_number-others, AreFinal-numbered}
 
 -- ---- parts behind parts
 
@@ -26,11 +33,46 @@ with_items-more xs ys m = ap (λ is. record m { items = is }) (sym (append_assoc
 pub with_nets-more : (xs ys : List Text) (m : Module) → with_nets (xs ++ ys) m ≡ with_nets ys (with_nets xs m)
 with_nets-more xs ys m = ap (λ ns. record m { nets = ns }) (sym (append_assoc m.nets xs ys))
 
+pub with_nets-none : (m : Module) → with_nets [] m ≡ m
+with_nets-none m = ap (λ ns. record m { nets = ns }) (append-nil m.nets)
+
+pub with_items-none : (m : Module) → with_items [] m ≡ m
+with_items-none m = ap (λ is. record m { items = is }) (append-nil m.items)
+
+-- items are added one by one, the first in front of those behind it
+pub item_ahead : (item x : Item) (rest : List Item) (m new : Module) → item ≡ x → new ≡ record m { items = m.items ++ item ∷ [] } → with_items rest new ≡ with_items (x ∷ rest) m
+item_ahead item x rest m new is h =
+    ap (with_items rest) (h ∙ ap (λ (i : Item). with_items (i ∷ []) m) is) ∙ sym (with_items-more (x ∷ []) rest m)
+
 -- the names of a run of nets, with one more
 pub run_more : (first bit : ℕ) (names : List Text) → names_in_order (going_up first (bit + 1)) names ≡ names_in_order (going_up first bit) names ++ get_or names (first + bit) [] ∷ []
 run_more first bit names =
     ap (λ nets. names_in_order nets names) (going_up-append first bit 1)
     ∙ map-append (λ net. get_or names net []) (going_up first bit) (going_up (first + bit) 1)
+
+-- one net more of a run, by its name
+pub run_step : (first bit : ℕ) (names : List Text) (word name : Text) (start old new : Module) → first + bit < length names → word ≡ get_or names (first + bit) word → name ≡ word
+    → old ≡ with_nets (names_in_order (going_up first bit) names) start → new ≡ record old { nets = old.nets ++ name ∷ [] } → new ≡ with_nets (names_in_order (going_up first (bit + 1)) names) start
+run_step first bit names word name start old new lt at is was grown =
+    let done = names_in_order (going_up first bit) names in
+    let named : name ≡ get_or names (first + bit) [] = is ∙ at ∙ get_or_default names (first + bit) word [] lt in
+    grown
+    ∙ ap₂ (λ (m : Module) (w : Text). with_nets (w ∷ []) m) was named
+    ∙ sym (with_nets-more done (get_or names (first + bit) [] ∷ []) start)
+    ∙ ap (λ ns. with_nets ns start) (sym (run_more first bit names))
+
+-- a port that was declared, and its nets
+pub declared_step : (names : List Text) (word name : Text) (declared : Declared) (count : ℕ) (bits : List NetId) (old mid new : Module) → name ≡ word → count ≡ net_count declared.shape.range → bits ≡ nets_from (length old.nets) count
+    → mid ≡ record old { ports = old.ports ++ port_of name declared.dir declared.shape.range bits ∷ [] } → new ≡ with_nets (names_in_order (going_up declared.shape.first.0 count) names) mid → new ≡ with_port names word (Some declared) old
+declared_step names word name declared count bits old mid new named counted numbered ported grown =
+    let range = declared.shape.range in
+    let made : Text → List NetId → ℕ → Module =
+    λ w bs n. record old { ports = old.ports ++ port_of w declared.dir range bs ∷ []; nets = old.nets ++ names_in_order (going_up declared.shape.first.0 n) names } in
+    grown
+    ∙ ap (with_nets (names_in_order (going_up declared.shape.first.0 count) names)) ported
+    ∙ ap (λ w. made w bits count) named
+    ∙ ap (λ bs. made word bs count) numbered
+    ∙ ap (λ n. made word (nets_from (length old.nets) n) n) counted
 
 -- one port, and then those behind it
 pub with_ports-more : (names : List Text) (p : HeaderPort) (ps : List HeaderPort) (m : Module) → with_ports names (p ∷ ps) m ≡ with_ports names ps (with_port names p.name p.declared m)
@@ -42,9 +84,52 @@ with_ports-more names p ps m =
     ∙ ap (λ n. (m.ports ++ port_said (length m.nets) p.name p.declared) ++ ports_said n ps) (sym count))
     (ap (λ ns. m.nets ++ ns) (map-append (λ net. get_or names net []) here (nets_of_ports ps)) ∙ sym (append_assoc m.nets (names_in_order here names) (names_in_order (nets_of_ports ps) names)))
 
+pub with_ports-none : (names : List Text) (m : Module) → with_ports names [] m ≡ m
+with_ports-none names m = ap₂ (λ ports nets. record m { ports = ports; nets = nets }) (append-nil m.ports) (append-nil m.nets)
+
+-- the ports ahead are to be added; so many were, of at most 65,536 nets each
+pub record PortsToAdd (names : List Text) (all ahead : List HeaderPort) (index : ℕ) (start now : Module) : Type 0 where
+  pub rest : with_ports names ahead now ≡ with_ports names all start
+  pub few : length now.nets ≤ 65536 * index
+
+pub PortsToAdd-more : (names : List Text) (all ahead : List HeaderPort) (p : HeaderPort) (index : ℕ) (start now new : Module) → new ≡ with_port names p.name p.declared now → length new.nets ≤ length now.nets + 65536
+    → PortsToAdd names all (p ∷ ahead) index start now → PortsToAdd names all ahead (index + 1) start new
+PortsToAdd-more names all ahead p index start now new grown few h = record {
+  rest = ap (with_ports names ahead) grown ∙ sym (with_ports-more names p ahead now) ∙ h.rest;
+  few = omega (arith, few, h.few);
+}
+
 -- the names of the ports' bits, and then of the others, are those of all nets in their order
 pub names_of_all : (d : Draft) → names_in_order (net_order d) d.nets ≡ names_in_order (nets_of_ports d.ports) d.nets ++ names_of_others d
 names_of_all d = map-append (λ net. get_or d.nets net []) (nets_of_ports d.ports) (other_nets d)
+
+-- ---- nets that have no number
+
+-- the name of a net, if it has no number, and then those behind it
+pub name_ahead : (number : Option NetId) (word : Text) (words : List Text) (numbers : List (Option NetId)) (m new : Module) → new ≡ with_nets (name_unless number word) m
+    → with_nets (without_number words numbers) new ≡ with_nets (without_number (word ∷ words) (number ∷ numbers)) m
+name_ahead (Some n) word words numbers m new h = ap (with_nets (without_number words numbers)) (h ∙ with_nets-none m)
+name_ahead None word words numbers m new h = ap (with_nets (without_number words numbers)) h ∙ sym (with_nets-more (word ∷ []) (without_number words numbers) m)
+
+pub without_none : (words : List Text) → without_number words [] ≡ []
+without_none [] = refl
+without_none (word ∷ words) = refl
+
+-- the numbers ahead are to be given, from `next` on
+pub record NumbersToGive (all ahead : List (Option NetId)) (first next : ℕ) (finals : List NetId) : Type 0 where
+  pub rest : finals ++ all_numbered next ahead ≡ all_numbered first all
+  pub few : next + length ahead ≤ first + length all
+
+pub NumbersToGive-more : (all ahead : List (Option NetId)) (number : Option NetId) (first next : ℕ) (finals new : List NetId) → new ≡ finals ++ unwrap_or number (record { 0 = next }) ∷ []
+    → NumbersToGive all (number ∷ ahead) first next finals → NumbersToGive all ahead first (next_number next number) new
+NumbersToGive-more all ahead None first next finals new grown h = record {
+  rest = ap (λ (ns : List NetId). ns ++ all_numbered (suc next) ahead) grown ∙ append_assoc finals _ (all_numbered (suc next) ahead) ∙ h.rest;
+  few = omega (arith, h.few);
+}
+NumbersToGive-more all ahead (Some n) first next finals new grown h = record {
+  rest = ap (λ (ns : List NetId). ns ++ all_numbered next ahead) grown ∙ append_assoc finals _ (all_numbered next ahead) ∙ h.rest;
+  few = omega (arith, h.few);
+}
 
 -- ---- numbers of nets that are not there
 
@@ -64,8 +149,77 @@ pub AreBelow-filter : (p : ℕ → Bool) (count : ℕ) (nets : List ℕ) → Are
 AreBelow-filter p count [] h = tt
 AreBelow-filter p count (net ∷ nets) h = below_filter p (p net) count net nets (filter p nets) h.0 (AreBelow-filter p count nets h.1)
 
+-- numbers that are final of the nets that are there give the final number of any net
+get_or_some : {A : Type 0} (xs : List A) (i : ℕ) (d x : A) → slice_get xs i ≡ Some x → get_or xs i d ≡ x
+get_or_some [] i d x h = absurd (cc)
+get_or_some (y ∷ ys) zero d x h = cc
+get_or_some (y ∷ ys) (suc i) d x h = get_or_some ys i d x h
+
+finals_by : (d : Draft) (finals : List NetId) (net : NetId) (there : Bool) → nat_lt net.0 (length d.nets) ≡ there → AreFinal d finals → AreBelow (length d.nets) (nets_of_ports d.ports) → net_or_first finals net ≡ final_net (net_order d) net
+finals_by d finals net true lt h below =
+    let less : net.0 < length d.nets = grind (arith, nat_tests) in
+    get_or_some finals net.0 (record { 0 = 0 }) (final_net (net_order d) net) (h.each net less)
+finals_by d finals net false lt h below =
+    let past : length d.nets ≤ net.0 = grind (arith, nat_tests) in
+    let all : AreBelow (length d.nets) (net_order d) =
+    AreBelow-append (length d.nets) (nets_of_ports d.ports) (other_nets d) below
+    (AreBelow-filter _ (length d.nets) (going_up 0 (length d.nets)) (AreBelow-count (length d.nets) 0 (length d.nets) (omega arith))) in
+    get_or-eq_default finals (record { 0 = 0 }) {n = net.0} (omega (arith, h.count))
+    ∙ sym (ap (λ (o : Option ℕ). let n : NetId = record { 0 = unwrap_or o 0 } in n) (none_there (length d.nets) net.0 (net_order d) all past))
+
+pub GivesFinals-all : (d : Draft) (finals : List NetId) → AreFinal d finals → AreBelow (length d.nets) (nets_of_ports d.ports) → GivesFinals d finals
+GivesFinals-all d finals h below net = finals_by d finals net (nat_lt net.0 (length d.nets)) refl h below
+
 -- ---- items by the numbers that were found
 
 -- where the numbers are final, so are the items
 pub items_final : (text : Text) (d : Draft) (subs : List DraftSub) (finals : List NetId) → GivesFinals d finals → items_said text (net_or_first finals) d 0 0 subs ≡ items_said text (final_net (net_order d)) d 0 0 subs
 items_final text d subs finals given = ap (λ (number : Numbering). items_said text number d 0 0 subs) (fun_ext given)
+
+-- the parts from one place up to another: the joins, and then the cells
+pub parts_step : (number : Numbering) (d : Draft) (join cell joins cells : ℕ) (old mid new : Module) → mid ≡ with_items (map (join_said number) (between join joins d.joins)) old
+    → new ≡ with_items (map (cell_said number) (between cell cells d.instances)) mid → new ≡ with_items (parts_between number d join cell joins cells) old
+parts_step number d join cell joins cells old mid new joined grown =
+    let js = map (join_said number) (between join joins d.joins) in
+    let cs = map (cell_said number) (between cell cells d.instances) in
+    grown ∙ ap (with_items cs) joined ∙ sym (with_items-more js cs old)
+
+-- the module instances ahead are to be added, each with the joins and cells before it
+abbrev pub ItemsToAdd : Text → Numbering → Draft → (all ahead : List DraftSub) → (join cell : ℕ) → (start now : Module) → Type 0
+ItemsToAdd text number d all ahead join cell start now = with_items (items_said text number d join cell ahead) now ≡ with_items (items_said text number d 0 0 all) start
+
+pub ItemsToAdd-more : (text : Text) (number : Numbering) (d : Draft) (all ahead : List DraftSub) (s : DraftSub) (join cell : ℕ) (item : Item) (start now mid new : Module)
+    → mid ≡ with_items (parts_between number d join cell s.joins s.cells) now → item ≡ sub_said text number s → new ≡ record mid { items = mid.items ++ item ∷ [] }
+    → ItemsToAdd text number d all (s ∷ ahead) join cell start now → ItemsToAdd text number d all ahead s.joins s.cells start new
+ItemsToAdd-more text number d all ahead s join cell item start now mid new parts is grown h =
+    let rest = items_said text number d s.joins s.cells ahead in
+    let front = parts_between number d join cell s.joins s.cells in
+    item_ahead item (sub_said text number s) rest mid new is grown
+    ∙ ap (with_items (sub_said text number s ∷ rest)) parts
+    ∙ sym (with_items-more front (sub_said text number s ∷ rest) now)
+    ∙ h
+
+-- ---- the whole module
+
+-- what is added step by step to a module that has nothing is what was said
+pub module_is : (text : Text) (d : Draft) (subs : List DraftSub) (numbers : List (Option NetId)) (finals : List NetId) (start ported named made : Module)
+    → All (λ (p : HeaderPort). IsDeclaredWithin (length d.nets) p.declared) d.ports
+    → start ≡ record { name = d.name; ports = []; nets = []; items = [] }
+    → numbers ≡ numbers_among (nets_of_ports d.ports) (length d.nets)
+    → ported ≡ with_ports d.nets d.ports start
+    → finals ≡ all_numbered (length ported.nets) numbers
+    → named ≡ with_nets (without_number d.nets numbers) ported
+    → made ≡ with_items (items_said text (net_or_first finals) d 0 0 subs) named
+    → made ≡ module_said text (record { draft = d; subs = subs })
+module_is text d subs numbers finals start ported named made within begun among ports all others items =
+    let bits = nets_of_ports d.ports in
+    let count : length ported.nets ≡ length bits =
+    ap (λ (m : Module). length m.nets) (ports ∙ ap (with_ports d.nets d.ports) begun) ∙ length-map bits (λ net. get_or d.nets net []) in
+    let final : AreFinal d finals = subst (AreFinal d) (sym (all ∙ ap (all_numbered (length ported.nets)) among)) (AreFinal-numbered d (length ported.nets) count) in
+    let same : items_said text (net_or_first finals) d 0 0 subs ≡ items_said text (final_net (net_order d)) d 0 0 subs =
+    items_final text d subs finals (GivesFinals-all d finals final (AreBelow-ports (length d.nets) d.ports within)) in
+    let names : names_in_order bits d.nets ++ without_number d.nets numbers ≡ names_in_order (net_order d) d.nets =
+    ap (λ ns. names_in_order bits d.nets ++ ns) (ap (without_number d.nets) among ∙ without_number-others d) ∙ sym (names_of_all d) in
+    items ∙ ap₂ (λ (is : List Item) (m : Module). with_items is m) same
+    (others ∙ ap (with_nets (without_number d.nets numbers)) (ports ∙ ap (with_ports d.nets d.ports) begun))
+    ∙ ap (λ (ns : List Text). let m : Module = record { name = d.name; ports = ports_said 0 d.ports; nets = ns; items = items_said text (final_net (net_order d)) d 0 0 subs } in m) names

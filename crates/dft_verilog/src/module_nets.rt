@@ -6,7 +6,7 @@ ghost use Rattle.dft_base.specs.Ranges.{going_up};
 ghost use Rattle.dft_modules.specs.ModuleTexts as spec;
 ghost use Rattle.dft_netlist.specs.NetNumbers.{nets_from};
 ghost use Rattle.dft_verilog_draft.specs.Drafts.{IsDeclaredWithin};
-ghost use Rattle.dft_verilog.specs.FinalNets.{without_number, all_numbered};
+ghost use Rattle.dft_verilog.specs.FinalNets.{name_unless, without_number, all_numbered};
 ghost use Rattle.dft_verilog.specs.SaidParts.{with_nets, with_port, with_ports, next_number};
 
 use crate::final_nets::net_count;
@@ -39,7 +39,8 @@ fn add_run(
     count: usize,
 ) -> Result<(), AllocError>
     requires { first + count ≤ length names.now }
-    ensures { OnOk result (made.new ≡ with_nets (spec.names_in_order (going_up first count) names.now) made.old) }
+    ensures made { OnOk result (made.new ≡ with_nets (spec.names_in_order (going_up first count) names.now) made.old) }
+    ensures count { OnOk result (length made.new.nets ≡ length made.old.nets + count) }
 {
     for bit in 0..count {
         made.add_net(Name::from_slice(alloc, names[first + bit].as_slice())?)?;
@@ -57,7 +58,8 @@ fn add_declared(
 ) -> Result<(), AllocError>
     requires within { IsDeclaredWithin (length names.now) (Some declared) }
     requires few { length made.old.nets + 65536 ≤ 2 ^ 32 }
-    ensures { OnOk result (made.new ≡ with_port names.now name.now (Some declared) made.old) }
+    ensures made { OnOk result (made.new ≡ with_port names.now name.now (Some declared) made.old) }
+    ensures few { OnOk result (length made.new.nets ≤ length made.old.nets + 65536) }
 {
     let count = net_count(declared.shape.range);
     made.add_port(Port {
@@ -78,7 +80,8 @@ fn add_port(
 ) -> Result<(), AllocError>
     requires within { IsDeclaredWithin (length names.now) port.now.declared }
     requires few { length made.old.nets + 65536 ≤ 2 ^ 32 }
-    ensures { OnOk result (made.new ≡ with_port names.now port.now.name port.now.declared made.old) }
+    ensures made { OnOk result (made.new ≡ with_port names.now port.now.name port.now.declared made.old) }
+    ensures few { OnOk result (length made.new.nets ≤ length made.old.nets + 65536) }
 {
     match port.declared() {
         Some(declared) => add_declared(alloc, made, names, port.name(), declared),
@@ -96,12 +99,28 @@ pub fn add_ports(
     requires none { length made.old.nets ≡ 0 }
     requires few { length ports.now ≤ MAX_PORTS }
     requires within { All (λ p. IsDeclaredWithin (length names.now) p.declared) ports.now }
-    ensures { OnOk result (made.new ≡ with_ports names.now ports.now made.old) }
+    ensures made { OnOk result (made.new ≡ with_ports names.now ports.now made.old) }
+    ensures few { OnOk result (length made.new.nets ≤ 2 ^ 31) }
 {
     for port in ports {
         add_port(alloc, made, names, port)?;
     }
     Ok(())
+}
+
+// Adds a net by its name, if it has no number.
+fn add_unnumbered(
+    alloc: Global,
+    made: &mut Module,
+    name: &Word<'_>,
+    number: Option<NetId>,
+) -> Result<(), AllocError>
+    ensures { OnOk result (made.new ≡ with_nets (name_unless number name.now) made.old) }
+{
+    match number {
+        Some(_) => Ok(()),
+        None => made.add_net(Name::from_slice(alloc, name.as_slice())?),
+    }
 }
 
 /// Adds the nets that have no number, by their names.
@@ -115,9 +134,7 @@ pub fn add_others(
     ensures { OnOk result (made.new ≡ with_nets (without_number names.now numbers.now) made.old) }
 {
     for (net, number) in numbers.iter().enumerate() {
-        if number.is_none() {
-            made.add_net(Name::from_slice(alloc, names[net].as_slice())?)?;
-        }
+        add_unnumbered(alloc, made, &names[net], *number)?;
     }
     Ok(())
 }
@@ -134,7 +151,7 @@ fn number_or(number: Option<NetId>, next: u32) -> NetId
 
 // Which number is the next behind a net with this number, or without one.
 fn next_behind(number: Option<NetId>, next: u32) -> u32
-    requires { next < 2 ^ 31 }
+    requires { next + 1 < 2 ^ 32 }
     ensures { result ≡ next_number next number }
 {
     match number {
@@ -149,15 +166,13 @@ pub fn all_numbers(
     numbers: &[Option<NetId>],
     next: usize,
 ) -> Result<Vec<NetId>, AllocError>
-    requires { next + length numbers.now < 2 ^ 31 }
+    requires { next + length numbers.now < 2 ^ 32 }
     ensures { IfOk result (λ finals. finals.items ≡ all_numbered next numbers.now) }
 {
     let mut finals = Vec::with_capacity(alloc, numbers.len())?;
     let mut next = next as u32;
     for number in numbers {
-        finals
-            .push(number_or(*number, next))
-            .map_err(AllocError::from)?;
+        finals.push(number_or(*number, next))?;
         next = next_behind(*number, next);
     }
     Ok(finals)
