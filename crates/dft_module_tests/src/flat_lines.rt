@@ -7,7 +7,8 @@ use dft_netlist::{CellRef, Counted, Design, Instance, NetId, NetlistError, Signa
 use dft_verilog::{MAX_TEXT, ModulesError, VerilogError, read_modules};
 use std::alloc::{AllocError, Global};
 
-fn push_name(line: &mut String, name: &Name) -> Result<(), AllocError> {
+/// Writes a name.
+pub fn push_name(line: &mut String, name: &Name) -> Result<(), AllocError> {
     for byte in name.as_slice() {
         line.push(char::from(*byte))?;
     }
@@ -75,7 +76,8 @@ fn text_error_of(alloc: Global, error: VerilogError) -> Result<String, AllocErro
     }
 }
 
-fn modules_error_of(alloc: Global, error: ModulesError) -> Result<String, AllocError> {
+/// A refusal of a text of several modules.
+pub fn modules_error_of(alloc: Global, error: ModulesError) -> Result<String, AllocError> {
     match error {
         ModulesError::Module(error) => text_error_of(alloc, error),
         ModulesError::Repeated { name } => named(alloc, "H1", &name),
@@ -93,8 +95,8 @@ fn hier_error_of(alloc: Global, error: HierError) -> Result<String, AllocError> 
     }
 }
 
-// A net by its number, a constant behind a quote.
-fn push_signal(alloc: Global, line: &mut String, signal: Signal) -> Result<(), AllocError> {
+/// A net by its number, a constant behind a quote.
+pub fn push_signal(alloc: Global, line: &mut String, signal: Signal) -> Result<(), AllocError> {
     match signal {
         Signal::Net(net) => {
             let number = net.0;
@@ -106,8 +108,8 @@ fn push_signal(alloc: Global, line: &mut String, signal: Signal) -> Result<(), A
     }
 }
 
-// An instance: its name or a star, the kind of a gate, and its pins.
-fn push_instance(alloc: Global, line: &mut String, instance: &Instance) -> Result<(), AllocError> {
+/// An instance: its name or a star, the kind of a gate, and its pins.
+pub fn push_instance(alloc: Global, line: &mut String, instance: &Instance) -> Result<(), AllocError> {
     line.push_str("; ")?;
     match &instance.name {
         Some(name) => push_name(line, name)?,

@@ -5,6 +5,10 @@
 mod flat_lines;
 #[cfg(test)]
 mod flat_texts;
+#[cfg(test)]
+mod read_lines;
+#[cfg(test)]
+mod read_texts;
 
 /// A text of two modules, one with an instance of the other.
 pub const TWO: &str =

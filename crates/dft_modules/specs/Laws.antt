@@ -1,4 +1,4 @@
--- Laws of what texts of several modules say. These are statements that nothing proves yet.
+-- Laws of what texts of several modules say.
 use Rattle.std.specs.Prelude.{◌≡◌, ℕ, ◌<◌, Bool, false, List, [], ◌∷◌, ◌++◌, Some, None, Ok, Err}
 use Rattle.std.specs.List.{All}
 use Rattle.std.specs.Str.{bytes_eq}

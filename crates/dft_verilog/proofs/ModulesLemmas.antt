@@ -91,5 +91,3 @@ first_told library text (fault.Repeated name) first = record { fault = fault.Rep
 pub modules_refused : (library : List Cell) (text : Text) (f : ModulesFault) → modules_from (left (tokens text)) text library [] [] (tokens text) ≡ Err f → IsModulesRefused library text (told_of text f)
 unfolding modules_of
 modules_refused library text f h = first_told library text f (ap (λ (o : Outcome). parser.value_of o) h)
-
-pub ruleset several = (modules_read, modules_refused)

@@ -11,6 +11,8 @@ use Rattle.dft_base.specs.Ranges.{going_up}
 use Rattle.dft_base.proofs.ListLemmas.{going_up-append}
 use Rattle.dft_netlist.specs.declared.ids.NetId.{NetId}
 use Rattle.dft_netlist_text.specs.declared.text.Declared.{Declared}
+use Rattle.dft_netlist.specs.declared.instance.Instance.{Instance}
+use Rattle.dft_netlist.specs.declared.instance.Join.{Join}
 use Rattle.dft_netlist.specs.Building.{port_of}
 use Rattle.dft_netlist.specs.NetNumbers.{nets_from}
 use Rattle.dft_netlist_text.specs.Modules.{Draft, HeaderPort, net_count}
@@ -51,15 +53,17 @@ run_more first bit names =
     ∙ map-append (λ net. get_or names net []) (going_up first bit) (going_up (first + bit) 1)
 
 -- one net more of a run, by its name
-pub run_step : (first bit : ℕ) (names : List Text) (word name : Text) (start old new : Module) → first + bit < length names → word ≡ get_or names (first + bit) word → name ≡ word
-    → old ≡ with_nets (names_in_order (going_up first bit) names) start → new ≡ record old { nets = old.nets ++ name ∷ [] } → new ≡ with_nets (names_in_order (going_up first (bit + 1)) names) start
-run_step first bit names word name start old new lt at is was grown =
+pub run_step : (first bit : ℕ) (names : List Text) (word : Text) (start old new : Module) → first + bit < length names → word ≡ get_or names (first + bit) word
+    → old ≡ with_nets (names_in_order (going_up first bit) names) start → new ≡ with_nets (word ∷ []) old → new ≡ with_nets (names_in_order (going_up first (bit + 1)) names) start
+run_step first bit names word start old new lt at was grown =
     let done = names_in_order (going_up first bit) names in
-    let named : name ≡ get_or names (first + bit) [] = is ∙ at ∙ get_or_default names (first + bit) word [] lt in
     grown
-    ∙ ap₂ (λ (m : Module) (w : Text). with_nets (w ∷ []) m) was named
+    ∙ ap₂ (λ (m : Module) (w : Text). with_nets (w ∷ []) m) was (at ∙ get_or_default names (first + bit) word [] lt)
     ∙ sym (with_nets-more done (get_or names (first + bit) [] ∷ []) start)
     ∙ ap (λ ns. with_nets ns start) (sym (run_more first bit names))
+
+pub one_net : (word : Text) (old new : Module) → new ≡ with_nets (word ∷ []) old → length new.nets ≡ length old.nets + 1
+one_net word old new grown = ap (λ (m : Module). length m.nets) grown ∙ length-append old.nets (word ∷ [])
 
 -- a port that was declared, and its nets
 pub declared_step : (names : List Text) (word name : Text) (declared : Declared) (count : ℕ) (bits : List NetId) (old mid new : Module) → name ≡ word → count ≡ net_count declared.shape.range → bits ≡ nets_from (length old.nets) count
@@ -188,15 +192,25 @@ parts_step number d join cell joins cells old mid new joined grown =
 abbrev pub ItemsToAdd : Text → Numbering → Draft → (all ahead : List DraftSub) → (join cell : ℕ) → (start now : Module) → Type 0
 ItemsToAdd text number d all ahead join cell start now = with_items (items_said text number d join cell ahead) now ≡ with_items (items_said text number d 0 0 all) start
 
-pub ItemsToAdd-more : (text : Text) (number : Numbering) (d : Draft) (all ahead : List DraftSub) (s : DraftSub) (join cell : ℕ) (item : Item) (start now mid new : Module)
-    → mid ≡ with_items (parts_between number d join cell s.joins s.cells) now → item ≡ sub_said text number s → new ≡ record mid { items = mid.items ++ item ∷ [] }
-    → ItemsToAdd text number d all (s ∷ ahead) join cell start now → ItemsToAdd text number d all ahead s.joins s.cells start new
-ItemsToAdd-more text number d all ahead s join cell item start now mid new parts is grown h =
+pub ItemsToAdd-more : (text : Text) (number : Numbering) (d : Draft) (all ahead : List DraftSub) (s : DraftSub) (join cell joins cells : ℕ) (item : Item) (start now mid new : Module) → joins ≡ s.joins → cells ≡ s.cells
+    → mid ≡ with_items (parts_between number d join cell joins cells) now → item ≡ sub_said text number s → new ≡ record mid { items = mid.items ++ item ∷ [] }
+    → ItemsToAdd text number d all (s ∷ ahead) join cell start now → ItemsToAdd text number d all ahead joins cells start new
+ItemsToAdd-more text number d all ahead s join cell joins cells item start now mid new at_join at_cell parts is grown h =
     let rest = items_said text number d s.joins s.cells ahead in
     let front = parts_between number d join cell s.joins s.cells in
-    item_ahead item (sub_said text number s) rest mid new is grown
-    ∙ ap (with_items (sub_said text number s ∷ rest)) parts
+    ap₂ (λ j k. with_items (items_said text number d j k ahead) new) at_join at_cell
+    ∙ item_ahead item (sub_said text number s) rest mid new is grown
+    ∙ ap (with_items (sub_said text number s ∷ rest)) (parts ∙ ap₂ (λ j k. with_items (parts_between number d join cell j k) now) at_join at_cell)
     ∙ sym (with_items-more front (sub_said text number s ∷ rest) now)
+    ∙ h
+
+-- behind them come the parts that are left
+pub ItemsToAdd-end : (text : Text) (number : Numbering) (d : Draft) (all ahead : List DraftSub) (join cell : ℕ) (joins : List Join) (cells : List Instance) (start now new : Module) → joins ≡ d.joins → cells ≡ d.instances → ahead ≡ []
+    → new ≡ with_items (parts_between number d join cell (length joins) (length cells)) now → ItemsToAdd text number d all ahead join cell start now → new ≡ with_items (items_said text number d 0 0 all) start
+ItemsToAdd-end text number d all ahead join cell joins cells start now new js is none parts h =
+    parts
+    ∙ ap₂ (λ (xs : List Join) (ys : List Instance). with_items (parts_between number d join cell (length xs) (length ys)) now) js is
+    ∙ sym (ap (λ (ss : List DraftSub). with_items (items_said text number d join cell ss) now) none)
     ∙ h
 
 -- ---- the whole module

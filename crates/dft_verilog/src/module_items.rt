@@ -58,15 +58,22 @@ fn between<T>(list: &[T], from: usize, to: usize) -> &[T]
     &list[first..last]
 }
 
+// A join.
+fn join(finals: &[NetId], join: Join) -> Item
+    ensures { result ≡ spec.join_said (net_or_first finals.now) join }
+{
+    Item::Join(Join {
+        target: final_net(finals, join.target),
+        source: final_signal(finals, join.source),
+    })
+}
+
 // Adds joins.
 fn add_joins(made: &mut Module, finals: &[NetId], joins: &[Join]) -> Result<(), AllocError>
     ensures { OnOk result (made.new ≡ with_items (map (spec.join_said (net_or_first finals.now)) joins.now) made.old) }
 {
-    for join in joins {
-        made.add_item(Item::Join(Join {
-            target: final_net(finals, join.target),
-            source: final_signal(finals, join.source),
-        }))?;
+    for one in joins {
+        made.add_item(join(finals, *one))?;
     }
     Ok(())
 }
@@ -75,11 +82,10 @@ fn add_joins(made: &mut Module, finals: &[NetId], joins: &[Join]) -> Result<(), 
 fn cell(alloc: Global, finals: &[NetId], instance: &DraftInstance<'_>) -> Result<Item, AllocError>
     ensures { IfOk result (λ item. item ≡ spec.cell_said (net_or_first finals.now) instance.now) }
 {
-    Ok(Item::Cell(Instance {
-        name: instance.name(alloc)?,
-        cell: instance.cell(),
-        pins: final_signals(alloc, finals, instance.pins())?,
-    }))
+    let name = instance.name(alloc)?;
+    let cell = instance.cell();
+    let pins = final_signals(alloc, finals, instance.pins())?;
+    Ok(Item::Cell(Instance { name, cell, pins }))
 }
 
 // Adds instances of cells and gates.
@@ -92,7 +98,8 @@ fn add_cells(
     ensures { OnOk result (made.new ≡ with_items (map (spec.cell_said (net_or_first finals.now)) instances.now) made.old) }
 {
     for instance in instances {
-        made.add_item(cell(alloc, finals, instance)?)?;
+        let item = cell(alloc, finals, instance)?;
+        made.add_item(item)?;
     }
     Ok(())
 }
@@ -111,10 +118,13 @@ fn connection(
     ensures passed { HasPassed text.now passed.new }
 {
     *passed = passed_to(text, *passed, connection.left());
+    let place = passed.place;
+    let port = Name::from_slice(alloc, connection.port().as_slice())?;
+    let signals = final_signals(alloc, finals, connection.signals())?;
     Ok(Connection {
-        place: passed.place,
-        port: Name::from_slice(alloc, connection.port().as_slice())?,
-        signals: final_signals(alloc, finals, connection.signals())?,
+        place,
+        port,
+        signals,
     })
 }
 
@@ -133,7 +143,8 @@ fn connections(
 {
     let mut connections = Connections::new(alloc);
     for one in list {
-        connections.push(connection(alloc, text, passed, finals, one)?)?;
+        let made = connection(alloc, text, passed, finals, one)?;
+        connections.push(made)?;
     }
     Ok(connections)
 }
@@ -151,10 +162,13 @@ fn sub(
     ensures said { IfOk result (λ item. item ≡ spec.sub_said text.now (net_or_first finals.now) sub.now) }
     ensures passed { HasPassed text.now passed.new }
 {
+    let name = Name::from_slice(alloc, sub.name().as_slice())?;
+    let of = Name::from_slice(alloc, sub.of().as_slice())?;
+    let connections = connections(alloc, text, passed, finals, sub.connections())?;
     Ok(Item::Sub(SubInstance {
-        name: Name::from_slice(alloc, sub.name().as_slice())?,
-        of: Name::from_slice(alloc, sub.of().as_slice())?,
-        connections: connections(alloc, text, passed, finals, sub.connections())?,
+        name,
+        of,
+        connections,
     }))
 }
 
@@ -207,7 +221,8 @@ pub fn add_items(
             cell: one.cells(),
         };
         add_parts(alloc, made, finals, draft, next, here)?;
-        made.add_item(sub(alloc, text, passed, finals, one)?)?;
+        let item = sub(alloc, text, passed, finals, one)?;
+        made.add_item(item)?;
         next = here;
     }
     let end = NextParts {

@@ -1,6 +1,6 @@
 //! The ports and nets of one of several modules, by their final numbers.
 
-ghost use Rattle.std.specs.Prelude.{◌≡◌, ◌+◌, ◌<◌, ◌≤◌, ◌^◌, length, Some, unwrap_or, IfOk, OnOk};
+ghost use Rattle.std.specs.Prelude.{◌≡◌, ◌+◌, ◌<◌, ◌≤◌, ◌^◌, [], ◌∷◌, length, Some, unwrap_or, IfOk, OnOk};
 ghost use Rattle.std.specs.List.{All};
 ghost use Rattle.dft_base.specs.Ranges.{going_up};
 ghost use Rattle.dft_modules.specs.ModuleTexts as spec;
@@ -30,6 +30,13 @@ fn counted(alloc: Global, first: usize, count: usize) -> Result<NetIds, AllocErr
     Ok(nets)
 }
 
+// Adds a net of this name.
+fn add_named(alloc: Global, made: &mut Module, name: &Word<'_>) -> Result<(), AllocError>
+    ensures { OnOk result (made.new ≡ with_nets (name.now ∷ []) made.old) }
+{
+    made.add_net(Name::from_slice(alloc, name.as_slice())?)
+}
+
 // Adds nets with these numbers one after another, by their names.
 fn add_run(
     alloc: Global,
@@ -43,7 +50,8 @@ fn add_run(
     ensures count { OnOk result (length made.new.nets ≡ length made.old.nets + count) }
 {
     for bit in 0..count {
-        made.add_net(Name::from_slice(alloc, names[first + bit].as_slice())?)?;
+        let net = first + bit;
+        add_named(alloc, made, &names[net])?;
     }
     Ok(())
 }
@@ -61,12 +69,15 @@ fn add_declared(
     ensures made { OnOk result (made.new ≡ with_port names.now name.now (Some declared) made.old) }
     ensures few { OnOk result (length made.new.nets ≤ length made.old.nets + 65536) }
 {
-    let count = net_count(declared.shape.range);
+    let range = declared.shape.range;
+    let count = net_count(range);
+    let name = name.copy(alloc)?;
+    let bits = counted(alloc, made.nets().len(), count)?;
     made.add_port(Port {
-        name: name.copy(alloc)?,
+        name,
         dir: declared.dir,
-        range: declared.shape.range,
-        bits: counted(alloc, made.nets().len(), count)?,
+        range,
+        bits,
     })?;
     add_run(alloc, made, names, declared.shape.first.0 as usize, count)
 }
@@ -119,7 +130,7 @@ fn add_unnumbered(
 {
     match number {
         Some(_) => Ok(()),
-        None => made.add_net(Name::from_slice(alloc, name.as_slice())?),
+        None => add_named(alloc, made, name),
     }
 }
 

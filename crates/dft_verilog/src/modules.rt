@@ -3,6 +3,7 @@
 ghost use Rattle.std.specs.Prelude.{◌≡◌, ◌≤◌, [], length, IfOk, OnOk, IfErr, Ok};
 ghost use Rattle.dft_lexing.specs.Reading as reading;
 ghost use Rattle.dft_modules.specs.ModuleTexts as spec;
+ghost use Rattle.dft_modules.specs.Sound.{AreModules};
 ghost use Rattle.dft_netlist_text.specs.Steps.{left};
 ghost use Rattle.dft_verilog.specs.ModuleRefusals.{IsModulesRefused, told_of, told_of_error};
 ghost use Rattle.dft_verilog.specs.Passing.{HasPassed};
@@ -35,10 +36,12 @@ fn module_said(
     ensures passed { HasPassed text.now passed.new }
 {
     let draft = &said_module.draft;
-    let mut made = Module::new(alloc, draft.name().copy(alloc)?);
+    let name = draft.name().copy(alloc)?;
+    let mut made = Module::new(alloc, name);
     let numbers = port_numbers(alloc, draft.ports(), draft.net_count())?;
     add_ports(alloc, &mut made, draft.nets(), draft.ports())?;
-    let finals = all_numbers(alloc, &numbers, made.nets().len())?;
+    let first = made.nets().len();
+    let finals = all_numbers(alloc, &numbers, first)?;
     add_others(alloc, &mut made, draft.nets(), &numbers)?;
     add_items(
         alloc,
@@ -70,7 +73,8 @@ fn modules_ahead<'a>(
     let mut library = library;
     'turns: for _turn in 0..tokens.left() {
         let said = next_module(alloc, &mut names, library, cells, tokens)?;
-        modules.push(module_said(alloc, text, &mut passed, &said)?)?;
+        let made = module_said(alloc, text, &mut passed, &said)?;
+        modules.push(made)?;
         if tokens.sees(TokenKind::End) {
             return Ok(modules);
         }
@@ -101,6 +105,7 @@ fn told_error(bytes: &[u8], error: ModulesReadError) -> ModulesError
     }
 }
 
+#[tactic(auto, using(crate::proofs::ReadModuleLemmas::several))]
 // The modules of a text over the cells of a library, which are given once more.
 fn modules_over(
     alloc: Global,
@@ -111,6 +116,7 @@ fn modules_over(
     requires few { length bytes.now ≤ MAX_TEXT }
     requires same { cells.now ≡ library }
     ensures modules { IfOk result (λ modules. spec.modules_of library bytes.now ≡ Ok modules.items) }
+    ensures sound { IfOk result (λ modules. AreModules library modules.items) }
     ensures refused { IfErr result (λ error. IsModulesRefused library bytes.now error) }
 {
     match modules_ahead(alloc, bytes, library, cells, &mut Tokens::new(alloc, bytes)) {
@@ -130,6 +136,7 @@ pub fn read_modules(
 ) -> Result<Vec<Module>, ModulesError>
     requires { length bytes.now ≤ MAX_TEXT }
     ensures modules { IfOk result (λ modules. spec.modules_of library.now bytes.now ≡ Ok modules.items) }
+    ensures sound { IfOk result (λ modules. AreModules library.now modules.items) }
     ensures refused { IfErr result (λ error. IsModulesRefused library.now bytes.now error) }
 {
     match library.copy(alloc) {

@@ -4,5 +4,5 @@ use Rattle.dft_verilog.specs.SaidParts.{net_or_first, with_items}
 use Rattle.dft_verilog.proofs.module_items.add_joins.Given as goal
 
 -- the joins ahead are to be added
-abbrev pub invariant-loop-join : goal.invariant-loop-join
-invariant-loop-join l = with_items (map (join_said (net_or_first l.finals)) (drop l.join-index l.joins)) l.made ≡ with_items (map (join_said (net_or_first l.finals)) l.joins) l.initial.made
+abbrev pub invariant-loop-one : goal.invariant-loop-one
+invariant-loop-one l = with_items (map (join_said (net_or_first l.finals)) (drop l.one-index l.joins)) l.made ≡ with_items (map (join_said (net_or_first l.finals)) l.joins) l.initial.made
