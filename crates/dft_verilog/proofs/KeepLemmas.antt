@@ -107,7 +107,7 @@ within_at nets (p ∷ ports) h (suc place) = within_at nets ports (All-tail (Por
 pub record Keeps (start : Draft) (floor : ℕ) (d : Draft) : Type 0 where
   pub name : d.name ≡ start.name
   pub library : d.library ≡ start.library
-  pub floor : floor ≤ length d.nets
+  pub many : floor ≤ length d.nets
   pub places : ArePlaced (port_list d.ports) d.names
   pub names : AreNamesWithin (length d.nets) d.names
   pub ports : All (PortStands d.nets) d.ports
@@ -119,7 +119,7 @@ pub keeps_empty : (name : Text) (d : Draft) → d ≡ empty_draft name d.library
 keeps_empty name d e = subst (λ (x : Draft). Keeps x 0 x) (sym e) (record {
   name = refl;
   library = refl;
-  floor = omega arith;
+  many = omega arith;
   places = tt;
   names = All-nil (λ (e : TakenName). IsMeaningWithin 0 e.meaning);
   ports = All-nil (PortStands []);
@@ -129,10 +129,10 @@ keeps_empty name d e = subst (λ (x : Draft). Keeps x 0 x) (sym e) (record {
 
 -- it has as many nets as it has
 pub raise : (start : Draft) (floor : ℕ) (d : Draft) → Keeps start floor d → Keeps start (length d.nets) d
-raise start floor d h = record { name = h.name; library = h.library; floor = omega arith; places = h.places; names = h.names; ports = h.ports; instances = h.instances; joins = h.joins }
+raise start floor d h = record { name = h.name; library = h.library; many = omega arith; places = h.places; names = h.names; ports = h.ports; instances = h.instances; joins = h.joins }
 
 pub lower : (start : Draft) (floor more : ℕ) (d : Draft) → floor ≤ more → Keeps start more d → Keeps start floor d
-lower start floor more d le h = record { name = h.name; library = h.library; floor = omega (arith, h.floor); places = h.places; names = h.names; ports = h.ports; instances = h.instances; joins = h.joins }
+lower start floor more d le h = record { name = h.name; library = h.library; many = omega (arith, h.many); places = h.places; names = h.names; ports = h.ports; instances = h.instances; joins = h.joins }
 
 meaning_more : (a b : ℕ) → a ≤ b → (m : Meaning) → IsMeaningWithin a m → IsMeaningWithin b m
 meaning_more a b le (meaning.Nets shape) h = omega arith
@@ -156,7 +156,7 @@ grown start floor d names ports bits h placed within stand =
     record {
       name = h.name;
       library = h.library;
-      floor = omega (arith, h.floor, count);
+      many = omega (arith, h.many, count);
       places = placed;
       names = within;
       ports = stand;
@@ -165,8 +165,8 @@ grown start floor d names ports bits h placed within stand =
     }
 
 -- the same nets, and more names
-named : (start : Draft) (floor : ℕ) (d : Draft) (names : List TakenName) → Keeps start floor d → ArePlaced (port_list d.ports) names → AreNamesWithin (length d.nets) names → Keeps start floor (record d { names = names })
-named start floor d names h placed within = record { name = h.name; library = h.library; floor = h.floor; places = placed; names = within; ports = h.ports; instances = h.instances; joins = h.joins }
+renamed : (start : Draft) (floor : ℕ) (d : Draft) (names : List TakenName) → Keeps start floor d → ArePlaced (port_list d.ports) names → AreNamesWithin (length d.nets) names → Keeps start floor (record d { names = names })
+renamed start floor d names h placed within = record { name = h.name; library = h.library; many = h.many; places = placed; names = within; ports = h.ports; instances = h.instances; joins = h.joins }
 
 -- the names before, one more, and those of bits
 names_behind : (n m : ℕ) (d : Draft) (own : TakenName) (ws : List Text) → n ≤ m → AreNamesWithin n d.names → IsMeaningWithin m own.meaning → AreNamesWithin m ((d.names ++ own ∷ []) ++ map taken_bit ws)
@@ -282,7 +282,7 @@ repeat_keep start floor place word range d port (Some declared) h named was =
     repeat_by start floor (same_range declared.shape.range range && not declared.repeated) (fault (cause.Taken word) place) (with_declared port word again d) tt (record {
       name = h.name;
       library = h.library;
-      floor = h.floor;
+      many = h.many;
       places = subst (λ ps. ArePlaced ps d.names) (sym (list_set d.ports port word (Some again) named)) h.places;
       names = h.names;
       ports = All-set (PortStands d.nets) d.ports port one (stands_at d.nets d.ports port word declared h.ports named was) h.ports;
@@ -306,7 +306,7 @@ instance_named : (start : Draft) (floor : ℕ) (word : Text) (d : Draft) → Kee
 instance_named start floor word d h =
     let own = entry word meaning.Instance in
     let P : TakenName → Type 0 = λ e. IsMeaningWithin (length d.nets) e.meaning in
-    named start floor d (d.names ++ own ∷ []) h (placed_append (port_list d.ports) d.names (own ∷ []) h.places (tt, tt)) (All-append P d.names (own ∷ []) h.names (All-cons P own [] tt (All-nil P)))
+    renamed start floor d (d.names ++ own ∷ []) h (placed_append (port_list d.ports) d.names (own ∷ []) h.places (tt, tt)) (All-append P d.names (own ∷ []) h.names (All-cons P own [] tt (All-nil P)))
 
 pub name_keep : (start : Draft) (floor place : ℕ) (word : Text) (d : Draft) → Keeps start floor d → Passes (Keeps start floor) (name_instance place word d)
 name_keep start floor place word d h =
@@ -325,7 +325,7 @@ pub instance_keep : (start : Draft) (floor : ℕ) (i : Instance) (d : Draft) →
 instance_keep start floor i d h fits = record {
   name = h.name;
   library = h.library;
-  floor = h.floor;
+  many = h.many;
   places = h.places;
   names = h.names;
   ports = h.ports;
@@ -338,7 +338,7 @@ pub join_keep : (start : Draft) (floor : ℕ) (j : Join) (d : Draft) → Keeps s
 join_keep start floor j d h fits = record {
   name = h.name;
   library = h.library;
-  floor = h.floor;
+  many = h.many;
   places = h.places;
   names = h.names;
   ports = h.ports;

@@ -1,5 +1,5 @@
 -- What the rules of the grammar keep of a draft, and which faults they find.
-use Rattle.std.proofs.Common.{◌≡◌, ℕ, zero, suc, ◌+◌, ◌<◌, ◌≤◌, Bool, true, false, not, ◌&&◌, ◌||◌, ◌==◌, cond, nat_le, nat_lt, IsTrue, List, [], ◌∷◌, ◌++◌, length, map, slice_get, is_some, Option, Some, None, IfSome, Ok, Err, refl, sym, ap, ◌∙◌, subst, arith, rules}
+use Rattle.std.proofs.Common.{◌≡◌, ℕ, zero, suc, ◌+◌, ◌<◌, ◌≤◌, Bool, true, false, not, ◌&&◌, ◌||◌, ◌==◌, cond, find, nat_le, nat_lt, IsTrue, List, [], ◌∷◌, ◌++◌, length, map, slice_get, is_some, Option, Some, None, IfSome, Ok, Err, refl, sym, ap, ◌∙◌, subst, arith, rules}
 use Rattle.std.specs.List.{All}
 use Rattle.std.proofs.lemmas.List.Elements.{All-append, All-cons, All-nil, All-map}
 use Rattle.std.proofs.lemmas.Bool.Decides.{nat_tests}
@@ -8,7 +8,9 @@ use Rattle.dft_base.specs.declared.dir.Dir.{Dir}
 use Rattle.dft_base.specs.declared.dir.Dir.TheVariants as dir
 use Rattle.dft_base.specs.Lexing.{Text}
 use Rattle.dft_base.specs.Parser as parser
-use Rattle.dft_base.specs.Parser.{Checked}
+use Rattle.dft_base.specs.Parser.{Checked, ◌>>=◌}
+use Rattle.dft_base.specs.Words.{is_reserved}
+use Rattle.std.specs.Char.{is_digit}
 use Rattle.dft_cells.specs.declared.kind.Kind.{Kind}
 use Rattle.dft_cells.specs.declared.cell.CellId.{CellId}
 use Rattle.dft_cells.specs.declared.cell.Cell.{Cell}
@@ -30,8 +32,8 @@ use Rattle.dft_netlist_text.specs.declared.text.Site.TheVariants as site
 use Rattle.dft_netlist_text.specs.Lexemes.{Token}
 use Rattle.dft_netlist_text.specs.Steps.{Outcome, Rule, kind_of, bytes, left, next, sees, cause_of, refusal, fault, expect, eat, needed, checked}
 use Rattle.dft_netlist_text.specs.Modules.{Draft, empty_draft, announce, declare_nets, declare_new_port, declare_port, declare_wire, declared_at, meaning_of, name_instance, room_for_instance}
-use Rattle.dft_netlist_text.specs.Expressions.{unless_too_large, number, rest_of_range, range, range_if_any, cause_of_digit, cause_of_digits, is_unknown_digit, unless_cause, digits, constant, SelectedName, Operand, fitting, implied_net, bits_of_port, bits_of_meaning, bits_of_name, implies, is_whole, selected, named_operand, constant_operand, rest_of_select, selection, may_follow, followed, drives, operand, OpenConcatenations, unread, is_read, opening, closing, turn, concatenations_from, expression}
-use Rattle.dft_netlist_text.specs.Items.{Declaring, Ports, Wires, declare, declared_name, declared_names_from, declared_names, declaration, port_item, wire_item, driven_net, with_joins, right_side, net_assignment, net_assignments_from, net_assignments, assign_item, One, one_bit, gate_kind, terminal, input_terminals_from, input_terminals, gate_instance, terminals, named_gate, unnamed_gate, one_gate, gates_from, gates, gate_item, Joined, unjoined, found_pin, pin_drives, connected_pin, Connected, pin_signal, pin_content, named_connection, named_connections_from, named_connections, connections, cell_instance, instance, instances_from, instances, instances_of, instances_named, cell_item, gate_or_cell, item_of, item}
+use Rattle.dft_netlist_text.specs.Expressions.{unless_too_large, number, rest_of_range, range, range_if_any, bare_digits, cause_of_digit, cause_of_digits, is_unknown_digit, value_of_digits, bits_of_value, unless_cause, digits, constant, SelectedName, Operand, fitting, implied_net, bits_of_port, bits_of_meaning, bits_of_name, implies, is_whole, selected, named_operand, constant_operand, rest_of_select, selection, may_follow, followed, drives, operand, OpenConcatenations, unread, is_read, opening, closing, turn, concatenations_from, expression}
+use Rattle.dft_netlist_text.specs.Items.{Declaring, Ports, Wires, declare, declared_name, declared_names_from, declared_names, declaration, port_item, wire_item, driven_net, with_joins, right_side, net_assignment, net_assignments_from, net_assignments, assign_item, One, one_bit, gate_kind, terminal, input_terminals_from, input_terminals, gate_instance, terminals, named_gate, unnamed_gate, one_gate, gates_from, gates, gate_item, Joined, unjoined, was_joined, found_pin, pin_drives, connected_pin, Connected, pin_signal, pin_content, named_connection, named_connections_from, named_connections, connections, cell_instance, instance, instances_from, instances, instances_of, instances_named, cell_item, gate_or_cell, item_of, item}
 use Rattle.dft_netlist_text.specs.NetlistText.{announced_name, announced_names_from, announced_names, declared_port, PortDeclaration, port_declaration_of, port_declaration, declared_ports_from, declared_ports, sees_direction, header_names, header, heading, first_undeclared, all_declared, module_end}
 use Rattle.dft_verilog_draft.specs.Drafts.{InstanceFits, JoinFits, nets_alone}
 use Rattle.dft_verilog_draft.specs.Operands.{IsBit, AreBits}
@@ -149,17 +151,30 @@ caused : {A : Type 0} (place : ℕ) (o : Option Cause) (rule : Rule A) (ts : Lis
 caused place None rule ts fine h = h
 caused place (Some why) rule ts fine h = fine
 
+digits_fine : (radix : ℕ) (word : Text) → IsFineCause (cause_of_digits radix word)
+digits_fine radix word =
+    let first : Option ℕ = find (λ (b : ℕ). not (is_digit b radix)) (bare_digits word) in
+    digits_by (is_reserved word) word (cause_of_digit word first) (digit_by word first)
+
+-- bits of this size, where the value is not too large
+abbrev valued : (place size : ℕ) → Option ℕ → Rule (List Bool)
+valued place size o = unless_too_large place o >>= (λ value. parser.pure (bits_of_value size value))
+
+valued_goes : (place size : ℕ) (o : Option ℕ) (ts : List Token) → Goes (Any {A = List Bool}) (valued place size o ts)
+valued_goes place size (Some value) ts = tt
+valued_goes place size None ts = tt
+
 digits_go : (size radix : ℕ) (ts : List Token) → Goes Any (digits size radix ts)
 unfolding digits
 digits_go size radix ts =
     expected Any kind.Digits ts _ (λ word us.
-    caused (left ts) (cause_of_digits radix word) _ us (digits_by _ word _ (digit_by word _)) (behind Any Any (unless_too_large (left ts) _ us) _ (too_large (left ts) _ us) (λ value a vs. tt)))
+    caused {A = List Bool} (left ts) (cause_of_digits radix word) (valued (left ts) size (value_of_digits radix word)) us (digits_fine radix word) (valued_goes (left ts) size (value_of_digits radix word) us))
 
 constant_goes : (ts : List Token) → Goes Any (constant ts)
 unfolding constant
 constant_goes ts =
     behind Any Any (number ts) _ (number_goes ts) (λ size a us.
-    of_need Any cause.Misfit (left ts) (nat_lt 0 size) _ us tt (of_need Any cause.TooLarge (left ts) (nat_le size 128) _ us tt
+    of_need {A = List Bool} Any cause.Misfit (left ts) (nat_lt 0 size) _ us tt (of_need {A = List Bool} Any cause.TooLarge (left ts) (nat_le size 128) _ us tt
     (expected Any kind.Base us _ (λ base vs. digits_go size _ vs))))
 
 -- ---- the header
@@ -333,8 +348,8 @@ unfolding opening
 opening_keep start floor at d so_far h bits ts =
     either (BitsSoFar start floor (drives at)) (sees kind.OpenBrace ts) _ _ (h, bits)
     (behind (Bits start (length d.nets) (drives at)) (BitsSoFar start floor (drives at)) (operand at so_far.depth d ts) _ (operand_keep start (length d.nets) at so_far.depth d (raise start floor d h) ts) (λ o m us.
-    (lower start floor (length d.nets) o.0 h.floor m.0,
-    All-append (λ (s : Signal). IsBit (length o.0.nets) (drives at) s) so_far.bits o.1 (bits_more (length d.nets) (length o.0.nets) (drives at) so_far.bits m.0.floor bits) m.1)))
+    (lower start floor (length d.nets) o.0 h.many m.0,
+    All-append (λ (s : Signal). IsBit (length o.0.nets) (drives at) s) so_far.bits o.1 (bits_more (length d.nets) (length o.0.nets) (drives at) so_far.bits m.0.many bits) m.1)))
 
 closing_keep : (start : Draft) (floor : ℕ) (drives : Bool) (d : Draft) (so_far : OpenConcatenations) → Keeps start floor d → AreBits (length d.nets) drives so_far.bits → (ts : List Token) → Goes (BitsSoFar start floor drives) (closing d so_far ts)
 unfolding closing
@@ -384,7 +399,7 @@ unfolding right_side
 right_keep start floor targets d h bits ts =
     behind (Bits start (length d.nets) false) (Keeps start floor) (expression site.Source d ts) _ (expression_keep start (length d.nets) site.Source d (raise start floor d h) ts) (λ o m us.
     of_need (Keeps start floor) cause.Misfit (left ts) (length targets == length o.1) _ us tt
-    (joins_keep start floor targets o.1 o.0 (lower start floor (length d.nets) o.0 h.floor m.0) (bits_more (length d.nets) (length o.0.nets) true targets m.0.floor bits) m.1))
+    (joins_keep start floor targets o.1 o.0 (lower start floor (length d.nets) o.0 h.many m.0) (bits_more (length d.nets) (length o.0.nets) true targets m.0.many bits) m.1))
 
 assignment_keep : (start : Draft) (floor : ℕ) (d : Draft) → Keeps start floor d → (ts : List Token) → Goes (Keeps start floor) (net_assignment d ts)
 unfolding net_assignment
@@ -432,8 +447,8 @@ inputs_of (suc n) start floor d ins h bits ts =
     eaten (Bits start floor false) kind.Comma ts _ (λ comma us.
     turns (Bits start floor false) comma (d, ins) _ (h, bits) (λ vs.
     behind (OneBit start (length d.nets) false) (Bits start floor false) (terminal false d vs) _ (terminal_keep start (length d.nets) false d (raise start floor d h) vs) (λ o m ws.
-    inputs_of n start floor o.0 (ins ++ o.1 ∷ []) (lower start floor (length d.nets) o.0 h.floor m.0)
-    (bits_and (length o.0.nets) false ins o.1 m.1 (bits_more (length d.nets) (length o.0.nets) false ins m.0.floor bits)) ws)) us)
+    inputs_of n start floor o.0 (ins ++ o.1 ∷ []) (lower start floor (length d.nets) o.0 h.many m.0)
+    (bits_and (length o.0.nets) false ins o.1 m.1 (bits_more (length d.nets) (length o.0.nets) false ins m.0.many bits)) ws)) us)
 
 inputs_all : (start : Draft) (floor : ℕ) (d : Draft) → Keeps start floor d → (ts : List Token) → Goes (Bits start floor false) (input_terminals d ts)
 unfolding input_terminals
@@ -446,8 +461,8 @@ terminals_keep start floor k word place d gate h ts =
     behind (Bits start (length output.0.nets) false) (Keeps start floor) (input_terminals output.0 us) _ (inputs_all start (length output.0.nets) output.0 (raise start floor output.0 m.0) us) (λ ins n vs.
     expected (Keeps start floor) kind.CloseParen vs _ (λ w ws.
     of_need_by (Keeps start floor) cause.Misfit place (takes_inputs k (length ins.1)) _ ws tt (λ takes.
-    instance_keep start floor (gate_instance k word output.1 ins.1) ins.0 (lower start floor (length output.0.nets) ins.0 m.0.floor n.0)
-    (gate_fits ins.0 k word ins.1 output.1 gate takes n.1 (bit_more (length output.0.nets) (length ins.0.nets) true output.1 n.0.floor m.1))))))
+    instance_keep start floor (gate_instance k word output.1 ins.1) ins.0 (lower start floor (length output.0.nets) ins.0 m.0.many n.0)
+    (gate_fits ins.0 k word ins.1 output.1 gate takes n.1 (bit_more (length output.0.nets) (length ins.0.nets) true output.1 n.0.many m.1))))))
 
 named_gate_keep : (start : Draft) (floor : ℕ) (k : Kind) (d : Draft) → IsTrue (is_primitive k) → Keeps start floor d → (ts : List Token) → Goes (Keeps start floor) (named_gate k d ts)
 unfolding named_gate
@@ -496,7 +511,7 @@ ToPin start floor drives o = Keeps start floor o.0 × IsPinSignal (length o.0.ne
 
 found_goes : (place : ℕ) (word : Text) (joined : Joined) (o : Option ℕ) (ts : List Token) → Goes Any (found_pin place word joined o ts)
 found_goes place word joined None ts = tt
-found_goes place word joined (Some pin) ts = of_need Any (cause.JoinedTwice word) place _ _ ts tt tt
+found_goes place word joined (Some pin) ts = of_need {A = ℕ} Any (cause.JoinedTwice word) place (not (was_joined (slice_get joined pin))) (parser.pure pin) ts tt (tt {0})
 
 pin_goes : (cell : Cell) (joined : Joined) (ts : List Token) → Goes Any (connected_pin cell joined ts)
 unfolding connected_pin
@@ -527,7 +542,7 @@ connection_keep start floor cell c h ts =
     expected (Joins start floor cell) kind.OpenParen vs _ (λ x ws.
     behind (ToPin start (length c.0.nets) (pin_drives (slice_get cell.pins pin))) (Joins start floor cell) (pin_content cell (left ts) c.0 pin ws) _ (pin_content_keep start (length c.0.nets) cell (left ts) c.0 pin (raise start floor c.0 h.0) ws) (λ to m xs.
     expected (Joins start floor cell) kind.CloseParen xs _ (λ y ys.
-    (lower start floor (length c.0.nets) to.0 h.0.floor m.0, fits_with (length to.0.nets) cell c.1 pin to.1 m.1 (fits_more (length c.0.nets) (length to.0.nets) cell c.1 m.0.floor h.1)))))))
+    (lower start floor (length c.0.nets) to.0 h.0.many m.0, fits_with (length to.0.nets) cell c.1 pin to.1 m.1 (fits_more (length c.0.nets) (length to.0.nets) cell c.1 m.0.many h.1)))))))
 
 connections_of : (n : ℕ) (start : Draft) (floor : ℕ) (cell : Cell) (c : Connected) → Joins start floor cell c → (ts : List Token) → Goes (Joins start floor cell) (named_connections_from n cell c ts)
 unfolding named_connections_from

@@ -25,7 +25,7 @@ use Rattle.dft_modules.specs.declared.fault.ModulesFault.TheVariants as fault
 use Rattle.dft_modules.specs.Modules.{Module}
 use Rattle.dft_modules.specs.Sound.{IsModule, AreModules}
 use Rattle.dft_modules.specs.Laws.{AreNew, SaidAreModules, NeverForCells, NeverForModules}
-use Rattle.dft_modules.specs.SubInstances.{SubConnection, DraftSub, Said, PortsConnected, was_named, named_port, port_content, port_connection, port_connections_from, port_connections, name_sub, with_sub, sub_instance, sub_instances_from, sub_instances, sub_item, names_module, module_item, module_items_from, module_items, one_module}
+use Rattle.dft_modules.specs.SubInstances.{SubConnection, DraftSub, Said, NamedPort, PortsConnected, was_named, named_port, port_content, port_connection, port_connections_from, port_connections, name_sub, with_sub, sub_instance, sub_instances_from, sub_instances, sub_item, names_module, module_item, module_items_from, module_items, one_module}
 use Rattle.dft_modules.specs.ModuleTexts.{module_said, in_module, name_ahead, is_repeated, repeats, next_module, and_more, modules_from, modules_of}
 use Rattle.dft_verilog_draft.specs.Operands.{AreBits}
 use Rattle.dft_verilog_draft.proofs.OperandLemmas.{bits_more, no_bits}
@@ -48,7 +48,7 @@ subs_more a b le ss h = All-weaker (SubStands a) (SubStands b) (λ s w. connecti
 
 port_goes : (connections : List SubConnection) (ts : List Token) → Goes Any (named_port connections ts)
 unfolding named_port
-port_goes connections ts = expected Any kind.Name ts _ (λ word us. of_need Any (cause.JoinedTwice word) (left ts) (not (was_named connections word)) _ us tt tt)
+port_goes connections ts = expected Any kind.Name ts _ (λ word us. let named : NamedPort = record { port = word; left = left ts } in of_need {A = NamedPort} Any (cause.JoinedTwice word) (left ts) (not (was_named connections word)) (parser.pure named) us tt (tt {0}))
 
 content_keep : (start : Draft) (floor : ℕ) (d : Draft) → Keeps start floor d → (ts : List Token) → Goes (Bits start floor false) (port_content d ts)
 unfolding port_content
@@ -64,7 +64,7 @@ connection_keep start floor c h ts =
     expected (Ports start floor) kind.CloseParen xs _ (λ y ys.
     let one : SubConnection = record { left = named.left; port = named.port; signals = to.1 } in
     let P = ConnectionStands (length to.0.nets) in
-    (lower start floor (length c.0.nets) to.0 h.0.floor m.0, All-append P c.1 (one ∷ []) (connections_more (length c.0.nets) (length to.0.nets) m.0.floor c.1 h.1) (All-cons P one [] m.1 (All-nil P))))))))
+    (lower start floor (length c.0.nets) to.0 h.0.many m.0, All-append P c.1 (one ∷ []) (connections_more (length c.0.nets) (length to.0.nets) m.0.many c.1 h.1) (All-cons P one [] m.1 (All-nil P))))))))
 
 connections_of : (n : ℕ) (start : Draft) (floor : ℕ) (c : PortsConnected) → Ports start floor c → (ts : List Token) → Goes (Ports start floor) (port_connections_from n c ts)
 unfolding port_connections_from
@@ -91,8 +91,8 @@ instance_keep start floor of m h ts =
     let one : DraftSub = record { name = word; of = of; joins = length c.0.joins; cells = length c.0.instances; connections = c.1 } in
     let P = SubStands (length c.0.nets) in
     record {
-      draft = lower start floor here c.0 h.draft.floor n.0;
-      subs = All-append P m.subs (one ∷ []) (subs_more here (length c.0.nets) n.0.floor m.subs h.subs) (All-cons P one [] n.1 (All-nil P));
+      draft = lower start floor here c.0 h.draft.many n.0;
+      subs = All-append P m.subs (one ∷ []) (subs_more here (length c.0.nets) n.0.many m.subs h.subs) (All-cons P one [] n.1 (All-nil P));
     })))))
 
 instances_of : (n : ℕ) (start : Draft) (floor : ℕ) (of : Text) (m : Said) → KeepsAll start floor m → (ts : List Token) → Goes (KeepsAll start floor) (sub_instances_from n of m ts)
@@ -125,7 +125,7 @@ module_item_keep start floor m h ts =
     let here = length m.draft.nets in
     either_item (KeepsAll start floor) (sees kind.Name ts) (is_some (find_cell m.draft.library (bytes ts))) _ _ (sub_item_keep start floor m h ts) (λ has.
     behind (Keeps start here) (KeepsAll start floor) (item m.draft ts) _ (item_keep start here m.draft (raise start floor m.draft h.draft) ts has) (λ d k us.
-    record { draft = lower start floor here d h.draft.floor k; subs = subs_more here (length d.nets) k.floor m.subs h.subs }))
+    record { draft = lower start floor here d h.draft.many k; subs = subs_more here (length d.nets) k.many m.subs h.subs }))
 
 items_of : (n : ℕ) (start : Draft) (floor : ℕ) (m : Said) → KeepsAll start floor m → (ts : List Token) → Goes (KeepsAll start floor) (module_items_from n m ts)
 unfolding module_items_from
@@ -180,7 +180,7 @@ one_keep library ts =
     behind (Begun library (name_ahead ts) (names_one ts)) Q (heading library ts) _ (heading_keep library ts) (λ d h us.
     behind (KeepsAll start 0) Q (module_items (record { draft = d; subs = [] }) us) _ (items_keep start 0 (record { draft = d; subs = [] }) (record { draft = h.0; subs = All-nil (SubStands (length d.nets)) }) us) (λ m k vs.
     behind (Keeps start (length m.draft.nets)) Q (module_end m.draft vs) _ (module_end_keep start (length m.draft.nets) m.draft (raise start 0 m.draft k.draft) vs) (λ whole n ws.
-    (record { draft = lower start 0 (length m.draft.nets) whole (omega arith) n; subs = subs_more (length m.draft.nets) (length whole.nets) n.floor m.subs k.subs }, h.1))))
+    (record { draft = lower start 0 (length m.draft.nets) whole (omega arith) n; subs = subs_more (length m.draft.nets) (length whole.nets) n.many m.subs k.subs }, h.1))))
 
 -- ---- the next module
 

@@ -1,9 +1,10 @@
 -- A draft as a module, part by part.
-use Rattle.std.proofs.Common.{◌≡◌, ℕ, zero, suc, ◌+◌, ◌*◌, ◌<◌, ◌≤◌, Bool, true, false, not, cond, eqb, nat_lt, filter, List, [], ◌∷◌, ◌++◌, length, map, get_or, slice_get, Option, Some, None, option_map, unwrap_or, refl, sym, ap, ap₂, subst, ◌∙◌, arith, length-append}
+use Rattle.std.proofs.Common.{◌≡◌, ℕ, zero, suc, ◌+◌, ◌*◌, ◌<◌, ◌≤◌, Bool, true, false, not, cond, eqb, nat_lt, filter, List, [], ◌∷◌, ◌++◌, length, map, get_or, Option, Some, None, option_map, unwrap_or, refl, sym, ap, ap₂, subst, ◌∙◌, arith, length-append}
 use Rattle.std.specs.List.{All, position}
 use Rattle.std.proofs.Math.Path.{fun_ext}
 use Rattle.std.proofs.Math.ListN.{get_or-eq_default}
 use Rattle.std.proofs.lemmas.Bool.{ne_eqb}
+use Rattle.std.proofs.lemmas.Option.{get_or_from_slice_get}
 use Rattle.std.proofs.lemmas.Bool.Decides.{nat_tests}
 use Rattle.std.proofs.lemmas.List.{append_assoc, append-nil, map-append, length-map, get_or_default}
 use Rattle.dft_base.specs.Lexing.{Text}
@@ -154,15 +155,10 @@ AreBelow-filter p count [] h = tt
 AreBelow-filter p count (net ∷ nets) h = below_filter p (p net) count net nets (filter p nets) h.0 (AreBelow-filter p count nets h.1)
 
 -- numbers that are final of the nets that are there give the final number of any net
-get_or_some : {A : Type 0} (xs : List A) (i : ℕ) (d x : A) → slice_get xs i ≡ Some x → get_or xs i d ≡ x
-get_or_some [] i d x h = absurd (cc)
-get_or_some (y ∷ ys) zero d x h = cc
-get_or_some (y ∷ ys) (suc i) d x h = get_or_some ys i d x h
-
 finals_by : (d : Draft) (finals : List NetId) (net : NetId) (there : Bool) → nat_lt net.0 (length d.nets) ≡ there → AreFinal d finals → AreBelow (length d.nets) (nets_of_ports d.ports) → net_or_first finals net ≡ final_net (net_order d) net
 finals_by d finals net true lt h below =
     let less : net.0 < length d.nets = grind (arith, nat_tests) in
-    get_or_some finals net.0 (record { 0 = 0 }) (final_net (net_order d) net) (h.each net less)
+    get_or_from_slice_get finals net.0 (final_net (net_order d) net) (record { 0 = 0 }) (h.each net less)
 finals_by d finals net false lt h below =
     let past : length d.nets ≤ net.0 = grind (arith, nat_tests) in
     let all : AreBelow (length d.nets) (net_order d) =
