@@ -24,7 +24,7 @@ use Rattle.dft_modules.specs.SubInstances.{DraftSub}
 use Rattle.dft_modules.specs.ModuleTexts.{Numbering, port_said, ports_said, names_in_order, join_said, cell_said, sub_said, between, parts_between, items_said, module_said}
 use Rattle.dft_verilog_draft.specs.Drafts.{IsDeclaredWithin}
 use Rattle.dft_verilog.specs.FinalNets.{numbers_among, name_unless, without_number, all_numbered, AreFinal}
-use Rattle.dft_verilog.specs.SaidParts.{with_nets, with_items, with_port, with_ports, next_number, net_or_first, GivesFinals}
+use Rattle.dft_verilog.specs.SaidParts.{with_nets, with_items, with_port, with_ports, next_number, net_or_first, GivesFinals, named_module, netted_module}
 use Rattle.dft_verilog.proofs.NumberingLemmas.{AreBelow, AreBelow-append, AreBelow-count, AreBelow-ports, is_net, position-cons}
 use Rattle.dft_verilog.proofs.FinalLemmas.{without_number-others, AreFinal-numbered}
 
@@ -89,6 +89,9 @@ with_ports-more names p ps m =
     ∙ ap (λ n. (m.ports ++ port_said (length m.nets) p.name p.declared) ++ ports_said n ps) (sym count))
     (ap (λ ns. m.nets ++ ns) (map-append (λ net. get_or names net []) here (nets_of_ports ps)) ∙ sym (append_assoc m.nets (names_in_order here names) (names_in_order (nets_of_ports ps) names)))
 
+pub with_port-none : (names : List Text) (word : Text) (m : Module) → with_port names word None m ≡ m
+with_port-none names word m = ap₂ (λ ports nets. record m { ports = ports; nets = nets }) (append-nil m.ports) (append-nil m.nets)
+
 pub with_ports-none : (names : List Text) (m : Module) → with_ports names [] m ≡ m
 with_ports-none names m = ap₂ (λ ports nets. record m { ports = ports; nets = nets }) (append-nil m.ports) (append-nil m.nets)
 
@@ -96,12 +99,14 @@ with_ports-none names m = ap₂ (λ ports nets. record m { ports = ports; nets =
 pub record PortsToAdd (names : List Text) (all ahead : List HeaderPort) (index : ℕ) (start now : Module) : Type 0 where
   pub rest : with_ports names ahead now ≡ with_ports names all start
   pub few : length now.nets ≤ 65536 * index
+  pub within : index ≤ length all
 
-pub PortsToAdd-more : (names : List Text) (all ahead : List HeaderPort) (p : HeaderPort) (index : ℕ) (start now new : Module) → new ≡ with_port names p.name p.declared now → length new.nets ≤ length now.nets + 65536
+pub PortsToAdd-more : (names : List Text) (all ahead : List HeaderPort) (p : HeaderPort) (index : ℕ) (start now new : Module) → index < length all → new ≡ with_port names p.name p.declared now → length new.nets ≤ length now.nets + 65536
     → PortsToAdd names all (p ∷ ahead) index start now → PortsToAdd names all ahead (index + 1) start new
-PortsToAdd-more names all ahead p index start now new grown few h = record {
+PortsToAdd-more names all ahead p index start now new lt grown few h = record {
   rest = ap (with_ports names ahead) grown ∙ sym (with_ports-more names p ahead now) ∙ h.rest;
   few = omega (arith, few, h.few);
+  within = omega arith;
 }
 
 -- the names of the ports' bits, and then of the others, are those of all nets in their order
@@ -211,25 +216,28 @@ ItemsToAdd-end text number d all ahead join cell joins cells start now new js is
 
 -- ---- the whole module
 
--- what is added step by step to a module that has nothing is what was said
-pub module_is : (text : Text) (d : Draft) (subs : List DraftSub) (numbers : List (Option NetId)) (finals : List NetId) (start ported named made : Module)
-    → All (λ (p : HeaderPort). IsDeclaredWithin (length d.nets) p.declared) d.ports
-    → start ≡ record { name = d.name; ports = []; nets = []; items = [] }
-    → numbers ≡ numbers_among (nets_of_ports d.ports) (length d.nets)
-    → ported ≡ with_ports d.nets d.ports start
-    → finals ≡ all_numbered (length ported.nets) numbers
-    → named ≡ with_nets (without_number d.nets numbers) ported
-    → made ≡ with_items (items_said text (net_or_first finals) d 0 0 subs) named
-    → made ≡ module_said text (record { draft = d; subs = subs })
-module_is text d subs numbers finals start ported named made within begun among ports all others items =
+-- ports and nets that are added step by step are those of the draft
+pub nets_are : (d : Draft) (numbers : List (Option NetId)) (start ported named : Module) → start ≡ named_module d → numbers ≡ numbers_among (nets_of_ports d.ports) (length d.nets) → ported ≡ with_ports d.nets d.ports start
+    → named ≡ with_nets (without_number d.nets numbers) ported → named ≡ netted_module d
+nets_are d numbers start ported named begun among ports others =
     let bits = nets_of_ports d.ports in
-    let count : length ported.nets ≡ length bits =
-    ap (λ (m : Module). length m.nets) (ports ∙ ap (with_ports d.nets d.ports) begun) ∙ length-map bits (λ net. get_or d.nets net []) in
-    let final : AreFinal d finals = subst (AreFinal d) (sym (all ∙ ap (all_numbered (length ported.nets)) among)) (AreFinal-numbered d (length ported.nets) count) in
-    let same : items_said text (net_or_first finals) d 0 0 subs ≡ items_said text (final_net (net_order d)) d 0 0 subs =
-    items_final text d subs finals (GivesFinals-all d finals final (AreBelow-ports (length d.nets) d.ports within)) in
     let names : names_in_order bits d.nets ++ without_number d.nets numbers ≡ names_in_order (net_order d) d.nets =
     ap (λ ns. names_in_order bits d.nets ++ ns) (ap (without_number d.nets) among ∙ without_number-others d) ∙ sym (names_of_all d) in
-    items ∙ ap₂ (λ (is : List Item) (m : Module). with_items is m) same
-    (others ∙ ap (with_nets (without_number d.nets numbers)) (ports ∙ ap (with_ports d.nets d.ports) begun))
-    ∙ ap (λ (ns : List Text). let m : Module = record { name = d.name; ports = ports_said 0 d.ports; nets = ns; items = items_said text (final_net (net_order d)) d 0 0 subs } in m) names
+    others
+    ∙ ap (with_nets (without_number d.nets numbers)) (ports ∙ ap (with_ports d.nets d.ports) begun)
+    ∙ ap (λ (ns : List Text). let m : Module = record { name = d.name; ports = ports_said 0 d.ports; nets = ns; items = [] } in m) names
+
+-- and the numbers that are given then are final
+pub finals_are : (d : Draft) (numbers : List (Option NetId)) (finals : List NetId) (start ported : Module) → All (λ (p : HeaderPort). IsDeclaredWithin (length d.nets) p.declared) d.ports → start ≡ named_module d
+    → numbers ≡ numbers_among (nets_of_ports d.ports) (length d.nets) → ported ≡ with_ports d.nets d.ports start → finals ≡ all_numbered (length ported.nets) numbers → GivesFinals d finals
+finals_are d numbers finals start ported within begun among ports all =
+    let bits = nets_of_ports d.ports in
+    let count : length ported.nets ≡ length bits = ap (λ (m : Module). length m.nets) (ports ∙ ap (with_ports d.nets d.ports) begun) ∙ length-map bits (λ net. get_or d.nets net []) in
+    let final : AreFinal d finals = subst (AreFinal d) (sym (all ∙ ap (all_numbered (length ported.nets)) among)) (AreFinal-numbered d (length ported.nets) count) in
+    GivesFinals-all d finals final (AreBelow-ports (length d.nets) d.ports within)
+
+-- with its items it is what was said
+pub said_whole : (text : Text) (d : Draft) (subs : List DraftSub) (finals : List NetId) (netted made : Module) → netted ≡ netted_module d → GivesFinals d finals → made ≡ with_items (items_said text (net_or_first finals) d 0 0 subs) netted
+    → made ≡ module_said text (record { draft = d; subs = subs })
+said_whole text d subs finals netted made nets given items =
+    items ∙ ap₂ (λ (is : List Item) (m : Module). with_items is m) (items_final text d subs finals given) nets

@@ -1,5 +1,5 @@
 -- The parts of a module that was said, as they are added one by one.
-use Rattle.std.specs.Prelude.{◌≡◌, ℕ, suc, List, ◌++◌, length, slice_index_or, Option, Some, None}
+use Rattle.std.specs.Prelude.{◌≡◌, ℕ, suc, List, [], ◌++◌, length, slice_index_or, Option, Some, None}
 use Rattle.dft_base.specs.Lexing.{Text}
 use Rattle.dft_netlist.specs.declared.ids.NetId.{NetId}
 use Rattle.dft_netlist_text.specs.declared.text.Declared.{Declared}
@@ -36,3 +36,11 @@ net_or_first finals net = slice_index_or finals net.0 (record { 0 = 0 })
 -- these numbers are the final ones, also of nets that are not there
 abbrev pub GivesFinals : Draft → (finals : List NetId) → Type 0
 GivesFinals d finals = (net : NetId) → net_or_first finals net ≡ final_net (net_order d) net
+
+-- a module with a draft's name that has nothing yet
+abbrev pub named_module : Draft → Module
+named_module d = record { name = d.name; ports = []; nets = []; items = [] }
+
+-- and one that has its ports and its nets, in their final order
+abbrev pub netted_module : Draft → Module
+netted_module d = record { name = d.name; ports = ports_said 0 d.ports; nets = names_in_order (net_order d) d.nets; items = [] }

@@ -34,7 +34,9 @@ fn counted(alloc: Global, first: usize, count: usize) -> Result<NetIds, AllocErr
 fn add_named(alloc: Global, made: &mut Module, name: &Word<'_>) -> Result<(), AllocError>
     ensures { OnOk result (made.new ≡ with_nets (name.now ∷ []) made.old) }
 {
-    made.add_net(Name::from_slice(alloc, name.as_slice())?)
+    let name = Name::from_slice(alloc, name.as_slice())?;
+    made.add_net(name)?;
+    Ok(())
 }
 
 // Adds nets with these numbers one after another, by their names.
@@ -82,20 +84,21 @@ fn add_declared(
     add_run(alloc, made, names, declared.shape.first.0 as usize, count)
 }
 
-// Adds a port of the header with its nets, if it was declared.
+// Adds a port with its nets, if it was declared.
 fn add_port(
     alloc: Global,
     made: &mut Module,
     names: &[Word<'_>],
-    port: &HeaderPort,
+    name: &Name,
+    declared: Option<Declared>,
 ) -> Result<(), AllocError>
-    requires within { IsDeclaredWithin (length names.now) port.now.declared }
+    requires within { IsDeclaredWithin (length names.now) declared }
     requires few { length made.old.nets + 65536 ≤ 2 ^ 32 }
-    ensures made { OnOk result (made.new ≡ with_port names.now port.now.name port.now.declared made.old) }
+    ensures made { OnOk result (made.new ≡ with_port names.now name.now declared made.old) }
     ensures few { OnOk result (length made.new.nets ≤ length made.old.nets + 65536) }
 {
-    match port.declared() {
-        Some(declared) => add_declared(alloc, made, names, port.name(), declared),
+    match declared {
+        Some(declared) => add_declared(alloc, made, names, name, declared),
         None => Ok(()),
     }
 }
@@ -114,7 +117,7 @@ pub fn add_ports(
     ensures few { OnOk result (length made.new.nets ≤ 2 ^ 31) }
 {
     for port in ports {
-        add_port(alloc, made, names, port)?;
+        add_port(alloc, made, names, port.name(), port.declared())?;
     }
     Ok(())
 }
@@ -171,17 +174,17 @@ fn next_behind(number: Option<NetId>, next: u32) -> u32
     }
 }
 
-/// The numbers of all nets, where those that had none get numbers from `next` on.
+/// The numbers of all nets, where those that had none get numbers from `first` on.
 pub fn all_numbers(
     alloc: Global,
     numbers: &[Option<NetId>],
-    next: usize,
+    first: usize,
 ) -> Result<Vec<NetId>, AllocError>
-    requires { next + length numbers.now < 2 ^ 32 }
-    ensures { IfOk result (λ finals. finals.items ≡ all_numbered next numbers.now) }
+    requires { first + length numbers.now < 2 ^ 32 }
+    ensures { IfOk result (λ finals. finals.items ≡ all_numbered first numbers.now) }
 {
     let mut finals = Vec::with_capacity(alloc, numbers.len())?;
-    let mut next = next as u32;
+    let mut next = first as u32;
     for number in numbers {
         finals.push(number_or(*number, next))?;
         next = next_behind(*number, next);

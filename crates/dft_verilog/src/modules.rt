@@ -7,6 +7,7 @@ ghost use Rattle.dft_modules.specs.Sound.{AreModules};
 ghost use Rattle.dft_netlist_text.specs.Steps.{left};
 ghost use Rattle.dft_verilog.specs.ModuleRefusals.{IsModulesRefused, told_of, told_of_error};
 ghost use Rattle.dft_verilog.specs.Passing.{HasPassed};
+ghost use Rattle.dft_verilog.specs.SaidParts.{GivesFinals, named_module, netted_module};
 ghost use Rattle.dft_verilog_module.specs.SaidModules.{said};
 
 use crate::error::{ModulesError, VerilogError};
@@ -17,11 +18,39 @@ use crate::places::{Passed, unpassed};
 use crate::reader::told;
 use dft_cells::Library;
 use dft_modules::{Module, ModulesFault};
+use dft_netlist::NetId;
 use dft_netlist_text::TokenKind;
-use dft_verilog_draft::NameSet;
+use dft_verilog_draft::{ModuleDraft, NameSet};
 use dft_verilog_module::{ModulesReadError, SaidModule, in_module, next_module};
 use dft_verilog_tokens::{MAX_TEXT, Tokens};
 use std::alloc::{AllocError, Global};
+
+// A module with the name of a draft, which has nothing yet.
+fn named(alloc: Global, draft: &ModuleDraft<'_>) -> Result<Module, AllocError>
+    ensures { IfOk result (λ made. made ≡ named_module draft.now) }
+{
+    let name = draft.name().copy(alloc)?;
+    Ok(Module::new(alloc, name))
+}
+
+// Adds the ports and nets of a draft, and gives the final numbers of its nets.
+fn add_nets(
+    alloc: Global,
+    made: &mut Module,
+    draft: &ModuleDraft<'_>,
+) -> Result<Vec<NetId>, AllocError>
+    requires { made.old ≡ named_module draft.now }
+    ensures made { OnOk result (made.new ≡ netted_module draft.now) }
+    ensures finals { IfOk result (λ finals. GivesFinals draft.now finals.items) }
+{
+    let ports = draft.ports();
+    let names = draft.nets();
+    let numbers = port_numbers(alloc, ports, draft.net_count())?;
+    add_ports(alloc, made, names, ports)?;
+    let finals = all_numbers(alloc, &numbers, made.nets().len())?;
+    add_others(alloc, made, names, &numbers)?;
+    Ok(finals)
+}
 
 // The module that was said.
 fn module_said(
@@ -36,13 +65,8 @@ fn module_said(
     ensures passed { HasPassed text.now passed.new }
 {
     let draft = &said_module.draft;
-    let name = draft.name().copy(alloc)?;
-    let mut made = Module::new(alloc, name);
-    let numbers = port_numbers(alloc, draft.ports(), draft.net_count())?;
-    add_ports(alloc, &mut made, draft.nets(), draft.ports())?;
-    let first = made.nets().len();
-    let finals = all_numbers(alloc, &numbers, first)?;
-    add_others(alloc, &mut made, draft.nets(), &numbers)?;
+    let mut made = named(alloc, draft)?;
+    let finals = add_nets(alloc, &mut made, draft)?;
     add_items(
         alloc,
         text,

@@ -1,9 +1,12 @@
 use Rattle.std.proofs.Common.{◌≡◌, ◌∙◌, ◌+◌, ◌<◌, ◌++◌, ◌∷◌, [], List, Option, length, drop, get_or, None, unwrap_or, cond, is_ok, sym, ap, subst, arith}
-use Rattle.std.proofs.lemmas.List.{drop_more, drop_all, append-nil}
+use Rattle.std.proofs.lemmas.List.{drop_more, drop_all, append-nil, length-drop}
 use Rattle.dft_netlist.specs.declared.ids.NetId.{NetId}
 use Rattle.dft_verilog.specs.FinalNets.{all_numbered}
 use Rattle.dft_verilog.proofs.SaidPartLemmas.{NumbersToGive, NumbersToGive-more}
 use Rattle.dft_verilog.proofs.module_nets.all_numbers.Goals as goal
+
+pub next_behind-requires : goal.next_behind-requires
+next_behind-requires c = omega (arith, c.loop-number.invariant.few, length-drop c.loop-number.number-index c.args.numbers.now)
 
 pub loop-number-preserved : goal.loop-number-preserved
 loop-number-preserved c =
@@ -15,9 +18,9 @@ loop-number-preserved c =
     let lt : index < length numbers = omega arith in
     let pushed : c.push.new.self.items ≡ finals ++ unwrap_or number (record { 0 = next }) ∷ [] =
     c.push.ensures.items ∙ ap (λ b. cond b (finals ++ c.number_or.result ∷ []) finals) (ap is_ok c.in_ok-push.was) ∙ ap (λ (n : NetId). finals ++ n ∷ []) c.number_or.ensures in
-    subst (λ n. NumbersToGive numbers (drop (index + 1) numbers) c.args.next n c.push.new.self.items) (sym c.next_behind-next.ensures)
-    (NumbersToGive-more numbers (drop (index + 1) numbers) number c.args.next next finals c.push.new.self.items pushed
-    (subst (λ (ns : List (Option NetId)). NumbersToGive numbers ns c.args.next next finals) (drop_more numbers index None lt) c.loop-number.invariant))
+    subst (λ n. NumbersToGive numbers (drop (index + 1) numbers) c.args.first n c.push.new.self.items) (sym c.next_behind-next.ensures)
+    (NumbersToGive-more numbers (drop (index + 1) numbers) number c.args.first next finals c.push.new.self.items pushed
+    (subst (λ (ns : List (Option NetId)). NumbersToGive numbers ns c.args.first next finals) (drop_more numbers index None lt) c.loop-number.invariant))
 
 pub returns : goal.returns
 returns c =

@@ -1,8 +1,52 @@
-use Rattle.std.proofs.Common.{◌≡◌, ◌∙◌, ◌-◌, ◌+◌, suc}
+use Rattle.std.proofs.Common.{◌≡◌, ◌∙◌, ◌-◌, ◌+◌, ◌++◌, ◌∷◌, [], List, Ok, Err, true, false, cond, is_ok, suc, sym, ap, arith}
 use Rattle.dft_base.proofs.Turns.{one_more, no_more}
-use Rattle.dft_modules.specs.ModuleTexts.{modules_from}
+use Rattle.dft_cells.specs.declared.cell.Cell.{Cell}
+use Rattle.dft_netlist_text.specs.declared.text.TokenKind.TheVariants as kind
+use Rattle.dft_netlist_text.specs.Lexemes.{Token}
+use Rattle.dft_netlist_text.specs.Steps.{sees}
+use Rattle.dft_modules.specs.Modules.{Module}
+use Rattle.dft_modules.specs.SubInstances.{Said}
+use Rattle.dft_modules.specs.ModuleTexts.{next_module, modules_from}
+use Rattle.dft_verilog_module.specs.SaidModules.{said}
 use Rattle.dft_verilog.proofs.ModulesLemmas.{modules_end, modules_more, modules_fault, modules_out}
 use Rattle.dft_verilog.proofs.modules.modules_ahead.Goals as goal
 
+pub returns-then-sees : goal.returns-then-sees
+returns-then-sees c =
+    let text = c.args.text.now in
+    let library : List Cell = c.args.library in
+    let ts : List Token = c.turns.tokens in
+    let us : List Token = c.next_module.new.tokens in
+    let m : Said = said c.in_ok-said.said.draft c.in_ok-said.said.subs.items in
+    let made : Module = c.in_ok-made.made in
+    let before : List Module = c.turns.modules.items in
+    let read : next_module library c.turns.names ts ≡ Ok (m, us) = ap (λ (cells : List Cell). next_module cells c.turns.names ts) (sym c.turns.invariant.library) ∙ c.in_ok-said.ensures.read in
+    let pushed : c.push.new.self.items ≡ before ++ made ∷ [] = c.push.ensures.items ∙ ap (λ b. cond b (before ++ made ∷ []) before) (ap is_ok c.in_ok-push.was) in
+    let end : sees kind.End us ≡ true = sym c.sees.ensures ∙ c.if-sees.true in
+    one_more (λ n. modules_from n text library c.turns.names before ts) _ c.turns._turn c.turns-test.true c.turns.invariant.same
+    ∙ modules_end _ text library c.turns.names before c.push.new.self.items m made ts us read c.in_ok-made.ensures.said pushed end
+
+pub returns-in_err-said : goal.returns-in_err-said
+returns-in_err-said c = ?
+
 pub turns-preserved : goal.turns-preserved
-turns-preserved c = ?
+turns-preserved c =
+    let text = c.args.text.now in
+    let library : List Cell = c.args.library in
+    let ts : List Token = c.turns.tokens in
+    let us : List Token = c.next_module.new.tokens in
+    let m : Said = said c.in_ok-said.said.draft c.in_ok-said.said.subs.items in
+    let made : Module = c.in_ok-made.made in
+    let before : List Module = c.turns.modules.items in
+    let read : next_module library c.turns.names ts ≡ Ok (m, us) = ap (λ (cells : List Cell). next_module cells c.turns.names ts) (sym c.turns.invariant.library) ∙ c.in_ok-said.ensures.read in
+    let pushed : c.push.new.self.items ≡ before ++ made ∷ [] = c.push.ensures.items ∙ ap (λ b. cond b (before ++ made ∷ []) before) (ap is_ok c.in_ok-push.was) in
+    let goes : sees kind.End us ≡ false = sym c.sees.ensures ∙ c.if-sees.false in
+    record {
+      same = one_more (λ n. modules_from n text library c.turns.names before ts) _ c.turns._turn c.turns-test.true c.turns.invariant.same
+          ∙ modules_more _ text library c.turns.names c.next_module.new.names before c.push.new.self.items m made ts us read c.in_ok-made.ensures.said pushed c.in_ok-said.ensures.names goes;
+      library = c.into_library-library.ensures ∙ c.in_ok-said.ensures.library ∙ c.turns.invariant.library;
+      passed = c.in_ok-made.ensures.passed;
+    }
+
+pub returns : goal.returns
+returns c = ?
