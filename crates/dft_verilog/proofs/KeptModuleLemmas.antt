@@ -294,6 +294,9 @@ pub said_are_modules : SaidAreModules
 unfolding modules_of
 said_are_modules library text ms said = sound_by library (modules_from (left (tokens text)) text library [] [] (tokens text)) ms (modules_go (left (tokens text)) text library [] [] refl (tokens text)) said
 
+pub modules_sound : (library : List Cell) (text : Text) (ms : List Module) → modules_of library text ≡ Ok ms → AreModules library ms
+modules_sound library text ms h = (said_are_modules library text ms h).0
+
 fine_by : (library : List Cell) (o : parser.Outcome Token ModulesFault (List Module)) (f : Fault) → GoesOn (StandBehind library []) o → parser.value_of o ≡ Err (fault.Module f) → IsFine f.cause
 fine_by library (Ok p) f h e = absurd (cc)
 fine_by library (Err g) f h e = let same : g ≡ fault.Module f = cc in subst IsFineFault same h

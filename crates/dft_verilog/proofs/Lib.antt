@@ -18,4 +18,3 @@ pub mod KeptGrammarLemmas
 pub mod SaidModuleLemmas
 pub mod SoundModuleLemmas
 pub mod KeptModuleLemmas
-pub mod ReadModuleLemmas

@@ -9,15 +9,18 @@ use Rattle.dft_netlist_text.specs.declared.text.Cause.{Cause}
 use Rattle.dft_netlist_text.specs.declared.text.Cause.TheVariants as cause
 use Rattle.dft_netlist_text.specs.declared.text.Fault.{Fault}
 use Rattle.dft_netlist_text.specs.declared.text.TokenKind.TheVariants as kind
-use Rattle.dft_netlist_text.specs.Lexemes.{Token, tokens}
-use Rattle.dft_netlist_text.specs.Steps.{left, sees, refusal}
+use Rattle.dft_netlist_text.specs.Lexemes.{Token}
+use Rattle.dft_netlist_text.specs.Steps.{sees, refusal}
 use Rattle.dft_modules.specs.declared.fault.ModulesFault.{ModulesFault}
 use Rattle.dft_modules.specs.declared.fault.ModulesFault.TheVariants as fault
 use Rattle.dft_modules.specs.Modules.{Module}
 use Rattle.dft_modules.specs.SubInstances.{Said}
 use Rattle.dft_modules.specs.ModuleTexts.{module_said, name_ahead, next_module, and_more, modules_from, modules_of}
 use Rattle.dft_verilog.specs.Refusals as one
-use Rattle.dft_verilog.specs.ModuleRefusals.{told_of, IsFirstOfModules, IsModulesRefused}
+use Rattle.dft_lexing.specs.Reading.{Checks}
+use Rattle.dft_lexing.specs.declared.read_error.ReadError as reading
+use Rattle.dft_lexing.specs.declared.read_error.ReadError.TheVariants as errors
+use Rattle.dft_verilog.specs.ModuleRefusals.{told_of, told_of_error, IsFirstOfModules, IsModulesRefused}
 use Rattle.dft_verilog.specs.declared.error.ModulesError.TheVariants as told
 
 -- what comes of a text's tokens
@@ -63,10 +66,6 @@ modules_out text library names before ts = refl
 
 -- ---- the whole text
 
-pub modules_read : (library : List Cell) (text : Text) (ms : List Module) (us : List Token) → modules_from (left (tokens text)) text library [] [] (tokens text) ≡ Ok (ms, us) → modules_of library text ≡ Ok ms
-unfolding modules_of
-modules_read library text ms us h = ap (λ (o : Outcome). parser.value_of o) h
-
 by_cause : (library : List Cell) (text : Text) (why : Cause) (at : Place) → IsFirstOfModules library text (told.Module (one.told_of why at)) → IsModulesRefused library text (told.Module (one.told_of why at))
 by_cause library text cause.Byte at h = h
 by_cause library text cause.Token at h = h
@@ -88,6 +87,6 @@ first_told library text (fault.Module f) first = by_cause library text f.cause (
 first_told library text (fault.Repeated name) first = record { fault = fault.Repeated name; first = first; told = refl }
 
 -- the first fault is told
-pub modules_refused : (library : List Cell) (text : Text) (f : ModulesFault) → modules_from (left (tokens text)) text library [] [] (tokens text) ≡ Err f → IsModulesRefused library text (told_of text f)
-unfolding modules_of
-modules_refused library text f h = first_told library text f (ap (λ (o : Outcome). parser.value_of o) h)
+pub modules_refused : {X : Type 0} (view : X → List Module) (library : List Cell) (text : Text) (error : reading.ReadError ModulesFault) → Checks view (modules_of library text) (Err error) → IsModulesRefused library text (told_of_error text error)
+modules_refused view library text (errors.Fault f) h = first_told library text f h
+modules_refused view library text (errors.Memory e) h = tt

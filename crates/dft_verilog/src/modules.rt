@@ -89,7 +89,7 @@ fn modules_ahead<'a>(
 ) -> Result<Vec<Module>, ModulesReadError>
     requires few { length text.now ≤ MAX_TEXT }
     requires same { cells.now ≡ library }
-    ensures { reading.Reads (λ modules. modules.items) (spec.modules_from (left tokens.old) text.now library [] [] tokens.old) result tokens.new }
+    ensures { reading.Reads (λ modules. modules.items) (spec.modules_from (left tokens.old) text.now cells.now [] [] tokens.old) result tokens.new }
 {
     let mut names = NameSet::new(alloc);
     let mut passed = unpassed();
@@ -129,8 +129,22 @@ fn told_error(bytes: &[u8], error: ModulesReadError) -> ModulesError
     }
 }
 
-#[tactic(auto, using(crate::proofs::ReadModuleLemmas::several))]
-// The modules of a text over the cells of a library, which are given once more.
+#[tactic(auto, unfolding(dft_modules::specs::ModuleTexts::modules_of))]
+// What the modules of a text say, over the cells of a library, which are given once more.
+fn modules_of(
+    alloc: Global,
+    bytes: &[u8],
+    library: Library,
+    cells: &Library,
+) -> Result<Vec<Module>, ModulesReadError>
+    requires few { length bytes.now ≤ MAX_TEXT }
+    requires same { cells.now ≡ library }
+    ensures { reading.Checks (λ modules. modules.items) (spec.modules_of cells.now bytes.now) result }
+{
+    modules_ahead(alloc, bytes, library, cells, &mut Tokens::new(alloc, bytes))
+}
+
+// The modules of a text, over the cells of a library, which are given once more.
 fn modules_over(
     alloc: Global,
     bytes: &[u8],
@@ -139,11 +153,11 @@ fn modules_over(
 ) -> Result<Vec<Module>, ModulesError>
     requires few { length bytes.now ≤ MAX_TEXT }
     requires same { cells.now ≡ library }
-    ensures modules { IfOk result (λ modules. spec.modules_of library bytes.now ≡ Ok modules.items) }
-    ensures sound { IfOk result (λ modules. AreModules library modules.items) }
-    ensures refused { IfErr result (λ error. IsModulesRefused library bytes.now error) }
+    ensures modules { IfOk result (λ modules. spec.modules_of cells.now bytes.now ≡ Ok modules.items) }
+    ensures sound { IfOk result (λ modules. AreModules cells.now modules.items) }
+    ensures refused { IfErr result (λ error. IsModulesRefused cells.now bytes.now error) }
 {
-    match modules_ahead(alloc, bytes, library, cells, &mut Tokens::new(alloc, bytes)) {
+    match modules_of(alloc, bytes, library, cells) {
         Ok(modules) => Ok(modules),
         Err(error) => Err(told_error(bytes, error)),
     }

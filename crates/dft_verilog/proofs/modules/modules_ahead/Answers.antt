@@ -14,7 +14,7 @@ use Rattle.dft_verilog.proofs.modules.modules_ahead.Goals as goal
 pub returns-then-sees : goal.returns-then-sees
 returns-then-sees c =
     let text = c.args.text.now in
-    let library : List Cell = c.args.library in
+    let library : List Cell = c.args.cells.now in
     let ts : List Token = c.turns.tokens in
     let us : List Token = c.next_module.new.tokens in
     let m : Said = said c.in_ok-said.said.draft c.in_ok-said.said.subs.items in
@@ -32,7 +32,7 @@ returns-in_err-said c = ?
 pub turns-preserved : goal.turns-preserved
 turns-preserved c =
     let text = c.args.text.now in
-    let library : List Cell = c.args.library in
+    let library : List Cell = c.args.cells.now in
     let ts : List Token = c.turns.tokens in
     let us : List Token = c.next_module.new.tokens in
     let m : Said = said c.in_ok-said.said.draft c.in_ok-said.said.subs.items in

@@ -7,7 +7,7 @@ use Rattle.dft_verilog.proofs.modules.modules_ahead.Given as goal
 -- each turn reads one
 abbrev pub invariant-turns : goal.invariant-turns
 invariant-turns l = record {
-  same : modules_from (left l.fn.tokens) l.text l.fn.library [] [] l.fn.tokens ≡ modules_from (l._turn-end - l._turn) l.text l.fn.library l.names l.modules.items l.tokens;
-  library : l.library ≡ l.fn.library;
+  same : modules_from (left l.fn.tokens) l.text l.cells [] [] l.fn.tokens ≡ modules_from (l._turn-end - l._turn) l.text l.cells l.names l.modules.items l.tokens;
+  library : l.library ≡ l.cells;
   passed : HasPassed l.text l.passed;
 }
