@@ -24,12 +24,7 @@ pub fn time_reading(rt: &(impl Clock + Eprint), alloc: Global, gates: u32) -> io
 }
 
 // The reader of texts of one module, which makes the design.
-fn time_one(
-    rt: &(impl Clock + Eprint),
-    alloc: Global,
-    text: &[u8],
-    gates: u32,
-) -> io::Result<()>
+fn time_one(rt: &(impl Clock + Eprint), alloc: Global, text: &[u8], gates: u32) -> io::Result<()>
     requires { length text.now ≤ MAX_TEXT }
 {
     let library = Library::standard(alloc)?;

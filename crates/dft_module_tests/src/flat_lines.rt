@@ -109,7 +109,11 @@ pub fn push_signal(alloc: Global, line: &mut String, signal: Signal) -> Result<(
 }
 
 /// An instance: its name or a star, the kind of a gate, and its pins.
-pub fn push_instance(alloc: Global, line: &mut String, instance: &Instance) -> Result<(), AllocError> {
+pub fn push_instance(
+    alloc: Global,
+    line: &mut String,
+    instance: &Instance,
+) -> Result<(), AllocError> {
     line.push_str("; ")?;
     match &instance.name {
         Some(name) => push_name(line, name)?,

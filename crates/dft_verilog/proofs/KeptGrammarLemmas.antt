@@ -347,9 +347,10 @@ opening_keep : (start : Draft) (floor : ℕ) (at : Site) (d : Draft) (so_far : O
 unfolding opening
 opening_keep start floor at d so_far h bits ts =
     either (BitsSoFar start floor (drives at)) (sees kind.OpenBrace ts) _ _ (h, bits)
-    (behind (Bits start (length d.nets) (drives at)) (BitsSoFar start floor (drives at)) (operand at so_far.depth d ts) _ (operand_keep start (length d.nets) at so_far.depth d (raise start floor d h) ts) (λ o m us.
-    (lower start floor (length d.nets) o.0 h.many m.0,
-    All-append (λ (s : Signal). IsBit (length o.0.nets) (drives at) s) so_far.bits o.1 (bits_more (length d.nets) (length o.0.nets) (drives at) so_far.bits m.0.many bits) m.1)))
+    (behind (Bits start (length d.nets) (drives at)) (BitsSoFar start floor (drives at)) (operand at so_far.depth d ts) _ (operand_keep start (length d.nets) at so_far.depth d (raise start floor d h) ts) (λ o m us. (
+      lower start floor (length d.nets) o.0 h.many m.0,
+      All-append (λ (s : Signal). IsBit (length o.0.nets) (drives at) s) so_far.bits o.1 (bits_more (length d.nets) (length o.0.nets) (drives at) so_far.bits m.0.many bits) m.1,
+    )))
 
 closing_keep : (start : Draft) (floor : ℕ) (drives : Bool) (d : Draft) (so_far : OpenConcatenations) → Keeps start floor d → AreBits (length d.nets) drives so_far.bits → (ts : List Token) → Goes (BitsSoFar start floor drives) (closing d so_far ts)
 unfolding closing

@@ -178,10 +178,11 @@ connected_by count order signal.Unconnected h = absurd h
 
 bit_stands : (d : Draft) (s : Signal) → IsBit (length d.nets) false s → IsOuterBit (length (names_in_order (net_order d) d.nets)) (signal_by (final_net (net_order d)) s)
 bit_stands d s h =
-    let live : IsLive (length (net_order d)) (final_signal (net_order d) s) = signal-within d (finals_of d) (are_final d) s (live_bit (length d.nets) false s h) in
-    (subst (λ (x : Signal). IsLive (length (names_in_order (net_order d) d.nets)) x) (same_signal (net_order d) s)
-    (subst (λ n. IsLive n (final_signal (net_order d) s)) (sym (length-map (net_order d) (λ net. get_or d.nets net []))) live),
-    connected_by (length d.nets) (net_order d) s h)
+    let live : IsLive (length (net_order d)) (final_signal (net_order d) s) = signal-within d (finals_of d) (are_final d) s (live_bit (length d.nets) false s h) in (
+      subst (λ (x : Signal). IsLive (length (names_in_order (net_order d) d.nets)) x) (same_signal (net_order d) s)
+          (subst (λ n. IsLive n (final_signal (net_order d) s)) (sym (length-map (net_order d) (λ net. get_or d.nets net []))) live),
+      connected_by (length d.nets) (net_order d) s h,
+    )
 
 connection_stands : (text : Text) (d : Draft) (c : SubConnection) → ConnectionStands (length d.nets) c → IsConnectionOf (length (names_in_order (net_order d) d.nets)) (connection_said text (final_net (net_order d)) c)
 connection_stands text d c h =
