@@ -17,14 +17,16 @@ use Rattle.dft_modules.specs.Modules.{Module}
 use Rattle.dft_modules.specs.SubInstances.{Said}
 use Rattle.dft_modules.specs.ModuleTexts.{module_said, name_ahead, next_module, and_more, modules_from, modules_of}
 use Rattle.dft_verilog.specs.Refusals as one
-use Rattle.dft_lexing.specs.Reading.{Checks}
+use Rattle.dft_lexing.specs.Reading.{Reads, Checks, Faults}
+use Rattle.dft_verilog_tokens.specs.Reading.{ReadError}
+use Rattle.dft_verilog_module.specs.SaidModules.{in_module_error}
 use Rattle.dft_lexing.specs.declared.read_error.ReadError as reading
 use Rattle.dft_lexing.specs.declared.read_error.ReadError.TheVariants as errors
 use Rattle.dft_verilog.specs.ModuleRefusals.{told_of, told_of_error, IsFirstOfModules, IsModulesRefused}
 use Rattle.dft_verilog.specs.declared.error.ModulesError.TheVariants as told
 
 -- what comes of a text's tokens
-abbrev Outcome : Type 0
+abbrev pub Outcome : Type 0
 Outcome = parser.Outcome Token ModulesFault (List Module)
 
 -- ---- one module more
@@ -60,9 +62,12 @@ unfolding modules_from
 modules_fault n text library names before f ts h =
     ap (λ o. and_then o (λ (x : Said) vs. and_more (before ++ module_said text x ∷ []) (modules_from n text library (names ++ name_ahead ts ∷ []) (before ++ module_said text x ∷ [])) vs)) h
 
-pub modules_out : (text : Text) (library : List Cell) (names : List Text) (before : List Module) (ts : List Token) → modules_from 0 text library names before ts ≡ Err (fault.Module (refusal ts))
+-- where no turn is left, what comes next is refused
+pub out_told : {X : Type 0} (view : X → List Module) (text : Text) (library : List Cell) (names : List Text) (before : List Module) (ts us : List Token) (e : ReadError) → Faults (refusal ts) e
+    → Reads view (modules_from 0 text library names before ts) (Err (in_module_error e)) us
 unfolding modules_from
-modules_out text library names before ts = refl
+out_told view text library names before ts us (errors.Fault f) h = ap (λ (g : Fault). Err (fault.Module g)) (sym h)
+out_told view text library names before ts us (errors.Memory e) h = tt
 
 -- ---- the whole text
 

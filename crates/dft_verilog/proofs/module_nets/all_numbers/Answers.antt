@@ -1,4 +1,4 @@
-use Rattle.std.proofs.Common.{◌≡◌, ◌∙◌, ◌+◌, ◌<◌, ◌++◌, ◌∷◌, [], List, Option, length, drop, get_or, None, unwrap_or, cond, is_ok, sym, ap, subst, arith}
+use Rattle.std.proofs.Common.{◌≡◌, ◌∙◌, ◌+◌, ◌<◌, ◌++◌, ◌∷◌, [], List, Option, length, drop, get_or, None, unwrap_or, sym, ap, subst, arith}
 use Rattle.std.proofs.lemmas.List.{drop_more, drop_all, append-nil, length-drop}
 use Rattle.dft_netlist.specs.declared.ids.NetId.{NetId}
 use Rattle.dft_verilog.specs.FinalNets.{all_numbered}
@@ -17,7 +17,7 @@ loop-number-preserved c =
     let finals : List NetId = c.loop-number.finals.items in
     let lt : index < length numbers = omega arith in
     let pushed : c.push.new.self.items ≡ finals ++ unwrap_or number (record { 0 = next }) ∷ [] =
-    c.push.ensures.items ∙ ap (λ b. cond b (finals ++ c.number_or.result ∷ []) finals) (ap is_ok c.in_ok-push.was) ∙ ap (λ (n : NetId). finals ++ n ∷ []) c.number_or.ensures in
+    c.in_ok-push.ensures.items ∙ ap (λ (n : NetId). finals ++ n ∷ []) c.number_or.ensures in
     subst (λ n. NumbersToGive numbers (drop (index + 1) numbers) c.args.first n c.push.new.self.items) (sym c.next_behind-next.ensures)
     (NumbersToGive-more numbers (drop (index + 1) numbers) number c.args.first next finals c.push.new.self.items pushed
     (subst (λ (ns : List (Option NetId)). NumbersToGive numbers ns c.args.first next finals) (drop_more numbers index None lt) c.loop-number.invariant))

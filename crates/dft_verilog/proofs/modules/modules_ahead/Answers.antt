@@ -1,6 +1,10 @@
-use Rattle.std.proofs.Common.{◌≡◌, ◌∙◌, ◌-◌, ◌+◌, ◌++◌, ◌∷◌, [], List, Ok, Err, true, false, cond, is_ok, suc, sym, ap, arith}
+use Rattle.std.proofs.Common.{◌≡◌, ◌∙◌, ◌-◌, ◌+◌, ◌++◌, ◌∷◌, [], List, Ok, Err, true, false, suc, sym, ap, subst, rules, arith}
+use Rattle.std.proofs.lemmas.Grind.{common_steps}
 use Rattle.dft_base.proofs.Turns.{one_more, no_more}
 use Rattle.dft_cells.specs.declared.cell.Cell.{Cell}
+use Rattle.dft_lexing.specs.Reading.{Reads}
+use Rattle.dft_lexing.specs.declared.read_error.ReadError.{ReadError}
+use Rattle.dft_modules.specs.declared.fault.ModulesFault.{ModulesFault}
 use Rattle.dft_netlist_text.specs.declared.text.TokenKind.TheVariants as kind
 use Rattle.dft_netlist_text.specs.Lexemes.{Token}
 use Rattle.dft_netlist_text.specs.Steps.{sees}
@@ -8,8 +12,16 @@ use Rattle.dft_modules.specs.Modules.{Module}
 use Rattle.dft_modules.specs.SubInstances.{Said}
 use Rattle.dft_modules.specs.ModuleTexts.{next_module, modules_from}
 use Rattle.dft_verilog_module.specs.SaidModules.{said}
-use Rattle.dft_verilog.proofs.ModulesLemmas.{modules_end, modules_more, modules_fault, modules_out}
+use Rattle.dft_verilog.proofs.PassingLemmas.{passed_none}
+use Rattle.dft_verilog.proofs.ModulesLemmas.{Outcome, modules_end, modules_more, out_told}
 use Rattle.dft_verilog.proofs.modules.modules_ahead.Goals as goal
+
+pub turns-init : goal.turns-init
+turns-init c = record {
+  same = first_of (search rules, grind (arith, common_steps));
+  library = first_of (search rules, grind (arith, common_steps));
+  passed = passed_none c.args.text.now c.unpassed-passed.result c.unpassed-passed.ensures.bytes c.unpassed-passed.ensures.place;
+}
 
 pub returns-then-sees : goal.returns-then-sees
 returns-then-sees c =
@@ -21,13 +33,16 @@ returns-then-sees c =
     let made : Module = c.in_ok-made.made in
     let before : List Module = c.turns.modules.items in
     let read : next_module library c.turns.names ts ≡ Ok (m, us) = ap (λ (cells : List Cell). next_module cells c.turns.names ts) (sym c.turns.invariant.library) ∙ c.in_ok-said.ensures.read in
-    let pushed : c.push.new.self.items ≡ before ++ made ∷ [] = c.push.ensures.items ∙ ap (λ b. cond b (before ++ made ∷ []) before) (ap is_ok c.in_ok-push.was) in
-    let end : sees kind.End us ≡ true = sym c.sees.ensures ∙ c.if-sees.true in
+    let pushed : c.push.new.self.items ≡ before ++ made ∷ [] = c.in_ok-push.ensures.items in
+    let end : sees kind.End us ≡ true = sym c.sees.ensures.value ∙ c.if-sees.true in
     one_more (λ n. modules_from n text library c.turns.names before ts) _ c.turns._turn c.turns-test.true c.turns.invariant.same
     ∙ modules_end _ text library c.turns.names before c.push.new.self.items m made ts us read c.in_ok-made.ensures.said pushed end
 
 pub returns-in_err-said : goal.returns-in_err-said
-returns-in_err-said c = ?
+unfolding modules_from
+returns-in_err-said c =
+    let e = one_more (λ n. modules_from n c.args.text.now c.args.cells.now c.turns.names c.turns.modules.items c.turns.tokens) _ c.turns._turn c.turns-test.true c.turns.invariant.same in
+    first_of (search rules, grind (arith, common_steps))
 
 pub turns-preserved : goal.turns-preserved
 turns-preserved c =
@@ -39,8 +54,8 @@ turns-preserved c =
     let made : Module = c.in_ok-made.made in
     let before : List Module = c.turns.modules.items in
     let read : next_module library c.turns.names ts ≡ Ok (m, us) = ap (λ (cells : List Cell). next_module cells c.turns.names ts) (sym c.turns.invariant.library) ∙ c.in_ok-said.ensures.read in
-    let pushed : c.push.new.self.items ≡ before ++ made ∷ [] = c.push.ensures.items ∙ ap (λ b. cond b (before ++ made ∷ []) before) (ap is_ok c.in_ok-push.was) in
-    let goes : sees kind.End us ≡ false = sym c.sees.ensures ∙ c.if-sees.false in
+    let pushed : c.push.new.self.items ≡ before ++ made ∷ [] = c.in_ok-push.ensures.items in
+    let goes : sees kind.End us ≡ false = sym c.sees.ensures.value ∙ c.if-sees.false in
     record {
       same = one_more (λ n. modules_from n text library c.turns.names before ts) _ c.turns._turn c.turns-test.true c.turns.invariant.same
           ∙ modules_more _ text library c.turns.names c.next_module.new.names before c.push.new.self.items m made ts us read c.in_ok-made.ensures.said pushed c.in_ok-said.ensures.names goes;
@@ -49,4 +64,8 @@ turns-preserved c =
     }
 
 pub returns : goal.returns
-returns c = ?
+returns c =
+    let e = no_more (λ n. modules_from n c.args.text.now c.args.cells.now c.turns.names c.turns.modules.items c.turns.tokens) _ c.turns._turn c.turns-test.false c.turns.invariant.same in
+    subst (λ (o : Outcome). Reads {X = List Module} (λ ms. ms) o (Err c.in_module.result) c.turns.tokens) (sym e)
+    (subst (λ (r : ReadError ModulesFault). Reads {X = List Module} (λ ms. ms) (modules_from 0 c.args.text.now c.args.cells.now c.turns.names c.turns.modules.items c.turns.tokens) (Err r) c.turns.tokens) (sym c.in_module.ensures)
+    (out_told {X = List Module} (λ ms. ms) c.args.text.now c.args.cells.now c.turns.names c.turns.modules.items c.turns.tokens c.turns.tokens c.refusal.result c.refusal.ensures))
