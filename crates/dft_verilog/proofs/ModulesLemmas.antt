@@ -17,7 +17,7 @@ use Rattle.dft_modules.specs.Modules.{Module}
 use Rattle.dft_modules.specs.SubInstances.{Said}
 use Rattle.dft_modules.specs.ModuleTexts.{module_said, name_ahead, next_module, and_more, modules_from, modules_of}
 use Rattle.dft_verilog.specs.Refusals as one
-use Rattle.dft_lexing.specs.Reading.{Reads, Checks, Faults}
+use Rattle.dft_lexing.specs.Reading.{Checks, Faults}
 use Rattle.dft_verilog_tokens.specs.Reading.{ReadError}
 use Rattle.dft_verilog_module.specs.SaidModules.{in_module_error}
 use Rattle.dft_lexing.specs.declared.read_error.ReadError as reading
@@ -26,7 +26,7 @@ use Rattle.dft_verilog.specs.ModuleRefusals.{told_of, told_of_error, IsFirstOfMo
 use Rattle.dft_verilog.specs.declared.error.ModulesError.TheVariants as told
 
 -- what comes of a text's tokens
-abbrev pub Outcome : Type 0
+abbrev Outcome : Type 0
 Outcome = parser.Outcome Token ModulesFault (List Module)
 
 -- ---- one module more
@@ -56,18 +56,10 @@ modules_more n text library names words before all m made ts us read is pushed n
     ∙ ap (λ (b : Bool). cond b (Ok (all, us)) (modules_from n text library (names ++ name_ahead ts ∷ []) all us)) goes
     ∙ ap (λ ws. modules_from n text library ws all us) (sym named)
 
--- a fault of the next module is one of the text
-pub modules_fault : (n : ℕ) (text : Text) (library : List Cell) (names : List Text) (before : List Module) (f : ModulesFault) (ts : List Token) → next_module library names ts ≡ Err f → modules_from (suc n) text library names before ts ≡ Err f
-unfolding modules_from
-modules_fault n text library names before f ts h =
-    ap (λ o. and_then o (λ (x : Said) vs. and_more (before ++ module_said text x ∷ []) (modules_from n text library (names ++ name_ahead ts ∷ []) (before ++ module_said text x ∷ [])) vs)) h
-
--- where no turn is left, what comes next is refused
-pub out_told : {X : Type 0} (view : X → List Module) (text : Text) (library : List Cell) (names : List Text) (before : List Module) (ts us : List Token) (e : ReadError) → Faults (refusal ts) e
-    → Reads view (modules_from 0 text library names before ts) (Err (in_module_error e)) us
-unfolding modules_from
-out_told view text library names before ts us (errors.Fault f) h = ap (λ (g : Fault). Err (fault.Module g)) (sym h)
-out_told view text library names before ts us (errors.Memory e) h = tt
+-- a fault of a module, told of a text of several
+pub refused_in : (f : Fault) (e : ReadError) → Faults f e → Faults (fault.Module f) (in_module_error e)
+refused_in f (errors.Fault g) h = ap (λ (x : Fault). fault.Module x) h
+refused_in f (errors.Memory e) h = tt
 
 -- ---- the whole text
 

@@ -4,6 +4,7 @@ ghost use Rattle.std.specs.Prelude.{◌≡◌, ◌≤◌, [], length, IfOk, OnOk
 ghost use Rattle.dft_lexing.specs.Reading as reading;
 ghost use Rattle.dft_modules.specs.ModuleTexts as spec;
 ghost use Rattle.dft_modules.specs.Sound.{AreModules};
+ghost use Rattle.dft_netlist_text.specs.Steps as steps;
 ghost use Rattle.dft_netlist_text.specs.Steps.{left};
 ghost use Rattle.dft_verilog.specs.ModuleRefusals.{IsModulesRefused, told_of, told_of_error};
 ghost use Rattle.dft_verilog.specs.Passing.{HasPassed};
@@ -79,6 +80,13 @@ fn module_said(
     Ok(made)
 }
 
+// Why no rule takes the next token of a text of several modules.
+fn refusal(tokens: &Tokens<'_>) -> ModulesReadError
+    ensures { reading.Faults (ModulesFault.Module (steps.refusal tokens.now)) result }
+{
+    in_module(tokens.refusal())
+}
+
 // The modules from here to the end of a text.
 fn modules_ahead<'a>(
     alloc: Global,
@@ -104,7 +112,7 @@ fn modules_ahead<'a>(
         }
         library = said.draft.into_library();
     }
-    Err(in_module(tokens.refusal()))
+    Err(refusal(tokens))
 }
 
 // How a fault of a text of several modules is told.

@@ -1,10 +1,7 @@
-use Rattle.std.proofs.Common.{◌≡◌, ◌∙◌, ◌-◌, ◌+◌, ◌++◌, ◌∷◌, [], List, Ok, Err, true, false, suc, sym, ap, subst, rules, arith}
+use Rattle.std.proofs.Common.{◌≡◌, ◌∙◌, ◌-◌, ◌+◌, ◌++◌, ◌∷◌, [], List, Ok, Err, true, false, sym, ap, rules, arith}
 use Rattle.std.proofs.lemmas.Grind.{common_steps}
 use Rattle.dft_base.proofs.Turns.{one_more, no_more}
 use Rattle.dft_cells.specs.declared.cell.Cell.{Cell}
-use Rattle.dft_lexing.specs.Reading.{Reads}
-use Rattle.dft_lexing.specs.declared.read_error.ReadError.{ReadError}
-use Rattle.dft_modules.specs.declared.fault.ModulesFault.{ModulesFault}
 use Rattle.dft_netlist_text.specs.declared.text.TokenKind.TheVariants as kind
 use Rattle.dft_netlist_text.specs.Lexemes.{Token}
 use Rattle.dft_netlist_text.specs.Steps.{sees}
@@ -13,7 +10,7 @@ use Rattle.dft_modules.specs.SubInstances.{Said}
 use Rattle.dft_modules.specs.ModuleTexts.{next_module, modules_from}
 use Rattle.dft_verilog_module.specs.SaidModules.{said}
 use Rattle.dft_verilog.proofs.PassingLemmas.{passed_none}
-use Rattle.dft_verilog.proofs.ModulesLemmas.{Outcome, modules_end, modules_more, out_told}
+use Rattle.dft_verilog.proofs.ModulesLemmas.{modules_end, modules_more}
 use Rattle.dft_verilog.proofs.modules.modules_ahead.Goals as goal
 
 pub turns-init : goal.turns-init
@@ -64,8 +61,7 @@ turns-preserved c =
     }
 
 pub returns : goal.returns
+unfolding modules_from
 returns c =
     let e = no_more (λ n. modules_from n c.args.text.now c.args.cells.now c.turns.names c.turns.modules.items c.turns.tokens) _ c.turns._turn c.turns-test.false c.turns.invariant.same in
-    subst (λ (o : Outcome). Reads {X = List Module} (λ ms. ms) o (Err c.in_module.result) c.turns.tokens) (sym e)
-    (subst (λ (r : ReadError ModulesFault). Reads {X = List Module} (λ ms. ms) (modules_from 0 c.args.text.now c.args.cells.now c.turns.names c.turns.modules.items c.turns.tokens) (Err r) c.turns.tokens) (sym c.in_module.ensures)
-    (out_told {X = List Module} (λ ms. ms) c.args.text.now c.args.cells.now c.turns.names c.turns.modules.items c.turns.tokens c.turns.tokens c.refusal.result c.refusal.ensures))
+    first_of (search rules, grind (arith, common_steps))
