@@ -30,7 +30,7 @@ returns-clause-items c =
     let number : Numbering = net_or_first c.args.finals.now in
     let all : List DraftSub = c.args.subs.now in
     let none : drop c.loop-one.one-index all ≡ _ = drop_all c.loop-one.one-index all (omega arith) in
-    OnOk-then c.add_parts.result _ _
-    (λ e. ItemsToAdd-end c.args.text.now number d all (drop c.loop-one.one-index all) c.loop-one.next.join c.loop-one.next.cell c.joins.result.now c.instances.result.now c.args.made.now c.loop-one.made c.add_parts.new.made
-    c.joins.ensures.joins c.instances.ensures.instances none e c.loop-one.invariant.items)
-    c.add_parts.ensures
+    OnOk-then c.add_parts-2.result _ _
+    (λ e. ItemsToAdd-end c.args.text.now number d all (drop c.loop-one.one-index all) c.loop-one.next.join c.loop-one.next.cell c.joins-2.result.now c.instances.result.now c.args.made.now c.loop-one.made c.add_parts-2.new.made
+    c.joins-2.ensures.joins c.instances.ensures.instances none e c.loop-one.invariant.items)
+    c.add_parts-2.ensures

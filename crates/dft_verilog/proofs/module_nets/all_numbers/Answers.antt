@@ -5,8 +5,8 @@ use Rattle.dft_verilog.specs.FinalNets.{all_numbered}
 use Rattle.dft_verilog.proofs.SaidPartLemmas.{NumbersToGive, NumbersToGive-more}
 use Rattle.dft_verilog.proofs.module_nets.all_numbers.Goals as goal
 
-pub next_behind-requires : goal.next_behind-requires
-next_behind-requires c = omega (arith, c.loop-number.invariant.few, length-drop c.loop-number.number-index c.args.numbers.now)
+pub next_behind-next-requires : goal.next_behind-next-requires
+next_behind-next-requires c = omega (arith, c.loop-number.invariant.few, length-drop c.loop-number.number-index c.args.numbers.now)
 
 pub loop-number-preserved : goal.loop-number-preserved
 loop-number-preserved c =
