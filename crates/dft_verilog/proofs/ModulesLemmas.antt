@@ -1,5 +1,5 @@
 -- The modules of a text, one after another, and why a text of several is refused.
-use Rattle.std.proofs.Common.{◌≡◌, ℕ, zero, suc, Bool, true, false, cond, List, [], ◌∷◌, ◌++◌, Ok, Err, refl, sym, ap, ap₂, ◌∙◌}
+use Rattle.std.proofs.Common.{◌≡◌, ℕ, zero, suc, Bool, true, false, cond, List, [], ◌∷◌, ◌++◌, Result, Ok, Err, IsErrAnd, alloc_error, refl, sym, ap, ap₂, subst, ◌∙◌}
 use Rattle.dft_base.specs.Lexing.{Text, place_of}
 use Rattle.dft_base.specs.Parser as parser
 use Rattle.dft_base.specs.Parser.{and_then}
@@ -17,7 +17,7 @@ use Rattle.dft_modules.specs.Modules.{Module}
 use Rattle.dft_modules.specs.SubInstances.{Said}
 use Rattle.dft_modules.specs.ModuleTexts.{module_said, name_ahead, next_module, and_more, modules_from, modules_of}
 use Rattle.dft_verilog.specs.Refusals as one
-use Rattle.dft_lexing.specs.Reading.{Checks, Faults}
+use Rattle.dft_lexing.specs.Reading.{Reads, Checks, Faults}
 use Rattle.dft_verilog_tokens.specs.Reading.{ReadError}
 use Rattle.dft_verilog_module.specs.SaidModules.{in_module_error}
 use Rattle.dft_lexing.specs.declared.read_error.ReadError as reading
@@ -55,6 +55,11 @@ modules_more n text library names words before all m made ts us read is pushed n
     one_behind n text library names before all m made ts us read is pushed
     ∙ ap (λ (b : Bool). cond b (Ok (all, us)) (modules_from n text library (names ++ name_ahead ts ∷ []) all us)) goes
     ∙ ap (λ ws. modules_from n text library ws all us) (sym named)
+
+-- nothing is said where memory runs out
+pub reads_none : {X : Type 0} (view : X → List Module) (o : Outcome) (r : Result X (reading.ReadError ModulesFault)) (ts : List Token) → IsErrAnd r (λ e. e ≡ errors.Memory alloc_error) → Reads view o r ts
+reads_none view o (Ok x) ts h = absurd h
+reads_none view o (Err e) ts h = subst (λ (f : reading.ReadError ModulesFault). Reads view o (Err f) ts) (sym h) tt
 
 -- a fault of a module, told of a text of several
 pub refused_in : (f : Fault) (e : ReadError) → Faults f e → Faults (fault.Module f) (in_module_error e)

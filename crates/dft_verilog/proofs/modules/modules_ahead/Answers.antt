@@ -1,16 +1,17 @@
-use Rattle.std.proofs.Common.{◌≡◌, ◌∙◌, ◌-◌, ◌+◌, ◌++◌, ◌∷◌, [], List, Ok, Err, true, false, sym, ap, rules, arith}
+use Rattle.std.proofs.Common.{◌≡◌, ◌∙◌, ◌-◌, ◌+◌, ◌++◌, ◌∷◌, [], List, Vec, Global, Ok, true, false, sym, ap, rules, arith}
 use Rattle.std.proofs.lemmas.Grind.{common_steps}
 use Rattle.dft_base.proofs.Turns.{one_more, no_more}
 use Rattle.dft_cells.specs.declared.cell.Cell.{Cell}
 use Rattle.dft_netlist_text.specs.declared.text.TokenKind.TheVariants as kind
 use Rattle.dft_netlist_text.specs.Lexemes.{Token}
-use Rattle.dft_netlist_text.specs.Steps.{sees}
+use Rattle.dft_netlist_text.specs.Steps.{left, sees}
+use Rattle.dft_modules.specs.declared.module.Module as declared
 use Rattle.dft_modules.specs.Modules.{Module}
 use Rattle.dft_modules.specs.SubInstances.{Said}
 use Rattle.dft_modules.specs.ModuleTexts.{next_module, modules_from}
 use Rattle.dft_verilog_module.specs.SaidModules.{said}
 use Rattle.dft_verilog.proofs.PassingLemmas.{passed_none}
-use Rattle.dft_verilog.proofs.ModulesLemmas.{modules_end, modules_more}
+use Rattle.dft_verilog.proofs.ModulesLemmas.{modules_end, modules_more, reads_none}
 use Rattle.dft_verilog.proofs.modules.modules_ahead.Goals as goal
 
 pub turns-init : goal.turns-init
@@ -40,6 +41,11 @@ unfolding modules_from
 returns-in_err-said c =
     let e = one_more (λ n. modules_from n c.args.text.now c.args.cells.now c.turns.names c.turns.modules.items c.turns.tokens) _ c.turns._turn c.turns-test.true c.turns.invariant.same in
     first_of (search rules, grind (arith, common_steps))
+
+pub returns-in_err-push : goal.returns-in_err-push
+returns-in_err-push c =
+    reads_none (λ (modules : Vec declared.Module Global). modules.items) (modules_from (left c.args.tokens.now) c.args.text.now c.args.cells.now [] [] c.args.tokens.now) c.from_residual-in_err-push.result c.next_module.new.tokens
+    c.from_residual-in_err-push.ensures.1
 
 pub turns-preserved : goal.turns-preserved
 turns-preserved c =

@@ -1,4 +1,5 @@
-use Rattle.std.proofs.Common.{sym, subst}
+use Rattle.std.proofs.Common.{Vec, Global, sym, subst}
+use Rattle.dft_modules.specs.declared.module.Module.{Module}
 use Rattle.dft_verilog.specs.declared.error.ModulesError.{ModulesError}
 use Rattle.dft_verilog.specs.ModuleRefusals.{IsModulesRefused}
 use Rattle.dft_verilog.proofs.ModulesLemmas.{modules_refused}
@@ -10,4 +11,4 @@ returns-in-Ok-clause-sound c = modules_sound c.args.cells.now c.args.bytes.now c
 
 pub returns-in-Err-clause-refused : goal.returns-in-Err-clause-refused
 returns-in-Err-clause-refused c =
-    subst (λ (e : ModulesError). IsModulesRefused c.args.cells.now c.args.bytes.now e) (sym c.told_error.ensures) (modules_refused (λ modules. modules.items) c.args.cells.now c.args.bytes.now c.in-Err.error c.in-Err.ensures)
+    subst (λ (e : ModulesError). IsModulesRefused c.args.cells.now c.args.bytes.now e) (sym c.told_error.ensures) (modules_refused (λ (modules : Vec Module Global). modules.items) c.args.cells.now c.args.bytes.now c.in-Err.error c.in-Err.ensures)
