@@ -1,8 +1,9 @@
 #!/usr/bin/env python3
-"""Makes a job to time `dft compile` on: job.py SEED CELLS FOLDER, or job.py wide CHAINS FOLDER
+"""Makes a job to time `dft compile` on: job.py SEED CELLS FOLDER [both], or job.py wide CHAINS FOLDER
 
 The first writes the job that `dft generate --seed SEED --size CELLS` makes, of any size: a netlist of CELLS flip-flops in two
 domains, each behind a gate of two of them, 16 chains on two channels, and a cube of up to four bits for each four flip-flops.
+With `both`, every second flip-flop of each domain is on the inverse of its clock.
 
 The second has CHAINS chains (a multiple of 32, at most 1,024) of 64 flip-flops on one clock behind a ring of 128 stages with a channel
 for each 32 chains, loads of 512 cycles, and 2,000 cubes of up to 100 random bits.
@@ -45,13 +46,16 @@ mask_inputs = 2
 """
 
 
-def generated(seed, cells):
+def generated(seed, cells, both):
     random = words(seed, 0)
     netlist = ["module gen (clk0, clk1, y);\ninput clk0, clk1;\noutput y;\n"]
+    if both:
+        netlist.append("INV i0 (.A(clk0), .Y(inv0));\nINV i1 (.A(clk1), .Y(inv1));\n")
     for c in range(cells):
         gate, a, b = GATES[next(random) % 4], next(random) % cells, next(random) % cells
         netlist.append(f"{gate} g{c} (.A(q{a}), .B(q{b}), .Y(d{c}));\n")
-        netlist.append(f"DFF f{c} (.CK(clk{c % 2}), .D(d{c}), .Q(q{c}));\n")
+        clock = "inv" if both and c // 2 % 2 else "clk"
+        netlist.append(f"DFF f{c} (.CK({clock}{c % 2}), .D(d{c}), .Q(q{c}));\n")
     netlist.append("assign y = q0;\nendmodule\n")
     cubes = []
     for k in range(cells // 4):
@@ -94,7 +98,7 @@ def wide(chains):
 
 def main():
     kind, size, folder = sys.argv[1], int(sys.argv[2]), sys.argv[3]
-    texts = wide(size) if kind == "wide" else generated(int(kind), size)
+    texts = wide(size) if kind == "wide" else generated(int(kind), size, "both" in sys.argv[4:])
     for name, text in zip(("job.v", "job.toml", "job.cubes"), texts):
         with open(f"{folder}/{name}", "w") as out:
             out.writelines(text)

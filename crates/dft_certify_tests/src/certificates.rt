@@ -2,8 +2,8 @@
 
 use dft_files::{Failing, MemoryFiles};
 use dft_test_support::{
-    COLD, COLD_HEAD, FIVE, PAIR, PARTED, PARTED_TOLD, Unlike, WARM, WARM_HEAD, holds, prints, ran,
-    shelf,
+    COLD, COLD_HEAD, FIRST_FALLS, FIVE, PAIR, PARTED, PARTED_TOLD, Unlike, WARM, WARM_HEAD, holds,
+    prints, ran, shelf,
 };
 use dft_top::Status;
 use std::alloc::Global;
@@ -29,11 +29,24 @@ const ONE_TOLD: &str =
 const PLAIN: &str =
     "edt report 1\ncells 5 chains 2\nchain 0 length 3\nchain 1 length 2\nscanned f0 clk chain 0 place 0\nscanned f1 clk chain 0 place 1\nscanned f2 clk chain 0 place 2\nscanned f3 clk chain 1 place 0\nscanned f4 clk chain 1 place 1\n";
 
+// The lines before that of a cell.
+const FALLS: &str = "edt report 1\ncells 1 chains 1\nchain 0 length 1\n";
+
+// Cubes for the small case with a falling head: no load gives the first two.
+const LATE: &str =
+    "cube a clk\ncell f2 1\ncell f3 0\nend\ncube b clk\ncell f4 1\nend\ncube c clk\ncell f0 1\ncell f1 1\ncell f2 0\nend\n";
+
+const LATE_HEAD: &str =
+    "edt report 1\ncells 5 chains 2 cycles 3 variables 3\nchain 0 length 3\nchain 1 length 2\nscanned f0 clk chain 0 place 0 falling\nscanned f1 clk chain 0 place 1\nscanned f2 clk chain 0 place 2\nscanned f3 clk chain 1 place 0\nscanned f4 clk chain 1 place 1\n";
+
+const LATE_TOLD: &str =
+    "cube a unsolvable 2\nsum f2 1 0.0\nsum f3 0 0.0\ncube b unsolvable 1\nsum f4 1 -\ncube c encoded 0\n";
+
 // What is printed of two unsolvable cubes.
 pub(crate) const TWO: &str = "certified 2 cubes\n";
 
 // A configuration's first part, cubes, a report in two parts, and what is printed. The lines of cubes begin with line 10.
-static REPORTS: [(&str, &str, &str, &str, &str); 22] = [
+static REPORTS: [(&str, &str, &str, &str, &str); 26] = [
     (COLD, PARTED, COLD_HEAD, PARTED_TOLD, TWO),
     (WARM, ONE, WARM_HEAD, ONE_TOLD, "certified 1 cubes\n"),
     (COLD, PARTED, PLAIN, "", "certified 0 cubes\n"),
@@ -69,6 +82,36 @@ static REPORTS: [(&str, &str, &str, &str, &str); 22] = [
         "refused K1 10:1\n",
     ),
     (COLD, PARTED, PLAIN, PARTED_TOLD, "refused K1 10:1\n"),
+    // a cell and a port of the name `falling`, and a cell that falls
+    (
+        COLD,
+        PARTED,
+        FALLS,
+        "scanned falling falling chain 0 place 0 falling\n",
+        "certified 0 cubes\n",
+    ),
+    // K1: another word; a word behind it; the word in another place
+    (
+        COLD,
+        PARTED,
+        FALLS,
+        "scanned f0 clk chain 0 place 0 rising\n",
+        "refused K1 4:1\n",
+    ),
+    (
+        COLD,
+        PARTED,
+        FALLS,
+        "scanned f0 clk chain 0 place 0 falling falling\n",
+        "refused K1 4:1\n",
+    ),
+    (
+        COLD,
+        PARTED,
+        FALLS,
+        "scanned f0 clk falling chain 0 place 0\n",
+        "refused K1 4:1\n",
+    ),
     // K2: other variables; variables out of order; another bit; no care bit; a cell twice
     (
         COLD,
@@ -201,9 +244,9 @@ fn certificates_are_tested_line_by_line(rt: HostRuntime) -> Result<(), Fail> {
 }
 
 // Compiles, and tests the report that was saved.
-fn certifies(alloc: Global, files: &mut MemoryFiles) -> Result<(), Unlike> {
+fn certifies(alloc: Global, files: &mut MemoryFiles, report: (&str, &str)) -> Result<(), Unlike> {
     ran(alloc, COMPILE, files, None)?;
-    holds(alloc, files, "r", COLD_HEAD, PARTED_TOLD)?;
+    holds(alloc, files, "r", report.0, report.1)?;
     prints(alloc, CERTIFY, files, Status::Done, TWO)
 }
 
@@ -211,7 +254,15 @@ fn certifies(alloc: Global, files: &mut MemoryFiles) -> Result<(), Unlike> {
 fn a_report_that_was_saved_is_certified(rt: HostRuntime) -> Result<(), Fail> {
     let held = [("n", FIVE, ""), ("c", COLD, PAIR), ("p", PARTED, "")];
     let mut files = shelf(rt.alloc(), &held, None)?;
-    certifies(rt.alloc(), &mut files)?;
+    certifies(rt.alloc(), &mut files, (COLD_HEAD, PARTED_TOLD))?;
+    Ok(())
+}
+
+#[test]
+fn sums_of_a_late_chain_are_certified(rt: HostRuntime) -> Result<(), Fail> {
+    let held = [("n", FIRST_FALLS, ""), ("c", COLD, PAIR), ("p", LATE, "")];
+    let mut files = shelf(rt.alloc(), &held, None)?;
+    certifies(rt.alloc(), &mut files, (LATE_HEAD, LATE_TOLD))?;
     Ok(())
 }
 

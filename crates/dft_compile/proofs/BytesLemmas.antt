@@ -18,6 +18,7 @@ use Rattle.dft_stitch.specs.Chains.{plan_of}
 use Rattle.dft_stitch.specs.Limits.{refusal}
 use Rattle.dft_cubes.specs.declared.cube.Merged.{Merged}
 use Rattle.dft_expect.specs.Captures.{bits_out, output_bits}
+use Rattle.dft_expect.proofs.VectorLemmas.{outputs_count}
 use Rattle.dft_patterns.specs.declared.notes.Note.{Note}
 use Rattle.dft_patterns.specs.declared.notes.NoteKind.TheVariants.{SetUp, Unload}
 use Rattle.dft_patterns.specs.Steadiness.{HaveLength}
@@ -164,7 +165,7 @@ notes_before cycles (suc patterns) some =
 -- a pattern captures a value for each bit of the design's outputs
 outputs_fit : (n : Netlist) (config : Config) (rows : LoadRows) (merged : List Merged) (list : List PatternData) → ArePatterns n config (plan_of n config) rows merged list → All (λ p. length p.response.outputs ≡ length (output_bits n.ports)) list
 outputs_fit n config rows merged list are =
-    λ k d less. (let captured = (are.each k _ (slice_get-get_or list k d less)).captured in ap length captured.outputs ∙ length-map (output_bits n.ports) (λ (net : NetId). captured.values net.0))
+    λ k d less. outputs_count n config (plan_of n config).chains _ _ _ (are.each k _ (slice_get-get_or list k d less)).captured
 
 pub list_count : (n : Netlist) (config : Config) (rows : LoadRows) (merged : List Merged) (list : List PatternData) → ArePatterns n config (plan_of n config) rows merged list → length list ≡ length merged
 list_count n config rows merged list are = sym (length-map list merged_of) ∙ ap length are.merged

@@ -21,7 +21,7 @@ use Rattle.dft_rules.specs.declared.judged.Judged.TheVariants.{Scanned, Unscanne
 use Rattle.dft_rules.specs.Refusals as rules
 use Rattle.dft_rules.specs.Refusals.{is_scanned}
 use Rattle.dft_rules.specs.Rules.{judgements}
-use Rattle.dft_stitch.specs.Chains.{domain_of, plan_of}
+use Rattle.dft_stitch.specs.Chains.{clock_of, domain_of, is_falling, plan_of}
 use Rattle.dft_stitch.specs.Limits.{refusal}
 use Rattle.dft_cubes.specs.declared.cube.Cube.{Cube}
 use Rattle.dft_cubes.specs.declared.cube.Merged.{Merged}
@@ -89,10 +89,10 @@ domain_named domains (Some d) named = any_name (slice_get domains d) (named d)
 
 -- ---- flip-flops
 
-scanned_readable : (chain place : ℕ) (name domain : Option Text) (line : ScannedLine) → IsSmall chain → IsSmall place → IsNameIfAny name → IsNameIfAny domain → scanned_as chain place name domain ≡ Some line → IsScannedReadable line
-scanned_readable chain place (Some name) (Some domain) line c p n d is = subst IsScannedReadable (same_Some _ line is) (n, d, c, p)
-scanned_readable chain place (Some name) None line c p n d is = absurd (none-some line is)
-scanned_readable chain place None domain line c p n d is = absurd (none-some line is)
+scanned_readable : (chain place : ℕ) (falling : Bool) (name domain : Option Text) (line : ScannedLine) → IsSmall chain → IsSmall place → IsNameIfAny name → IsNameIfAny domain → scanned_as chain place falling name domain ≡ Some line → IsScannedReadable line
+scanned_readable chain place falling (Some name) (Some domain) line c p n d is = subst IsScannedReadable (same_Some _ line is) (n, d, c, p)
+scanned_readable chain place falling (Some name) None line c p n d is = absurd (none-some line is)
+scanned_readable chain place falling None domain line c p n d is = absurd (none-some line is)
 
 unscanned_readable : (name : Option Text) (verdict : Option Judged) (line : UnscannedLine) → IsNameIfAny name → unscanned_as name verdict ≡ Some line → IsUnscannedReadable line
 unscanned_readable (Some name) (Some (Unscanned rule)) line n is = subst IsUnscannedReadable (same_Some _ line is) n
@@ -105,7 +105,7 @@ module _ (n : Netlist) (config : Config) (verdicts : List (Option Judged)) (inst
   chain_readable chain place [] small few = tt
   chain_readable chain place (cell ∷ cells) small few =
       each_more IsScannedReadable (scanned_line n config verdicts chain place cell) (filter_map (λ at. scanned_line n config verdicts chain at.0 at.1) (enumerate_from (place + 1) cells))
-      (λ line is. scanned_readable chain place (name_of n cell.0) (domain_name config verdicts cell) line small (omega (arith, few)) (instance_named n.instances cell.0 instances)
+      (λ line is. scanned_readable chain place (is_falling (clock_of verdicts cell)) (name_of n cell.0) (domain_name config verdicts cell) line small (omega (arith, few)) (instance_named n.instances cell.0 instances)
       (domain_named config.domains (domain_of verdicts cell) domains) is)
       (chain_readable chain (place + 1) cells small (omega (arith, few)))
 

@@ -1,8 +1,7 @@
 -- All compared bits of listed vectors agree with their rounds.
 use Rattle.std.proofs.Common.{ℕ, suc, ◌+◌, ◌≡◌, Bool, List, [], ◌∷◌, ◌++◌, length, Option, None, Some, refl, sym, ap, subst, arith, ◌∙◌}
-use Rattle.std.proofs.lemmas.List.{append_assoc, length-map}
+use Rattle.std.proofs.lemmas.List.{append_assoc}
 use Rattle.dft_base.specs.declared.tri.Tri.{Tri}
-use Rattle.dft_netlist.specs.declared.ids.NetId.{NetId}
 use Rattle.dft_netlist.specs.Logic.{Logic, Ports}
 use Rattle.dft_netlist.specs.Netlist.{Netlist}
 use Rattle.dft_netlist.specs.Runs.{Vector}
@@ -12,6 +11,7 @@ use Rattle.dft_config.specs.Ring.{Table}
 use Rattle.dft_runs.specs.Passes.{AreRounds, after_rounds}
 use Rattle.dft_stitch.specs.Chains.{plan_of}
 use Rattle.dft_expect.specs.Captures.{output_bits}
+use Rattle.dft_expect.proofs.VectorLemmas.{outputs_count}
 use Rattle.dft_patterns.specs.declared.act.Act.{Act}
 use Rattle.dft_scan_frame.specs.Statements.{IsReady}
 use Rattle.dft_scan_hardware.specs.declared.style.Style.TheVariants.{Edt}
@@ -49,7 +49,7 @@ load_agrees n config table masks before rs count h =
 
 -- a capture knows as many values as there are output bits
 pub outputs_width : (n : Netlist) (config : Config) (p : PatternData) → IsPattern n config (pattern_of config p) → length p.response.outputs ≡ length (output_bits n.ports)
-outputs_width n config p is = ap (λ (ts : List Tri). length ts) is.captured.outputs ∙ length-map (output_bits n.ports) (λ (net : NetId). is.captured.values net.0)
+outputs_width n config p is = outputs_count n config (plan_of n config).chains _ _ _ is.captured
 
 -- ---- patterns
 

@@ -4,6 +4,8 @@
 #[cfg(test)]
 mod cases;
 #[cfg(test)]
+mod falling;
+#[cfg(test)]
 mod faults;
 #[cfg(test)]
 mod many;

@@ -76,7 +76,7 @@ V { ins = P01P000; outs = XLL; }
 }
 ";
 
-const REPLAYED: &str = "pass 18 vectors 22 compared\n";
+pub(crate) const REPLAYED: &str = "pass 18 vectors 22 compared\n";
 
 // The same design, where nothing is known of what comes to the first flip-flop: chain 0 is masked in both patterns.
 const LATCHED: &str =

@@ -23,7 +23,7 @@ const KEPT: &str = "version = 1\ndomains = ['clk']\nkeep = ['f4']\nwarm = 2\nwin
 
 // The chain is f0 f2 f1 f3, with a lock-up between f2 and f1; the variables of f0 are those of cycles 1, 3 and 5, of f2 0, 2
 // and 4, of f1 1 and 3, of f3 0 and 2.
-const ON_BOTH: &str = "version = 1\ndomains = ['ca', 'cb']\nwarm = 4\nwindow = 4\n";
+pub(crate) const ON_BOTH: &str = "version = 1\ndomains = ['ca', 'cb']\nwarm = 4\nwindow = 4\n";
 
 pub(crate) const THREE_CHAINS: &str =
     "chains = 3\nring = { stages = 4, channels = 1, taps = [[2, 0]], injectors = [[0, 3]], phase = [[0], [1], [2]] }\ncompactor = { groups = [[0, 1, 2]], mask_inputs = 1 }\n";
@@ -33,7 +33,7 @@ const TWO_CHANNELS: &str =
     "chains = 2\nring = { stages = 4, channels = 2, taps = [[2, 0]], injectors = [[0, 3], [1, 1]], phase = [[0, 3], [0, 3]] }\ncompactor = { groups = [[0, 1], [1]], mask_inputs = 1 }\n";
 
 // One chain for both domains.
-const ONE_CHAIN: &str =
+pub(crate) const ONE_CHAIN: &str =
     "chains = 1\nring = { stages = 2, channels = 1, taps = [], injectors = [[0, 1]], phase = [[0]] }\ncompactor = { groups = [[0]], mask_inputs = 1 }\n";
 
 // ---- cubes

@@ -2,6 +2,7 @@ pub mod Sweepings
 pub mod RoundLemmas
 pub mod NextLemmas
 pub mod Risings
+pub mod SearchLemmas
 pub mod MachineLemmas
 pub mod MachineRounds
 pub mod AloneLemmas

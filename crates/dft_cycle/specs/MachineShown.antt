@@ -5,7 +5,7 @@ use Rattle.dft_netlist.specs.Logic.{IsRising}
 use Rattle.dft_cycle.specs.declared.machine.AbstractMachine.TheInside.{Inside}
 use Rattle.dft_cycle.specs.Machine.{Machine, logic, is_one_of, value_at}
 use Rattle.dft_logic.specs.Circuit.{logic_at, flag_at, IsCircuit, IsReady}
-use Rattle.dft_cycle.specs.Views.{OwnsLatches}
+use Rattle.dft_cycle.specs.Views.{OwnsLatches, IsSearch}
 use Rattle.dft_cycle.specs.Plans.{ArePlans, LooseAreUnknown}
 use Rattle.dft_cycle.specs.Looks.{AreLooks}
 
@@ -26,9 +26,7 @@ pub record IsMachine (d : Inside) : Type 0 where
   pub shown : length d.shown.items ≡ length d.circuit.ops.items
   pub values : length d.values.items ≡ length d.circuit.ops.items
   pub cells : length d.cells.items ≡ length d.circuit.flops.items
-  pub poss : length d.poss.items ≡ length d.circuit.flops.items
-  pub next : length d.next.items ≡ length d.circuit.flops.items
-  pub held : length d.held.items ≡ length d.circuit.flops.items
+  pub search : IsSearch d.circuit d.search
   pub marked : length d.marked.items ≡ length d.circuit.ops.items
   pub clear : (k : ℕ) → flag_at d.marked.items k ≡ false
   pub ready : IsReady d.circuit d.values.items

@@ -8,6 +8,7 @@ use Rattle.dft_netlist.specs.Drivers.{Source}
 use Rattle.dft_netlist.specs.Logic.{Logic, Lockup, Cell}
 use Rattle.dft_netlist.specs.Settled.{value_from}
 use Rattle.dft_logic.specs.declared.circuit.Circuit.{Circuit}
+use Rattle.dft_cycle.specs.declared.phases.Search.{Search}
 use Rattle.dft_abstract.specs.Cycle.{next_value, changes, IsClosed}
 use Rattle.dft_abstract.specs.Cycle as Cycle
 use Rattle.dft_logic.specs.Values.{value_at}
@@ -71,6 +72,12 @@ StaysBelow l p poss raised =
 abbrev pub AreNext : Logic → Cycle.Pulse → (view : ℕ → ℕ → Tri) → (poss next : List Tri) → Type 0
 AreNext l p view poss next =
     (c : ℕ) → changes l p c ≡ true → (value_at next c ≡ next_value l p view c) × AboveTri (value_at poss c) (next_value l p view c)
+
+-- the search has an entry for each flip-flop
+pub record IsSearch (x : Circuit) (search : Search) : Type 0 where
+  pub poss : length search.poss.items ≡ length x.flops.items
+  pub held : length search.held.items ≡ length x.flops.items
+  pub next : length search.next.items ≡ length x.flops.items
 
 -- one domain pulses at most, and there is no lock-up
 pub record IsAlone (l : Logic) (pulsed : ℕ → Bool) : Type 0 where

@@ -33,12 +33,11 @@ impl Looks {
         self.noted = place;
     }
 
-    // Reads the values of nets at a strobe by a look at them, if there is one; it is made if the nets were asked for
+    // Reads the values of a strobe's nets by a look at them, if there is one; it is made if the nets were asked for
     // before. Where there is none, one is noted. Whether they were read.
     pub(crate) fn read(
         &mut self,
         strobe: Strobe<'_>,
-        nets: &[NetId],
         values: &mut [Tri],
         marked: &mut [bool],
         row: &mut [Tri],
@@ -48,19 +47,19 @@ impl Looks {
         requires values { length values.old ≡ length strobe.circuit.now.ops.items }
         requires marked { length marked.old ≡ length strobe.circuit.now.ops.items }
         requires clear { (k : ℕ) → is_up marked.old k ≡ false }
-        requires row { length row.old ≡ length nets.now }
+        requires row { length row.old ≡ length strobe.nets.now }
         ensures looks { AreLooks strobe.entry.circuit.now self.new }
         ensures clear { (k : ℕ) → is_up marked.new k ≡ false }
-        ensures seen { result ≡ true → AreSeen (logic_at strobe.entry.circuit.now) (spec.value_at strobe.entry.ports.now) (spec.value_at strobe.entry.cells.now) nets.now row.new }
+        ensures seen { result ≡ true → AreSeen (logic_at strobe.entry.circuit.now) (spec.value_at strobe.entry.ports.now) (spec.value_at strobe.entry.cells.now) strobe.entry.nets.now row.new }
     {
-        match find_look(&self.looks, nets) {
+        match find_look(&self.looks, strobe.nets) {
             Some(place) => {
                 self.taken = place;
                 self.looks[place].see(strobe, values, marked, row);
                 true
             }
             None => {
-                self.note(strobe.circuit, nets);
+                self.note(strobe.circuit, strobe.nets);
                 false
             }
         }

@@ -9,7 +9,7 @@ ghost use Rattle.dft_logic.specs.Needs.{AreSeen};
 ghost use Rattle.dft_logic.specs.Circuit.{cell_of, cell_at, force_at, IsCircuit, flag_at as is_up};
 
 use crate::looking::Looks;
-use crate::phases::{Phase, Strobe};
+use crate::phases::{Phase, Search, Strobe};
 use crate::planning::Plans;
 use crate::rounds::find_least;
 use crate::sweeping::settle_again;
@@ -35,9 +35,7 @@ pub struct AbstractMachine<'a> {
     shown: Vec<Tri>,
     pulsed: Vec<bool>,
     values: Vec<Tri>,
-    poss: Vec<Tri>,
-    next: Vec<Tri>,
-    held: Vec<Tri>,
+    search: Search,
     marked: Vec<bool>,
     quick: Vec<Tri>,
     plans: Plans,
@@ -78,8 +76,8 @@ impl<'a> AbstractMachine<'a> {
         let mut values = unknown(alloc, nets)?;
         let bits = unknown(alloc, cells)?;
         let poss = unknown(alloc, cells)?;
-        let next = unknown(alloc, cells)?;
         let held = unknown(alloc, cells)?;
+        let next = unknown(alloc, cells)?;
         let mut marked = lowered(alloc, nets)?;
         let quick = unknown(alloc, nets)?;
         let looks = Looks::prepare(alloc, &circuit)?;
@@ -102,9 +100,7 @@ impl<'a> AbstractMachine<'a> {
             shown,
             pulsed,
             values,
-            poss,
-            next,
-            held,
+            search: Search { poss, held, next },
             marked,
             quick,
             plans,
@@ -165,10 +161,11 @@ impl<'a> AbstractMachine<'a> {
             circuit: &self.circuit,
             ports: &self.inputs,
             cells: &self.cells,
+            nets,
         };
         let read = self
             .looks
-            .read(strobe, nets, &mut self.quick, &mut self.marked, values);
+            .read(strobe, &mut self.quick, &mut self.marked, values);
         if !read {
             self.look_at_all(nets, values);
         }
@@ -222,11 +219,14 @@ impl<'a> AbstractMachine<'a> {
             clocks: &self.clocks,
             pulse,
         };
-        let taken = self
-            .plans
-            .take(phase, &mut self.quick, &mut self.marked, &mut self.next);
+        let taken = self.plans.take(
+            phase,
+            &mut self.quick,
+            &mut self.marked,
+            &mut self.search.next,
+        );
         if taken {
-            self.cells.as_mut_slice().copy_from_slice(&self.next);
+            self.cells.as_mut_slice().copy_from_slice(&self.search.next);
         } else {
             self.phase_by_views(rising, pulsed);
         }
@@ -248,7 +248,7 @@ impl<'a> AbstractMachine<'a> {
         ensures { IsPhase (logic self.old) self.old rising pulsed.now self.new }
     {
         mark(&self.clocks, pulsed, &mut self.pulsed);
-        self.poss.as_mut_slice().copy_from_slice(&self.cells);
+        self.search.poss.as_mut_slice().copy_from_slice(&self.cells);
         let pulse = Pulse {
             rising,
             ports: &self.inputs,
@@ -260,19 +260,12 @@ impl<'a> AbstractMachine<'a> {
             clocks: &self.clocks,
             pulse,
         };
-        find_least(
-            phase,
-            &mut self.poss,
-            &mut self.held,
-            &mut self.values,
-            &mut self.marked,
-            &mut self.next,
-        );
+        find_least(phase, &mut self.search, &mut self.values, &mut self.marked);
         take(
             &self.circuit.flops,
             rising,
             &self.pulsed,
-            &self.next,
+            &self.search.next,
             &mut self.cells,
         );
     }

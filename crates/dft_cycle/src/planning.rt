@@ -7,7 +7,7 @@ ghost use Rattle.dft_cycle.specs.Views.{PulsesAmong};
 ghost use Rattle.dft_cycle.specs.Plans.{ArePlans, LooseAreUnknown, IsPassed};
 
 use crate::phases::Phase;
-use crate::plans::{Pins, Plan, Sketch, Stage};
+use crate::plans::{Pins, Plan, Sketch, Stage, draw};
 use dft_base::Tri;
 use dft_logic::{Pulse, settle_list};
 use dft_netlist::NetId;
@@ -73,7 +73,7 @@ impl Plans {
         self.noted = place;
     }
 
-    // Makes the plan at a place for a phase.
+    // Makes the plan at a place for a phase, if all flip-flops take what is still.
     fn make(&mut self, phase: Phase<'_>, place: usize, values: &mut [Tri], marked: &mut [bool])
         requires circuit { IsCircuit phase.circuit.now }
         requires plans { ArePlans phase.circuit.now phase.clocks.now self.old }
@@ -87,7 +87,13 @@ impl Plans {
         ensures count { length self.new.plans.items ≡ length self.old.plans.items }
         ensures clear { (k : ℕ) → is_up marked.new k ≡ false }
     {
-        self.plans[place].make(phase, &self.pins, &mut self.sketch, values, marked);
+        let plan = &mut self.plans[place];
+        if draw(phase, &mut self.sketch, values) {
+            plan.fill(phase.circuit, &self.sketch.entries, marked);
+            plan.note(phase, &self.pins, values, Stage::Made);
+        } else {
+            plan.stage = Stage::Barred;
+        }
     }
 
     // The place of the plan for a phase, which is made if the phase came before. Where there is none, one is noted.

@@ -145,7 +145,7 @@ pub(crate) struct Sketch {
 }
 
 // Settles all nets before the edges of a phase, and finds what flip-flops take. Whether all take what is still.
-fn draw(phase: Phase<'_>, sketch: &mut Sketch, values: &mut [Tri]) -> bool
+pub(crate) fn draw(phase: Phase<'_>, sketch: &mut Sketch, values: &mut [Tri]) -> bool
     requires circuit { IsCircuit phase.circuit.now }
     requires sketch { IsSketch phase.circuit.now sketch.old }
     requires values { length values.old ≡ length phase.circuit.now.ops.items }
@@ -202,7 +202,7 @@ impl Plan {
     }
 
     // Lists what is settled and taken where flip-flops have these entries. All marks are lowered after it.
-    fn fill(&mut self, circuit: &Circuit, entries: &[Entry], marked: &mut [bool])
+    pub(crate) fn fill(&mut self, circuit: &Circuit, entries: &[Entry], marked: &mut [bool])
         requires circuit { IsCircuit circuit.now }
         requires entries { length entries.now ≡ length circuit.now.flops.items }
         requires marked { length marked.old ≡ length circuit.now.ops.items }
@@ -214,35 +214,6 @@ impl Plan {
         self.count = list_needs(circuit, entries, marked, &mut self.list);
         list_takings(&circuit.flops, entries, &mut self.takings);
         lower(marked);
-    }
-
-    // Makes it for a pulse, if all flip-flops take what is still.
-    pub(crate) fn make(
-        &mut self,
-        phase: Phase<'_>,
-        pins: &Pins,
-        sketch: &mut Sketch,
-        values: &mut [Tri],
-        marked: &mut [bool],
-    )
-        requires circuit { IsCircuit phase.circuit.now }
-        requires among { PulsesAmong phase.pulse.pulsed.now phase.clocks.now }
-        requires ports { length phase.pulse.ports.now ≡ length phase.circuit.now.ops.items }
-        requires sketch { IsSketch phase.circuit.now sketch.old }
-        requires values { length values.old ≡ length phase.circuit.now.ops.items }
-        requires marked { length marked.old ≡ length phase.circuit.now.ops.items }
-        requires clear { (k : ℕ) → is_up marked.old k ≡ false }
-        requires plan { IsPlan phase.circuit.now phase.clocks.now pins.now self.old }
-        ensures plan { IsPlan phase.entry.circuit.now phase.entry.clocks.now pins.now self.new }
-        ensures sketch { IsSketch phase.entry.circuit.now sketch.new }
-        ensures clear { (k : ℕ) → is_up marked.new k ≡ false }
-    {
-        if draw(phase, sketch, values) {
-            self.fill(phase.circuit, &sketch.entries, marked);
-            self.note(phase, pins, values, Stage::Made);
-        } else {
-            self.stage = Stage::Barred;
-        }
     }
 
     // Finds the values of flip-flops after a phase by it, if it is made and the phase is the one that it is for. Whether

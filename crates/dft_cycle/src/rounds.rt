@@ -8,10 +8,10 @@ ghost use Rattle.dft_abstract.specs.Cycle.{AreViews, IsLeast};
 ghost use Rattle.dft_cycle.specs.Machine.{AreNets};
 ghost use Rattle.dft_cycle.specs.Machine as spec;
 ghost use Rattle.dft_logic.specs.Circuit.{IsCircuit, IsReady, logic_at, cell_of, cell_at, flag_at as is_up, pulse_at};
-ghost use Rattle.dft_cycle.specs.Views.{IsHeld, OwnsLatches, PulsesAmong, HasNext, raised_by, is_known, StaysBelow, AreNext, IsAlone};
+ghost use Rattle.dft_cycle.specs.Views.{IsHeld, OwnsLatches, PulsesAmong, HasNext, raised_by, is_known, StaysBelow, AreNext, IsAlone, IsSearch};
 
 use crate::flops::{hold, take_next};
-use crate::phases::Phase;
+use crate::phases::{Phase, Search, Views};
 use crate::sweeping::{change_view, enter, settle_again};
 use dft_base::Tri;
 use dft_logic::{Circuit, FlipFlop, Latch, Pulse, View, differ, flag_at};
@@ -111,31 +111,25 @@ fn hold_lockups(
 }
 
 // The next values of the flip-flops of the pulsed domains, each in the view of its domain.
-fn next_values(
-    phase: Phase<'_>,
-    poss: &[Tri],
-    held: &[Tri],
-    values: &mut [Tri],
-    marked: &mut [bool],
-    next: &mut [Tri],
-)
-    requires circuit { IsCircuit phase.circuit.now }
-    requires values { length values.old ≡ length phase.circuit.now.ops.items }
-    requires marked { length marked.old ≡ length phase.circuit.now.ops.items }
-    requires live { AreNets (length phase.circuit.now.ops.items) phase.clocks.now }
-    requires next { length next.old ≡ length phase.circuit.now.flops.items }
+fn next_values(views: Views<'_>, values: &mut [Tri], marked: &mut [bool], next: &mut [Tri])
+    requires circuit { IsCircuit views.phase.circuit.now }
+    requires values { length values.old ≡ length views.phase.circuit.now.ops.items }
+    requires marked { length marked.old ≡ length views.phase.circuit.now.ops.items }
+    requires live { AreNets (length views.phase.circuit.now.ops.items) views.phase.clocks.now }
+    requires next { length next.old ≡ length views.phase.circuit.now.flops.items }
     requires clear { (k : ℕ) → is_up marked.old k ≡ false }
-    requires ready { IsReady phase.circuit.now values.old }
-    ensures next { (view : ℕ → ℕ → Tri) → AreViews (logic_at phase.entry.circuit.now) (pulse_at phase.entry.pulse) (spec.value_at poss.now) view → IsHeld phase.entry.circuit.now view held.now (length phase.entry.circuit.now.ops.items) → HasNext phase.entry.circuit.now (pulse_at phase.entry.pulse) view phase.entry.clocks.now (length phase.entry.clocks.now) next.new }
+    requires ready { IsReady views.phase.circuit.now values.old }
+    ensures next { (view : ℕ → ℕ → Tri) → AreViews (logic_at views.entry.phase.circuit.now) (pulse_at views.entry.phase.pulse) (spec.value_at views.entry.poss.now) view → IsHeld views.entry.phase.circuit.now view views.entry.held.now (length views.entry.phase.circuit.now.ops.items) → HasNext views.entry.phase.circuit.now (pulse_at views.entry.phase.pulse) view views.entry.phase.clocks.now (length views.entry.phase.clocks.now) next.new }
     ensures clear { (k : ℕ) → is_up marked.new k ≡ false }
-    ensures ready { IsReady phase.entry.circuit.now values.new }
+    ensures ready { IsReady views.entry.phase.circuit.now values.new }
 {
+    let phase = views.phase;
     let mut last = first(phase.clocks);
     let view = View {
         pulse: phase.pulse,
         domain: last,
-        poss,
-        held,
+        poss: views.poss,
+        held: views.held,
     };
     settle_again(phase.circuit, &view, values, marked);
     for clock in phase.clocks {
@@ -143,8 +137,8 @@ fn next_values(
             let view = View {
                 pulse: phase.pulse,
                 domain: *clock,
-                poss,
-                held,
+                poss: views.poss,
+                held: views.held,
             };
             enter(phase.circuit, &view, last, values, marked);
             last = *clock;
@@ -212,39 +206,41 @@ fn goes_on(changed: bool, alone: bool) -> bool
 fn turn(
     phase: Phase<'_>,
     alone: bool,
-    poss: &mut [Tri],
-    held: &mut [Tri],
+    search: &mut Search,
     values: &mut [Tri],
     marked: &mut [bool],
-    next: &mut [Tri],
 ) -> bool
     requires circuit { IsCircuit phase.circuit.now }
     requires owned { OwnsLatches phase.circuit.now phase.clocks.now }
     requires pulsing { PulsesAmong phase.pulse.pulsed.now phase.clocks.now }
     requires alone { alone ≡ true → IsAlone (logic_at phase.circuit.now) (is_up phase.pulse.pulsed.now) }
-    requires poss { length poss.old ≡ length phase.circuit.now.flops.items }
-    requires held { length held.old ≡ length phase.circuit.now.flops.items }
+    requires search { IsSearch phase.circuit.now search.old }
     requires values { length values.old ≡ length phase.circuit.now.ops.items }
     requires marked { length marked.old ≡ length phase.circuit.now.ops.items }
     requires live { AreNets (length phase.circuit.now.ops.items) phase.clocks.now }
-    requires next { length next.old ≡ length phase.circuit.now.flops.items }
     requires clear { (k : ℕ) → is_up marked.old k ≡ false }
     requires ready { IsReady phase.circuit.now values.old }
-    ensures above { (c : ℕ) → AboveTri (spec.value_at poss.new c) (spec.value_at poss.old c) }
-    ensures below { StaysBelow (logic_at phase.entry.circuit.now) (pulse_at phase.entry.pulse) poss.old poss.new }
-    ensures done { result ≡ false → (view : ℕ → ℕ → Tri) → AreViews (logic_at phase.entry.circuit.now) (pulse_at phase.entry.pulse) (spec.value_at poss.new) view → AreNext (logic_at phase.entry.circuit.now) (pulse_at phase.entry.pulse) view poss.new next.new }
-    ensures fewer { result ≡ true → count_by is_known poss.new < count_by is_known poss.old }
+    ensures search { IsSearch phase.entry.circuit.now search.new }
+    ensures above { (c : ℕ) → AboveTri (spec.value_at search.new.poss.items c) (spec.value_at search.old.poss.items c) }
+    ensures below { StaysBelow (logic_at phase.entry.circuit.now) (pulse_at phase.entry.pulse) search.old.poss.items search.new.poss.items }
+    ensures done { result ≡ false → (view : ℕ → ℕ → Tri) → AreViews (logic_at phase.entry.circuit.now) (pulse_at phase.entry.pulse) (spec.value_at search.new.poss.items) view → AreNext (logic_at phase.entry.circuit.now) (pulse_at phase.entry.pulse) view search.new.poss.items search.new.next.items }
+    ensures fewer { result ≡ true → count_by is_known search.new.poss.items < count_by is_known search.old.poss.items }
     ensures clear { (k : ℕ) → is_up marked.new k ≡ false }
     ensures ready { IsReady phase.entry.circuit.now values.new }
 {
-    hold_lockups(phase, poss, held, values, marked);
-    next_values(phase, poss, held, values, marked, next);
+    hold_lockups(phase, &search.poss, &mut search.held, values, marked);
+    let views = Views {
+        phase,
+        poss: &search.poss,
+        held: &search.held,
+    };
+    next_values(views, values, marked, &mut search.next);
     let changed = raise(
         &phase.circuit.flops,
         phase.pulse.rising,
         phase.pulse.pulsed,
-        next,
-        poss,
+        &search.next,
+        &mut search.poss,
     );
     goes_on(changed, alone)
 }
@@ -253,29 +249,26 @@ fn turn(
 // values.
 pub(crate) fn find_least(
     phase: Phase<'_>,
-    poss: &mut [Tri],
-    held: &mut [Tri],
+    search: &mut Search,
     values: &mut [Tri],
     marked: &mut [bool],
-    next: &mut [Tri],
 )
     requires circuit { IsCircuit phase.circuit.now }
     requires owned { OwnsLatches phase.circuit.now phase.clocks.now }
     requires pulsing { PulsesAmong phase.pulse.pulsed.now phase.clocks.now }
-    requires poss { poss.old ≡ phase.pulse.old.now }
-    requires cells { length poss.old ≡ length phase.circuit.now.flops.items }
-    requires held { length held.old ≡ length phase.circuit.now.flops.items }
+    requires search { IsSearch phase.circuit.now search.old }
+    requires begins { search.old.poss.items ≡ phase.pulse.old.now }
     requires values { length values.old ≡ length phase.circuit.now.ops.items }
     requires marked { length marked.old ≡ length phase.circuit.now.ops.items }
     requires live { AreNets (length phase.circuit.now.ops.items) phase.clocks.now }
-    requires next { length next.old ≡ length phase.circuit.now.flops.items }
     requires clear { (k : ℕ) → is_up marked.old k ≡ false }
     requires ready { IsReady phase.circuit.now values.old }
-    ensures least { (view : ℕ → ℕ → Tri) → AreViews (logic_at phase.entry.circuit.now) (pulse_at phase.entry.pulse) (spec.value_at poss.new) view → IsLeast (logic_at phase.entry.circuit.now) (pulse_at phase.entry.pulse) (spec.value_at poss.new) view }
-    ensures next { (view : ℕ → ℕ → Tri) → AreViews (logic_at phase.entry.circuit.now) (pulse_at phase.entry.pulse) (spec.value_at poss.new) view → AreNext (logic_at phase.entry.circuit.now) (pulse_at phase.entry.pulse) view poss.new next.new }
+    ensures search { IsSearch phase.entry.circuit.now search.new }
+    ensures least { (view : ℕ → ℕ → Tri) → AreViews (logic_at phase.entry.circuit.now) (pulse_at phase.entry.pulse) (spec.value_at search.new.poss.items) view → IsLeast (logic_at phase.entry.circuit.now) (pulse_at phase.entry.pulse) (spec.value_at search.new.poss.items) view }
+    ensures next { (view : ℕ → ℕ → Tri) → AreViews (logic_at phase.entry.circuit.now) (pulse_at phase.entry.pulse) (spec.value_at search.new.poss.items) view → AreNext (logic_at phase.entry.circuit.now) (pulse_at phase.entry.pulse) view search.new.poss.items search.new.next.items }
     ensures clear { (k : ℕ) → is_up marked.new k ≡ false }
     ensures ready { IsReady phase.entry.circuit.now values.new }
 {
     let alone = is_alone(phase.circuit, phase.pulse.pulsed, phase.clocks);
-    while turn(phase, alone, poss, held, values, marked, next) {}
+    while turn(phase, alone, search, values, marked) {}
 }

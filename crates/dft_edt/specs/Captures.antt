@@ -1,12 +1,13 @@
 -- What the original's strobe and capture know stands above the abstract cycle of a design that contains it.
-use Rattle.std.specs.Prelude.{ℕ, ◌<◌, ◌≡◌, ◌==◌, ◌⊎◌, Bool, true, false}
+use Rattle.std.specs.Prelude.{ℕ, ◌<◌, ◌≡◌, ◌==◌, ◌&&◌, ◌⊎◌, Bool, true, false, List, [], ◌∷◌, if◌then◌else◌}
 use Rattle.dft_base.specs.declared.tri.Tri.{Tri}
 use Rattle.dft_base.specs.declared.tri.Tri.TheVariants.{Zero}
 use Rattle.dft_base.specs.Tri.{AboveTri}
-use Rattle.dft_netlist.specs.Drivers.{Source, AreBelow}
-use Rattle.dft_netlist.specs.Logic.{Logic, Input, Flop, Lockup, Free, reads, IsRanked}
+use Rattle.dft_cells.specs.declared.kind.Kind.{Kind}
+use Rattle.dft_netlist.specs.Drivers.{Source, nets_of, AreBelow}
+use Rattle.dft_netlist.specs.Logic.{Logic, Input, Clock, Gate, Joined, Flop, Lockup, Free, reads, IsRanked}
 use Rattle.dft_netlist.specs.Settled.{IsTriSettled}
-use Rattle.dft_netlist.specs.Runs.{Vector}
+use Rattle.dft_netlist.specs.Runs.{Vector, takes}
 use Rattle.dft_abstract.specs.Cycle.{rise_of, strobe_sources, Halves, AreHalves, after_halves}
 use Rattle.dft_abstract.specs.Laws.{next_from}
 use Rattle.dft_runs.specs.WiderPorts.{MeansMore}
@@ -50,11 +51,34 @@ pub record IsCapture (p : Places) (d : ℕ) (x : Vector) : Type 0 where
   pub alone : (e : ℕ) → x.pulsed (p.moved e) ≡ true → e ≡ d
   pub off : x.ports p.enable ≡ Zero
 
--- A flip-flop of the capture domain that takes its bit at a rise takes no more than the original's next value from the values of its strobe; one of another domain keeps what it had.
+-- ---- captures
+
+abbrev pub AllIn : (free : ℕ → Bool) → List ℕ → Type 0
+AllIn free [] = Unit {0}
+AllIn free (net ∷ nets) = (free net ≡ true) × AllIn free nets
+
+-- nets that no clock reaches: none is a clock port, and gates and joins among them read such nets alone
+pub record IsClockFree (l : Logic) (free : ℕ → Bool) : Type 0 where
+  pub clocks : (net : ℕ) → free net ≡ true → l.net net ≡ Clock → ⊥
+  pub gates : (net : ℕ) (kind : Kind) (inputs : List Source) → free net ≡ true → l.net net ≡ Gate kind inputs → AllIn free (nets_of inputs)
+  pub joins : (net : ℕ) (source : Source) → free net ≡ true → l.net net ≡ Joined source → AllIn free (nets_of (source ∷ []))
+
+-- the flip-flops' values after an edge of a domain's clock: those that take a bit there have their next values, from these values of nets
+abbrev pub after_edge : Logic → Vector → (domain : ℕ) → (rising : Bool) → (values old : ℕ → Tri) → (cell : ℕ) → Tri
+after_edge l y d rising values old c = if ((l.cell c).domain == d) && takes rising (l.cell c).falling then next_from l y values c else old c
+
+-- What a capture of a domain knows of the original: the values that are settled before its clock rises, and those that are settled before it falls,
+-- where no more is known of the flip-flops than what they have once it has risen. Clocks are 0 in both.
+pub record IsCaptured (l : Logic) (d : ℕ) (y : Vector) (its risen values later : ℕ → Tri) : Type 0 where
+  pub first : IsTriSettled l (strobe_sources l y its values) values
+  pub above : (cell : ℕ) → AboveTri (risen cell) (after_edge l y d true values its cell)
+  pub second : IsTriSettled l (strobe_sources l y risen later) later
+
+-- After a capture vector, whatever the halves: a rising flip-flop of the domain has no more than its next value from the values before the rise, a
+-- falling one whose D no clock reaches no more than its next value from those before the fall, and another one no more than what it had.
 abbrev pub CaptureLaw : Type 0
 CaptureLaw =
-    (original written : Logic) (rank : ℕ → ℕ) (p : Places) (d : ℕ) (y x : Vector) (its old : ℕ → Tri) (h : Halves) (values : ℕ → Tri) →
-    IsRanked original rank → Covers original written p → IsCapture p d x → StandsOver p y x its old → IsTriSettled original (strobe_sources original y its values) values →
-    AreHalves written x old h → (cell : ℕ) → p.is_flop cell ≡ true → (original.cell cell).falling ≡ false →
-    ((original.cell cell).domain ≡ d → AboveTri (next_from original y values cell) (after_halves written x old h cell))
-    × (((original.cell cell).domain == d) ≡ false → AboveTri ((rise_of original y its).old cell) (after_halves written x old h cell))
+    (original written : Logic) (rank : ℕ → ℕ) (p : Places) (d : ℕ) (y x : Vector) (its risen old : ℕ → Tri) (h : Halves) (values later : ℕ → Tri) (free : ℕ → Bool) →
+    IsRanked original rank → Covers original written p → IsClockFree original free → IsCapture p d x → StandsOver p y x its old → IsCaptured original d y its risen values later →
+    AreHalves written x old h → (cell : ℕ) → p.is_flop cell ≡ true → ((original.cell cell).falling ≡ true → AllIn free (nets_of ((original.cell cell).input ∷ []))) →
+    AboveTri (after_edge original y d false later (after_edge original y d true values (rise_of original y its).old) cell) (after_halves written x old h cell)

@@ -20,9 +20,9 @@ use Rattle.dft_stitch.specs.Plans.{Plan, falling_head}
 use Rattle.dft_cubes.specs.declared.cube.Merged.{Merged}
 use Rattle.dft_expect.specs.declared.pattern.Pattern.{Pattern}
 use Rattle.dft_expect.specs.declared.response.Response.{Response}
-use Rattle.dft_expect.specs.Captures.{IsCapture, captured_value}
+use Rattle.dft_expect.specs.Captures.{IsCapture, capture_vectors, last_state, original}
 use Rattle.dft_expect.specs.Capturing.{AreCaptures, Captures}
-use Rattle.dft_expect.specs.Loaded.{all_cells, loaded_of, table_of}
+use Rattle.dft_expect.specs.Loaded.{all_cells, loaded_of, loaded_values, table_of}
 use Rattle.dft_expect.specs.Masks.{by_chain, is_masked, masks_of}
 use Rattle.dft_merge.specs.Fills.{fill_of}
 use Rattle.dft_merge.specs.LoadPlan.{LoadPlan}
@@ -106,7 +106,7 @@ pattern_there patterns read number merged same less is = item_at patterns number
 
 -- there is a captured value for each cell
 pub captured_count : (n : Netlist) (config : Config) (chains : List (List InstanceId)) (merged : Merged) (loaded : List Bool) (r : Response) → IsCapture n config chains merged loaded r → length r.cells ≡ length (all_cells chains)
-captured_count n config chains merged loaded r h = ap length h.cells ∙ length-map (all_cells chains) (λ (cell : InstanceId). captured_value n config chains merged loaded h.values cell.0)
+captured_count n config chains merged loaded r h = ap length h.cells ∙ length-map (all_cells chains) (λ (cell : InstanceId). last_state (original n config) chains (capture_vectors n config merged) (loaded_values chains loaded) h.settled cell.0)
 
 -- there is a word for each chain whether it is always masked
 pub always_count : (f : Finder) → IsFinder f → length f.always.now ≡ length f.loads.now.plan.chains

@@ -33,12 +33,7 @@ fn fill_all(finder: &Finder<'_>, list: &mut VectorList<'_>) -> Result<Filled, Al
     ensures { IfOk result (λ filled. HasPatterns finder.now (length finder.now.merger.now.patterns) filled list.new) }
 {
     let loads = finder.loads;
-    let mut capturer = Capturer::prepare(
-        finder.alloc,
-        loads.design(),
-        loads.config(),
-        loads.chains(),
-    )?;
+    let mut capturer = Capturer::prepare(finder.alloc, loads.planned())?;
     fill(finder, &mut capturer, list)
 }
 
@@ -64,7 +59,7 @@ fn patterns(finder: &Finder<'_>, written: &Design) -> Result<Encoded, AllocError
     ensures { IfOk result (IsEncoded written.now finder.now.loads.now.design finder.now.loads.now.config finder.now.loads.now.plan finder.now.merger.now.loads.rows finder.now.merger.now.patterns) }
 {
     let loads = finder.loads;
-    let mut list = VectorList::new(finder.alloc, loads.design(), loads.config(), loads.chains())?;
+    let mut list = VectorList::new(finder.alloc, loads.planned())?;
     let filled = fill_all(finder, &mut list)?;
     Ok(Encoded {
         set: finished(list, written, &filled.last)?,

@@ -1,24 +1,30 @@
 -- A capture is one, and stands above what more is known of.
-use Rattle.std.proofs.Common.{ℕ, zero, suc, Bool, List, ◌≡◌, ◌<◌, ◌⊎◌, inl, inr, refl, sym, subst, ap, arith, map, ◌∙◌}
-use Rattle.std.specs.Prelude.{if◌then◌else◌}
+use Rattle.std.proofs.Common.{ℕ, zero, suc, Bool, true, false, ◌&&◌, List, [], ◌∷◌, ◌≡◌, ◌<◌, ◌⊎◌, inl, inr, refl, sym, subst, ap, arith, map, slice_get, Some, ◌∙◌}
+use Rattle.std.specs.Prelude.{if◌then◌else◌, flat_map}
 use Rattle.dft_base.specs.declared.tri.Tri.{Tri}
 use Rattle.dft_base.specs.Tri.{AboveTri}
-use Rattle.dft_netlist.specs.declared.ids.NetId.{NetId}
 use Rattle.dft_netlist.specs.declared.ids.InstanceId.{InstanceId}
 use Rattle.dft_netlist.specs.Netlist.{Netlist}
 use Rattle.dft_netlist.specs.Drivers.{IsOrdered}
 use Rattle.dft_netlist.specs.Logic.{Logic, Meaning, Free, IsRanked}
+use Rattle.dft_netlist.specs.Runs.{Vector}
 use Rattle.dft_netlist.specs.Settled.{TriSources, value_given, IsTriSettled}
 use Rattle.dft_netlist.proofs.Meanings.{source_same, meaning_monotone, at_nets}
+use Rattle.dft_netlist.proofs.RankLemmas.{order_ranks}
 use Rattle.dft_netlist.proofs.Ranks.{order_is_rank}
 use Rattle.dft_abstract.specs.Cycle.{strobe_sources, rise_of}
-use Rattle.dft_abstract.proofs.Views.{settled_same}
+use Rattle.dft_abstract.specs.Laws.{next_from}
+use Rattle.dft_abstract.proofs.Views.{settled_same, strobe_exists}
 use Rattle.dft_config.specs.Config.{Config}
+use Rattle.dft_stitch.specs.Chains.{plan_of}
 use Rattle.dft_cubes.specs.declared.cube.Merged.{Merged}
-use Rattle.dft_expect.specs.Captures.{config_ports}
+use Rattle.dft_expect.specs.declared.pattern.Pattern.{Pattern}
+use Rattle.dft_expect.specs.declared.response.Response.{Response}
 use Rattle.dft_expect.specs.Loaded.{all_cells, loaded_values}
-use Rattle.dft_expect.specs.Captures.{capture_vector, original, IsSettledCapture, captured_value, output_bits}
+use Rattle.dft_expect.specs.Captures.{AllSettled, AreSettled, IsCapture, IsSettledAt, Settled, after_edges, capture_vector, capture_vectors, config_ports, is_chained, last_state, next_state, original, outputs_before}
+use Rattle.dft_expect.specs.Capturing.{CanCapture, Captures, IsRisen, cells_in, risen_values}
 use Rattle.dft_expect.specs.Laws.{CaptureIsOne, AreAbove, SettledStandsAbove}
+use Rattle.dft_expect.proofs.VectorLemmas.{by_one_vector, map_same}
 
 -- ---- settled values
 
@@ -39,20 +45,101 @@ stands_by l m rank s t values shows ranked means above settled its (suc fuel) ne
 pub stands_above : SettledStandsAbove
 stands_above l m rank s t values shows ranked means above settled its net = stands_by l m rank s t values shows ranked means above settled its (suc (rank net)) net (omega arith)
 
--- ---- one capture
+-- ---- one vector
 
-values_same : (n : Netlist) (rank : ℕ → ℕ) (config : Config) (chains : List (List InstanceId)) (merged : Merged) (loaded : List Bool) (a b : ℕ → Tri) → IsOrdered n rank →
-    IsSettledCapture n config chains merged loaded a → IsSettledCapture n config chains merged loaded b → (net : ℕ) → a net ≡ b net
-values_same n rank config chains merged loaded a b ordered sa sb =
-    let l = original n config in
-    let x = capture_vector n config merged in
-    settled_same l rank (strobe_sources l x (loaded_values chains loaded) a) (strobe_sources l x (loaded_values chains loaded) b) a b (order_is_rank n (config_ports n config) rank ordered) sa sb
-    (λ k. refl) (λ e. refl) (λ c. refl) (λ net c e high source is same below.
-    ap (λ (t : Tri). if high then (rise_of l x (loaded_values chains loaded)).old c else t) (source_same rank (rank net) a b source below same))
+settled_one : (l : Logic) (rank : ℕ → ℕ) (x : Vector) (state a b : ℕ → Tri) → IsRanked l rank → IsSettledAt l x state a → IsSettledAt l x state b → (net : ℕ) → a net ≡ b net
+settled_one l rank x state a b ranked sa sb =
+    settled_same l rank (strobe_sources l x state a) (strobe_sources l x state b) a b ranked sa sb (λ k. refl) (λ e. refl) (λ c. refl)
+    (λ net c e high source is same below. ap (λ (t : Tri). if high then (rise_of l x state).old c else t) (source_same rank (rank net) a b source below same))
+
+-- a vector's values are determined
+pub one_step : (l : Logic) (rank : ℕ → ℕ) (chains : List (List InstanceId)) (x : Vector) (state : ℕ → Tri) (s q : Settled) → IsRanked l rank → AreSettled l chains x state s → AreSettled l chains x state q → s ≡ q
+one_step l rank chains x state s q ranked are also =
+    let first : s.first ≡ q.first = λ i net. settled_one l rank x state s.first q.first ranked are.first also.first net i in
+    let moved : ℕ → Tri = after_edges l chains x true s.first state in
+    let again : IsSettledAt l x moved q.second = subst (λ (v : ℕ → Tri). IsSettledAt l x (after_edges l chains x true v state) q.second) (sym first) also.second in
+    let second : s.second ≡ q.second = λ i net. settled_one l rank x moved s.second q.second ranked are.second again net i in
+    λ i. record { first = first i; second = second i }
+
+-- and there are some
+pub some_step : (l : Logic) (rank : ℕ → ℕ) (chains : List (List InstanceId)) (x : Vector) (state : ℕ → Tri) → IsRanked l rank → (s : Settled) × AreSettled l chains x state s
+some_step l rank chains x state ranked =
+    let one = strobe_exists l rank x state ranked in
+    let two = strobe_exists l rank x (after_edges l chains x true one.0 state) ranked in
+    (record { first = one.0; second = two.0 }, record { first = one.1; second = two.1 })
+
+-- ---- all vectors
+
+all_one : (l : Logic) (rank : ℕ → ℕ) (chains : List (List InstanceId)) (xs : List Vector) (state : ℕ → Tri) (ss qs : List Settled) → IsRanked l rank → AllSettled l chains xs state ss → AllSettled l chains xs state qs → ss ≡ qs
+all_one l rank chains [] state [] [] ranked are also = refl
+all_one l rank chains [] state [] (q ∷ qs) ranked are also = absurd also
+all_one l rank chains [] state (s ∷ ss) qs ranked are also = absurd are
+all_one l rank chains (x ∷ xs) state [] qs ranked are also = absurd are
+all_one l rank chains (x ∷ xs) state (s ∷ ss) [] ranked are also = absurd also
+all_one l rank chains (x ∷ xs) state (s ∷ ss) (q ∷ qs) ranked are also =
+    let same : s ≡ q = one_step l rank chains x state s q ranked are.0 also.0 in
+    let rest : ss ≡ qs =
+    all_one l rank chains xs (next_state l chains x state s) ss qs ranked are.1 (subst (λ (t : Settled). AllSettled l chains xs (next_state l chains x state t) qs) (sym same) also.1) in
+    λ i. same i ∷ rest i
+
+all_some : (l : Logic) (rank : ℕ → ℕ) (chains : List (List InstanceId)) (xs : List Vector) (state : ℕ → Tri) → IsRanked l rank → (ss : List Settled) × AllSettled l chains xs state ss
+all_some l rank chains [] state ranked = ([], tt)
+all_some l rank chains (x ∷ xs) state ranked =
+    let first = some_step l rank chains x state ranked in
+    let rest = all_some l rank chains xs (next_state l chains x state first.0) ranked in
+    (first.0 ∷ rest.0, (first.1, rest.1))
+
+-- ---- one capture
 
 pub one_capture : CaptureIsOne
 one_capture n rank config chains merged loaded r q ordered rc qc =
-    let same : rc.values ≡ qc.values = λ i net. values_same n rank config chains merged loaded rc.values qc.values ordered rc.settled qc.settled net i in
-    let cells : r.cells ≡ q.cells = rc.cells ∙ ap (λ (v : ℕ → Tri). map (λ (cell : InstanceId). captured_value n config chains merged loaded v cell.0) (all_cells chains)) same ∙ sym qc.cells in
-    let outputs : r.outputs ≡ q.outputs = rc.outputs ∙ ap (λ (v : ℕ → Tri). map (λ (net : NetId). v net.0) (output_bits n.ports)) same ∙ sym qc.outputs in
+    let l : Logic = original n config in
+    let xs : List Vector = capture_vectors n config merged in
+    let state : ℕ → Tri = loaded_values chains loaded in
+    let same : rc.settled ≡ qc.settled = all_one l rank chains xs state rc.settled qc.settled (order_is_rank n (config_ports n config) rank ordered) rc.are qc.are in
+    let cells : r.cells ≡ q.cells = rc.cells ∙ ap (λ (ss : List Settled). map (λ (cell : InstanceId). last_state l chains xs state ss cell.0) (all_cells chains)) same ∙ sym qc.cells in
+    let outputs : r.outputs ≡ q.outputs = rc.outputs ∙ ap (λ (ss : List Settled). flat_map (outputs_before n) ss) same ∙ sym qc.outputs in
     λ i. record { cells = cells i; outputs = outputs i }
+
+-- there is one
+pub some_capture : (n : Netlist) (rank : ℕ → ℕ) (config : Config) (chains : List (List InstanceId)) (merged : Merged) (loaded : List Bool) → IsOrdered n rank → (r : Response) × IsCapture n config chains merged loaded r
+some_capture n rank config chains merged loaded ordered =
+    let l : Logic = original n config in
+    let xs : List Vector = capture_vectors n config merged in
+    let state : ℕ → Tri = loaded_values chains loaded in
+    let found = all_some l rank chains xs state (order_is_rank n (config_ports n config) rank ordered) in (
+      record { cells = map (λ cell. last_state l chains xs state found.0 cell.0) (all_cells chains); outputs = flat_map (outputs_before n) found.0 },
+      record { settled = found.0; are = found.1; cells = refl; outputs = refl },
+    )
+
+-- ---- where no cell falls
+
+-- then nothing moves at the falls
+still : (l : Logic) (chains : List (List InstanceId)) (x : Vector) (values state : ℕ → Tri) (c : ℕ) → (l.cell c).falling ≡ false → after_edges l chains x false values state c ≡ state c
+still l chains x values state c rises =
+    ap (λ (f : Bool). if is_chained chains c && (x.pulsed (l.cell c).domain && f) then next_from l x values c else state c) rises
+    ∙ never (is_chained chains c) (x.pulsed (l.cell c).domain) (next_from l x values c) (state c)
+  where
+    never : (a b : Bool) (t u : Tri) → (if a && (b && false) then t else u) ≡ u
+    never true true t u = refl
+    never true false t u = refl
+    never false b t u = refl
+
+-- and what has risen is what is captured
+pub risen_whole : (n : Netlist) (config : Config) (pattern : Pattern) (r : Response) → CanCapture n config → ((number : ℕ) (cell : InstanceId) → slice_get (cells_in n config) number ≡ Some cell → ((original n config).cell cell.0).falling ≡ false) →
+    IsRisen n config pattern r → Captures n config pattern r
+risen_whole n config pattern r can rise is =
+    let l : Logic = original n config in
+    let chains : List (List InstanceId) = (plan_of n config).chains in
+    let x : Vector = capture_vector n config pattern.merged.now in
+    let state : ℕ → Tri = risen_values n config pattern is.values in
+    let order = order_ranks n can.ordered.order can.netlist can.ordered.is in
+    let later = strobe_exists l order.0 x state (order_is_rank n (config_ports n config) order.0 order.1) in
+    by_one_vector n config chains pattern.merged.now pattern.loaded.now r
+    (record {
+      step = record { first = is.values; second = later.0 };
+      are = record { first = is.settled; second = later.1 };
+      cells = is.cells ∙ map_same (λ (cell : InstanceId). state cell.0) (λ (cell : InstanceId). after_edges l chains x false later.0 state cell.0) (cells_in n config)
+          (λ number cell at. sym (still l chains x later.0 state cell.0 (rise number cell at)));
+      outputs = is.outputs;
+    })

@@ -1,3 +1,4 @@
+pub mod VectorLemmas
 pub mod CaptureLemmas
 pub mod MaskLemmas
 pub mod RingLemmas
@@ -8,5 +9,6 @@ pub mod GivenLemmas
 pub mod ReadLemmas
 pub mod ScannedCells
 pub mod SourceLemmas
+pub mod MovingLemmas
 pub mod SettingLemmas
 pub mod ExampleLemmas

@@ -1,16 +1,16 @@
--- What is read of a cell is what a pattern captures in it.
-use Rattle.std.proofs.Common.{ℕ, suc, ◌+◌, ◌<◌, ◌≤◌, ◌⊎◌, inl, inr, Bool, true, false, ◌≡◌, List, [], ◌∷◌, ◌++◌, map, length, take, get_or, append_assoc, append-nil, cond, find, slice_get, Option, None, Some, refl, sym, subst, ap, arith, ◌∙◌}
-use Rattle.std.specs.Prelude.{if◌then◌else◌, option_map, Result, Ok, Err, IfOk}
-use Rattle.std.specs.declared.alloc.AllocError.{AllocError}
+-- What is read of a cell at an edge is what it has after that, and so what a pattern captures in it.
+use Rattle.std.proofs.Common.{ℕ, zero, suc, ◌+◌, ◌<◌, ◌≤◌, ◌⊎◌, inl, inr, Bool, true, false, ◌&&◌, ◌||◌, ◌≡◌, ◌≢◌, List, [], ◌∷◌, ◌++◌, map, length, take, get_or, append_assoc, append-nil, cond, find, slice_get, slice_set, Option, None, Some, refl, sym, subst, ap, arith, ◌∙◌}
+use Rattle.std.specs.Prelude.{if◌then◌else◌, option_map}
 use Rattle.std.specs.List.{range_with_len}
 use Rattle.std.proofs.Math.ListN.{get_or-append}
 use Rattle.std.proofs.Math.Seq.{get_or-append_seam, take-suc}
 use Rattle.std.proofs.lemmas.Grind.{flat_map-append}
-use Rattle.std.proofs.lemmas.Bool.{cases_lt}
-use Rattle.std.proofs.lemmas.List.{length-append}
+use Rattle.std.proofs.lemmas.Bool.{cases_eq, cases_lt}
+use Rattle.std.proofs.lemmas.List.{length-append, length-set}
 use Rattle.std.proofs.lemmas.Option.{none-some, same_Some, slice_get_within, slice_get-get_or, get_or_from_slice_get}
 use Rattle.std.proofs.lemmas.List.FromFn.{map-range_with_len_more}
 use Rattle.dft_base.specs.declared.tri.Tri.{Tri}
+use Rattle.dft_base.specs.declared.tri.Tri.TheVariants.{Unknown}
 use Rattle.dft_cells.specs.declared.kind.Role.{Role}
 use Rattle.dft_cells.specs.declared.kind.Role.TheVariants as role
 use Rattle.dft_netlist.specs.declared.ids.NetId.{NetId}
@@ -19,11 +19,14 @@ use Rattle.dft_netlist.specs.declared.instance.Signal.{Signal}
 use Rattle.dft_netlist.specs.declared.instance.Signal.TheVariants as signal
 use Rattle.dft_netlist.specs.Netlist.{Netlist}
 use Rattle.dft_netlist.specs.Connections.{joined_to, signal_of}
-use Rattle.dft_netlist.specs.Drivers.{Source, Tied, Loose, Connection, pins_of, source_of}
+use Rattle.dft_netlist.specs.declared.clock_roots.ClockRoot as declared
+use Rattle.dft_netlist.specs.ClockRoots.{ClockRoot, clock_root_of}
+use Rattle.dft_netlist.specs.ClockSteps.{shown_clock}
+use Rattle.dft_netlist.specs.Drivers.{Source, Connection, pins_of, source_of}
 use Rattle.dft_netlist.specs.Logic.{Cell, or_loose, pin_of, same_role}
+use Rattle.dft_netlist.specs.Runs.{takes}
 use Rattle.dft_netlist.specs.Settled.{value_from}
-use Rattle.dft_netlist.specs.Traces.{root_of}
-use Rattle.dft_netlist.proofs.TraceLemmas.{is_walk}
+use Rattle.dft_netlist.proofs.DriveLemmas.{get_set_other, get_set_same}
 use Rattle.dft_netlist.proofs.StoredLemmas.{flop_cell}
 use Rattle.dft_abstract.specs.Cycle.{tri_forced_by, tri_taken_by}
 use Rattle.dft_config.specs.Config.{Config}
@@ -34,10 +37,11 @@ use Rattle.dft_expect.specs.declared.pattern.Pattern.{Pattern}
 use Rattle.dft_expect.specs.declared.response.Response.{Response}
 use Rattle.dft_expect.specs.declared.reads.Read.{Read}
 use Rattle.dft_expect.specs.Loaded.{all_cells, loaded_values, or_unknown}
-use Rattle.dft_expect.specs.Captures.{capture_clock, capture_vector, captured_value, original, output_bits, config_ports}
-use Rattle.dft_expect.specs.Capturing.{CanCapture, Captures, Settles, cells_in}
-use Rattle.dft_expect.specs.Reads.{AreReads, IsReadOf, clock_at, clock_net, or_unconnected, port_of, read_at, read_value, same_net, value_of_signal}
+use Rattle.dft_expect.specs.Captures.{after_edges, capture_clock, capture_vector, is_chained, original, output_bits, config_ports}
+use Rattle.dft_expect.specs.Capturing.{CanCapture, CanFall, Captures, IsRisen, Settles, cells_in, risen_values}
+use Rattle.dft_expect.specs.Reads.{AreReads, IsReadOf, any_falls, clock_at, clock_of, is_at, is_falling, or_unconnected, read_at, read_value, value_of_signal}
 use Rattle.dft_expect.proofs.CellNumbers.{bit_is, stands_once}
+use Rattle.dft_expect.proofs.VectorLemmas.{by_one_vector, chained, there}
 use Rattle.dft_expect.proofs.GivenLemmas.{number_modelled, stays}
 use Rattle.dft_expect.proofs.ScannedCells.{IsModelled}
 
@@ -57,28 +61,22 @@ pub pin_value : (values : ℕ → Tri) (r : Role) (i : ℕ) (cs : List Connectio
 pin_value values r i [] = refl
 pin_value values r i (c ∷ cs) = value_by values r i c cs (same_role r c.role) (pin_value values r i cs)
 
-root_same : (n : Netlist) (i pin : ℕ) (s : Signal) → root_of n (source_of 0 0 s) ≡ root_of n (source_of i pin s)
-root_same n i pin (signal.Net net) = refl
-root_same n i pin (signal.Constant bit) = refl
-root_same n i pin signal.Unconnected = let walk = is_walk n (suc (length n.nets)) in walk.loose 0 0 ∙ sym (walk.loose i pin)
+clock_same : (n : Netlist) (i pin : ℕ) (s : Signal) → clock_root_of n (source_of 0 0 s) ≡ clock_root_of n (source_of i pin s)
+clock_same n i pin (signal.Net net) = refl
+clock_same n i pin (signal.Constant bit) = refl
+clock_same n i pin signal.Unconnected = refl
 
-clock_by : (n : Netlist) (r : Role) (i : ℕ) (c : Connection) (cs : List Connection) (b : Bool) → clock_at n (signal_of r cs) ≡ clock_net n (pin_of r i cs)
-    → clock_at n (option_map joined_to (cond b (Some c) (find (λ d. same_role r d.role) cs))) ≡ clock_net n (if b then Some (source_of i c.pin c.to) else pin_of r i cs)
-clock_by n r i c cs true more = ap port_of (root_same n i c.pin c.to)
+clock_by : (n : Netlist) (r : Role) (i : ℕ) (c : Connection) (cs : List Connection) (b : Bool) → clock_at n (signal_of r cs) ≡ clock_of n (pin_of r i cs)
+    → clock_at n (option_map joined_to (cond b (Some c) (find (λ d. same_role r d.role) cs))) ≡ clock_of n (if b then Some (source_of i c.pin c.to) else pin_of r i cs)
+clock_by n r i c cs true more = clock_same n i c.pin c.to
 clock_by n r i c cs false more = more
 
-pub pin_clock : (n : Netlist) (r : Role) (i : ℕ) (cs : List Connection) → clock_at n (signal_of r cs) ≡ clock_net n (pin_of r i cs)
+pub pin_clock : (n : Netlist) (r : Role) (i : ℕ) (cs : List Connection) → clock_at n (signal_of r cs) ≡ clock_of n (pin_of r i cs)
 pin_clock n r i [] = refl
 pin_clock n r i (c ∷ cs) = clock_by n r i c cs (same_role r c.role) (pin_clock n r i cs)
 
-pub tied_root : (n : Netlist) (bit : Bool) → port_of (root_of n (Tied bit)) ≡ None
-tied_root n bit = ap port_of ((is_walk n (suc (length n.nets))).constant bit)
-
-pub loose_root : (n : Netlist) (i pin : ℕ) → port_of (root_of n (Loose i pin)) ≡ None
-loose_root n i pin = ap port_of ((is_walk n (suc (length n.nets))).loose i pin)
-
 -- the read of an instance with these pins
-pub read_made : (n : Netlist) (i : ℕ) (read : Read) → option_map (λ (net : NetId). net.0) read.clock ≡ clock_at n (signal_of role.Clock (pins_of n i)) → read.input ≡ or_unconnected (signal_of role.Din (pins_of n i)) → IsReadOf n i read
+pub read_made : (n : Netlist) (i : ℕ) (read : Read) → shown_clock read.clock ≡ clock_at n (signal_of role.Clock (pins_of n i)) → read.input ≡ or_unconnected (signal_of role.Din (pins_of n i)) → IsReadOf n i read
 read_made n i read clock pin = record {
   clock = clock ∙ pin_clock n role.Clock i (pins_of n i);
   input = λ values. ap (value_of_signal values) pin ∙ pin_value values role.Din i (pins_of n i);
@@ -126,29 +124,31 @@ pub chains_on : (n : Netlist) (chains : List (List InstanceId)) (k : ℕ) (cells
     → ((before : List InstanceId) → AreReads n before old → AreReads n (before ++ cells) new) → AreReads n (all_cells (take (k + 1) chains)) new
 chains_on n chains k cells old new at are more = subst (λ (l : List InstanceId). AreReads n l new) (all_more chains k cells at) (more (all_cells (take k chains)) are)
 
--- ---- what is captured
+-- ---- what is read of a cell
 
-clock_same : (read captures : Option NetId) (clock : ℕ) → option_map (λ (net : NetId). net.0) read ≡ Some clock → same_net read captures ≡ is_net clock captures
-clock_same None captures clock is = absurd (none-some clock is)
-clock_same (Some net) captures clock is = ap (λ (k : ℕ). is_net k captures) (same_Some net.0 clock is)
+edge_same : (read : Option declared.ClockRoot) (captures : Option NetId) (rising : Bool) (clock : ClockRoot) → shown_clock read ≡ Some clock → is_at read captures rising ≡ (is_net clock.port captures && takes rising clock.inverted)
+edge_same None captures rising clock is = absurd (none-some clock is)
+edge_same (Some root) captures rising clock is = ap (λ (c : ClockRoot). is_net c.port captures && takes rising c.inverted) (same_Some (record { port = root.port.0; inverted = root.inverted }) clock is)
 
-pub read_is : (n : Netlist) (config : Config) (merged : Merged) (loaded : List Bool) (values : ℕ → Tri) (number : ℕ) (cell : InstanceId) (read : Read) → CanCapture n config → slice_get (cells_in n config) number ≡ Some cell → IsReadOf n cell.0 read
-    → read_value values (capture_clock n config merged.domain) (slice_get loaded number) read ≡ captured_value n config (plan_of n config).chains merged loaded values cell.0
-read_is n config merged loaded values number cell read can at is =
+-- what is read of a cell at an edge is what it has after it
+pub read_is : (n : Netlist) (config : Config) (merged : Merged) (rising : Bool) (values state : ℕ → Tri) (number : ℕ) (cell : InstanceId) (before : Tri) (read : Read) → CanCapture n config → slice_get (cells_in n config) number ≡ Some cell → IsReadOf n cell.0 read → before ≡ state cell.0
+    → read_value values (capture_clock n config merged.domain) rising before read ≡ after_edges (original n config) (plan_of n config).chains (capture_vector n config merged) rising values state cell.0
+read_is n config merged rising values state number cell before read can at is had =
     let i : ℕ = cell.0 in
+    let chains : List (List InstanceId) = (plan_of n config).chains in
     let x = capture_vector n config merged in
     let captures : Option NetId = capture_clock n config merged.domain in
     let m : IsModelled n config i = number_modelled n config number i can at in
     let input : Source = or_loose i (pin_of role.Din i (pins_of n i)) in
-    let q : Cell = record { domain = m.clock; falling = false; input = input; scan = None; force = m.force } in
+    let q : Cell = record { domain = m.clock.port; falling = m.clock.inverted; input = input; scan = None; force = m.force } in
     let e : (original n config).cell i ≡ q = flop_cell n (config_ports n config) i q m.flop in
     let idle : tri_forced_by m.force x.ports (value_from values input) ≡ value_from values input =
     ap (λ (c : Cell). tri_forced_by c.force x.ports (value_from values input)) (sym e) ∙ stays n config merged i (value_from values input) in
-    let clock : same_net read.clock captures ≡ is_net m.clock captures = clock_same read.clock captures m.clock (is.clock ∙ ap (clock_net n) m.pin ∙ ap port_of m.root) in
-    let bit : or_unknown (slice_get loaded number) ≡ loaded_values (plan_of n config).chains loaded i =
-    sym (ap or_unknown (bit_is (cells_in n config) loaded number i (λ j k one two. stands_once n config j k cell can one two) at)) in
-    (λ j. if clock j then (is.input values ∙ sym idle) j else bit j)
-    ∙ ap (λ (c : Cell). if is_net c.domain captures then tri_forced_by c.force x.ports (tri_taken_by c.scan (value_from values) (value_from values c.input)) else loaded_values (plan_of n config).chains loaded i) (sym e)
+    let edge : is_at read.clock captures rising ≡ (is_net m.clock.port captures && takes rising m.clock.inverted) = edge_same read.clock captures rising m.clock (is.clock ∙ ap (clock_of n) m.pin ∙ m.root) in
+    let here : is_chained chains i ≡ true = chained (all_cells chains) number i at in
+    let test : is_at read.clock captures rising ≡ (is_chained chains i && (is_net m.clock.port captures && takes rising m.clock.inverted)) = edge ∙ ap (λ (b : Bool). b && (is_net m.clock.port captures && takes rising m.clock.inverted)) (sym here) in
+    (λ j. if test j then (is.input values ∙ sym idle) j else had j)
+    ∙ ap (λ (c : Cell). if is_chained chains i && (is_net c.domain captures && takes rising c.falling) then tri_forced_by c.force x.ports (tri_taken_by c.scan (value_from values) (value_from values c.input)) else state i) (sym e)
 
 -- ---- all cells
 
@@ -158,48 +158,120 @@ map_numbers f g a (x ∷ xs) each =
     let here : a + 0 ≡ a = omega arith in
     λ j. (ap f (sym here) ∙ each 0 x refl) j ∷ map_numbers f g (a + 1) xs (λ k y at. (let next : a + 1 + k ≡ a + suc k = omega arith in ap f next ∙ each (suc k) y at)) j
 
-pub captured : (n : Netlist) (config : Config) (pattern : Pattern) (values : ℕ → Tri) (captures : Option NetId) (reads : List Read) (outputs : List NetId) (r : Response) → CanCapture n config → AreReads n (cells_in n config) reads → outputs ≡ output_bits n.ports
+-- what is read of all cells at an edge
+pub cells_read : (n : Netlist) (config : Config) (merged : Merged) (rising : Bool) (values state : ℕ → Tri) (before : ℕ → Tri) (reads : List Read) → CanCapture n config → AreReads n (cells_in n config) reads
+    → ((number : ℕ) (cell : InstanceId) → slice_get (cells_in n config) number ≡ Some cell → before number ≡ state cell.0)
+    → map (λ number. read_value values (capture_clock n config merged.domain) rising (before number) (read_at reads number)) (range_with_len 0 (length reads))
+    ≡ map (λ (cell : InstanceId). after_edges (original n config) (plan_of n config).chains (capture_vector n config merged) rising values state cell.0) (cells_in n config)
+cells_read n config merged rising values state before reads can are had =
+    (λ j. map (λ number. read_value values (capture_clock n config merged.domain) rising (before number) (read_at reads number)) (range_with_len 0 (are.count j)))
+    ∙ map_numbers (λ number. read_value values (capture_clock n config merged.domain) rising (before number) (read_at reads number))
+    (λ (cell : InstanceId). after_edges (original n config) (plan_of n config).chains (capture_vector n config merged) rising values state cell.0) 0 (cells_in n config)
+    (λ k cell at. (
+    let from : 0 + k ≡ k = omega arith in
+    ap (λ number. read_value values (capture_clock n config merged.domain) rising (before number) (read_at reads number)) from ∙ read_is n config merged rising values state k cell (before k) (read_at reads k) can at (are.each k cell at) (had k cell at)))
+
+-- at the rises
+pub risen : (n : Netlist) (config : Config) (pattern : Pattern) (values : ℕ → Tri) (captures : Option NetId) (reads : List Read) (outputs : List NetId) (r : Response) → CanCapture n config → AreReads n (cells_in n config) reads → outputs ≡ output_bits n.ports
     → captures ≡ capture_clock n config pattern.merged.now.domain
-    → r.cells ≡ map (λ number. read_value values captures (slice_get pattern.loaded.now number) (read_at reads number)) (range_with_len 0 (length reads)) → r.outputs ≡ map (λ (net : NetId). values net.0) outputs
-    → Settles n config pattern values → Captures n config pattern r
-captured n config pattern values captures reads outputs r can are bits clock cells shown settled =
+    → r.cells ≡ map (λ number. read_value values captures true (or_unknown (slice_get pattern.loaded.now number)) (read_at reads number)) (range_with_len 0 (length reads)) → r.outputs ≡ map (λ (net : NetId). values net.0) outputs
+    → Settles n config pattern values → IsRisen n config pattern r
+risen n config pattern values captures reads outputs r can are bits clock cells shown settled =
     let merged = pattern.merged.now in
     let loaded = pattern.loaded.now in
     record {
       values = values;
       settled = settled;
       cells =
-          cells ∙ (λ j. map (λ number. read_value values (clock j) (slice_get loaded number) (read_at reads number)) (range_with_len 0 (are.count j)))
-          ∙ map_numbers (λ number. read_value values (capture_clock n config merged.domain) (slice_get loaded number) (read_at reads number)) (λ (cell : InstanceId). captured_value n config (plan_of n config).chains merged loaded values cell.0) 0 (cells_in n config)
-          (λ k cell at. (
-          let from : 0 + k ≡ k = omega arith in
-          ap (λ number. read_value values (capture_clock n config merged.domain) (slice_get loaded number) (read_at reads number)) from ∙ read_is n config merged loaded values k cell (read_at reads k) can at (are.each k cell at)));
+          cells ∙ (λ j. map (λ number. read_value values (clock j) true (or_unknown (slice_get loaded number)) (read_at reads number)) (range_with_len 0 (length reads)))
+          ∙ cells_read n config merged true values (loaded_values (plan_of n config).chains loaded) (λ number. or_unknown (slice_get loaded number)) reads can are
+          (λ number cell at. sym (ap or_unknown (bit_is (cells_in n config) loaded number cell.0 (λ j k one two. stands_once n config j k cell can one two) at)));
       outputs = shown ∙ ap (map (λ (net : NetId). values net.0)) bits;
     }
+
+-- at the falls
+pub fallen : (n : Netlist) (config : Config) (pattern : Pattern) (values : ℕ → Tri) (captures : Option NetId) (reads : List Read) (old new : Response) → CanCapture n config → AreReads n (cells_in n config) reads
+    → captures ≡ capture_clock n config pattern.merged.now.domain
+    → new.cells ≡ map (λ number. read_value values captures false (get_or old.cells number Unknown) (read_at reads number)) (range_with_len 0 (length reads)) → new.outputs ≡ old.outputs
+    → CanFall n config pattern old values → Captures n config pattern new
+fallen n config pattern values captures reads old new can are clock cells shown falls =
+    let merged = pattern.merged.now in
+    let state : ℕ → Tri = risen_values n config pattern falls.risen.values in
+    by_one_vector n config (plan_of n config).chains merged pattern.loaded.now new
+    (record {
+      step = record { first = falls.risen.values; second = values };
+      are = record { first = falls.risen.settled; second = falls.settled };
+      cells =
+          cells ∙ (λ j. map (λ number. read_value values (clock j) false (get_or old.cells number Unknown) (read_at reads number)) (range_with_len 0 (length reads)))
+          ∙ cells_read n config merged false values state (λ number. get_or old.cells number Unknown) reads can are (λ number cell at. there (λ (c : InstanceId). state c.0) old.cells (cells_in n config) number cell falls.risen.cells at);
+      outputs = shown ∙ falls.risen.outputs;
+    })
 
 pub values_more : (f : ℕ → Tri) (old new : List Tri) (k : ℕ) (value : Tri) → old ≡ map f (range_with_len 0 k) → new ≡ old ++ value ∷ [] → value ≡ f k → new ≡ map f (range_with_len 0 (k + 1))
 values_more f old new k value before more is = more ∙ (λ i. before i ++ is i ∷ []) ∙ sym (map-range_with_len_more f 0 k k (omega arith))
 
 -- ---- the responses of all patterns
 
-captures_case : (n : Netlist) (config : Config) (patterns : List Pattern) (place : ℕ) (here : Pattern) (old new : List Response) (r : Response) → length old ≡ place
-    → ((p : ℕ) (pattern : Pattern) (q : Response) → slice_get patterns p ≡ Some pattern → slice_get old p ≡ Some q → Captures n config pattern q) → slice_get patterns place ≡ Some here → Captures n config here r → new ≡ old ++ r ∷ []
-    → (p : ℕ) (pattern : Pattern) (q : Response) → slice_get patterns p ≡ Some pattern → slice_get new p ≡ Some q → (p < length old) ⊎ (length old ≤ p) → Captures n config pattern q
-captures_case n config patterns place here old new r count each at is more p pattern q there found (inl less) =
+risen_case : (n : Netlist) (config : Config) (patterns : List Pattern) (place : ℕ) (here : Pattern) (old new : List Response) (r : Response) → length old ≡ place
+    → ((p : ℕ) (pattern : Pattern) (q : Response) → slice_get patterns p ≡ Some pattern → slice_get old p ≡ Some q → IsRisen n config pattern q) → slice_get patterns place ≡ Some here → IsRisen n config here r → new ≡ old ++ r ∷ []
+    → (p : ℕ) (pattern : Pattern) (q : Response) → slice_get patterns p ≡ Some pattern → slice_get new p ≡ Some q → (p < length old) ⊎ (length old ≤ p) → IsRisen n config pattern q
+risen_case n config patterns place here old new r count each at is more p pattern q there found (inl less) =
     let item : get_or old p q ≡ q = sym (get_or-append old (r ∷ []) q p less) ∙ ap (λ (l : List Response). get_or l p q) (sym more) ∙ get_or_from_slice_get new p q q found in
     each p pattern q there (slice_get-get_or old p q less ∙ ap (λ (y : Response). Some y) item)
-captures_case n config patterns place here old new r count each at is more p pattern q there found (inr past) =
+risen_case n config patterns place here old new r count each at is more p pattern q there found (inr past) =
     let less = slice_get_within new p q found in
     let last : p ≡ length old = omega (arith, past, less, ap length more, length-append old (r ∷ [])) in
     let same : r ≡ q = sym (get_or-append_seam old r [] q) ∙ ap (λ (k : ℕ). get_or (old ++ r ∷ []) k q) (sym last) ∙ ap (λ (l : List Response). get_or l p q) (sym more) ∙ get_or_from_slice_get new p q q found in
     let one : here ≡ pattern = same_Some here pattern (sym at ∙ ap (slice_get patterns) (sym (last ∙ count)) ∙ there) in
-    subst (λ (x : Pattern). Captures n config x q) one (subst (λ (y : Response). Captures n config here y) same is)
+    subst (λ (x : Pattern). IsRisen n config x q) one (subst (λ (y : Response). IsRisen n config here y) same is)
 
-pub captures_more : (n : Netlist) (config : Config) (patterns : List Pattern) (place : ℕ) (here : Pattern) (old new : List Response) (r : Response) → (count : length old ≡ place)
-    → (each : ((p : ℕ) (pattern : Pattern) (q : Response) → slice_get patterns p ≡ Some pattern → slice_get old p ≡ Some q → Captures n config pattern q)) → (at : slice_get patterns place ≡ Some here) → (is : Captures n config here r) → (more : new ≡ old ++ r ∷ [])
-    → (p : ℕ) (pattern : Pattern) (q : Response) → (there : slice_get patterns p ≡ Some pattern) → (found : slice_get new p ≡ Some q) → Captures n config pattern q
-captures_more n config patterns place here old new r count each at is more p pattern q there found = captures_case n config patterns place here old new r count each at is more p pattern q there found (cases_lt p (length old))
+pub risen_more : (n : Netlist) (config : Config) (patterns : List Pattern) (place : ℕ) (here : Pattern) (old new : List Response) (r : Response) → (count : length old ≡ place)
+    → (each : ((p : ℕ) (pattern : Pattern) (q : Response) → slice_get patterns p ≡ Some pattern → slice_get old p ≡ Some q → IsRisen n config pattern q)) → (at : slice_get patterns place ≡ Some here) → (is : IsRisen n config here r) → (more : new ≡ old ++ r ∷ [])
+    → (p : ℕ) (pattern : Pattern) (q : Response) → (there : slice_get patterns p ≡ Some pattern) → (found : slice_get new p ≡ Some q) → IsRisen n config pattern q
+risen_more n config patterns place here old new r count each at is more p pattern q there found = risen_case n config patterns place here old new r count each at is more p pattern q there found (cases_lt p (length old))
 
-pub if_ok : {A : Type 0} (P : Response → Type 0) (r : Result Response AllocError) → IfOk r (λ x. A → P x) → A → IfOk r P
-if_ok P (Ok x) h a = h a
-if_ok P (Err e) h a = h
+-- the first so many patterns are captured, and the others are as before
+pub record AreFalling (n : Netlist) (config : Config) (patterns : List Pattern) (done : ℕ) (old new : List Response) : Type 0 where
+  pub count : length new ≡ length old
+  pub each : (p : ℕ) (pattern : Pattern) (r : Response) → p < done → slice_get patterns p ≡ Some pattern → slice_get new p ≡ Some r → Captures n config pattern r
+  pub left : (p : ℕ) → done ≤ p → slice_get new p ≡ slice_get old p
+
+pub fallen_on : (n : Netlist) (config : Config) (patterns : List Pattern) (done : ℕ) (here : Pattern) (old cur : List Response) (was r : Response) → AreFalling n config patterns done old cur → slice_get patterns done ≡ Some here → slice_get cur done ≡ Some was → Captures n config here r
+    → AreFalling n config patterns (done + 1) old (slice_set cur done r)
+fallen_on n config patterns done here old cur was r before at stood is = record {
+  count = length-set cur done r ∙ before.count;
+  each = λ p pattern q below there found. one p pattern q below there found (cases_eq p done);
+  left = λ p past. get_set_other cur done p r (λ e. (let no : ⊥ = omega (arith, past, e) in no)) ∙ before.left p (omega (arith, past));
+}
+  where
+    one : (p : ℕ) (pattern : Pattern) (q : Response) → p < done + 1 → slice_get patterns p ≡ Some pattern → slice_get (slice_set cur done r) p ≡ Some q → (p ≡ done) ⊎ (p ≢ done) → Captures n config pattern q
+    one p pattern q below there found (inl e) =
+        let same : here ≡ pattern = same_Some here pattern (sym at ∙ ap (slice_get patterns) (sym e) ∙ there) in
+        let own : r ≡ q = same_Some r q (sym (get_set_same cur done was r stood) ∙ ap (slice_get (slice_set cur done r)) (sym e) ∙ found) in
+        subst (λ (x : Pattern). Captures n config x q) same (subst (λ (y : Response). Captures n config here y) own is)
+    one p pattern q below there found (inr ne) = before.each p pattern q (omega (arith, below, ne)) there (sym (get_set_other cur done p r (λ e. ne (sym e))) ∙ found)
+
+-- ---- where no cell falls
+
+falls_as : (read : Option declared.ClockRoot) (clock : ClockRoot) → shown_clock read ≡ Some clock → is_falling read ≡ clock.inverted
+falls_as None clock is = absurd (none-some clock is)
+falls_as (Some root) clock is = ap (λ (c : ClockRoot). c.inverted) (same_Some (record { port = root.port.0; inverted = root.inverted }) clock is)
+
+none_at : (reads : List Read) (number : ℕ) → any_falls reads ≡ false → is_falling (read_at reads number).clock ≡ false
+none_at [] number none = refl
+none_at (read ∷ reads) zero none = first_of (is_falling read.clock) (any_falls reads) none
+  where
+    first_of : (a b : Bool) → (a || b) ≡ false → a ≡ false
+    first_of true b h = h
+    first_of false b h = refl
+none_at (read ∷ reads) (suc number) none = none_at reads number (rest_of (is_falling read.clock) (any_falls reads) none)
+  where
+    rest_of : (a b : Bool) → (a || b) ≡ false → b ≡ false
+    rest_of true b h = absurd cc
+    rest_of false b h = h
+
+pub none_falls : (n : Netlist) (config : Config) (reads : List Read) (number : ℕ) (cell : InstanceId) → CanCapture n config → AreReads n (cells_in n config) reads → any_falls reads ≡ false → slice_get (cells_in n config) number ≡ Some cell → ((original n config).cell cell.0).falling ≡ false
+none_falls n config reads number cell can are none at =
+    let m : IsModelled n config cell.0 = number_modelled n config number cell.0 can at in
+    let read : Read = read_at reads number in
+    ap (λ (c : Cell). c.falling) (flop_cell n (config_ports n config) cell.0 _ m.flop) ∙ sym (falls_as read.clock m.clock ((are.each number cell at).clock ∙ ap (clock_of n) m.pin ∙ m.root)) ∙ none_at reads number none

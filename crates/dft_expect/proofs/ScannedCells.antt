@@ -1,5 +1,5 @@
--- A cell of the chains is modelled: on the port of its domain, with its data input and no scan pins. And no instance is a lock-up.
-use Rattle.std.proofs.Common.{ℕ, zero, suc, ◌+◌, ◌≡◌, Bool, true, false, List, [], ◌∷◌, cond, map, position, inl, inr, Option, None, Some, is_some, option_and_then, slice_get, refl, sym, subst, ap, ◌∙◌}
+-- A cell of the chains is modelled: on the clock that its clock pin shows, with its data input and no scan pins. And no instance is a lock-up.
+use Rattle.std.proofs.Common.{ℕ, zero, suc, ◌+◌, ◌≡◌, Bool, true, false, List, [], ◌∷◌, cond, map, position, inl, inr, Option, None, Some, is_some, option_and_then, option_map, slice_get, refl, sym, subst, ap, ◌∙◌}
 use Rattle.std.specs.Prelude.{if◌then◌else◌, IsTrue}
 use Rattle.std.specs.List.{position_from, AllByRecursion}
 use Rattle.std.proofs.lemmas.Iterator.Adapters.{position_from-zero}
@@ -22,14 +22,13 @@ use Rattle.dft_netlist.specs.Netlist.{Netlist}
 use Rattle.dft_netlist.specs.Drivers.{Source, connections_from, gate_roles, kind_of, kind_at, pins_at, pins_of, shape_of, shape_of_cell, source_of}
 use Rattle.dft_netlist.specs.Sound.{IsCellOf, is_primitive}
 use Rattle.dft_netlist.specs.Traces.{Root, Port, Constant, Other, root_of}
-use Rattle.dft_netlist.specs.ClockRoots.{port_root}
+use Rattle.dft_netlist.specs.ClockRoots.{ClockRoot, clock_root_of}
 use Rattle.dft_netlist.specs.Logic.{Ports, Force, Scan, Cell, same_role, pin_of, or_loose, domain_at, force_of, forcing, scan_of, modelled, modelled_of, flip_flop}
 use Rattle.dft_netlist.specs.Logic as logic
 use Rattle.dft_config.specs.Config.{Config}
 use Rattle.dft_config.specs.Range.{IsInRange}
 use Rattle.dft_netlist.specs.Connections.{input_net}
-use Rattle.dft_netlist.proofs.ClockWalks.{traced_clock}
-use Rattle.dft_rules.specs.Rules.{is_net, place_of_root, place_of_source, domain_of, is_held, are_held, are_held_at, scan_cell_of, is_kept, may_be_scanned, judged_by}
+use Rattle.dft_rules.specs.Rules.{is_net, place_of_port, place_of_root, place_of_clock, clock_of_source, clocked_by, is_held, are_held, are_held_at, scan_cell_of, is_kept, may_be_scanned, judged_by}
 use Rattle.dft_expect.specs.Captures.{config_ports}
 use Rattle.dft_rules.specs.declared.judged.Judged.TheVariants.{Scanned}
 use Rattle.dft_rules.specs.declared.error.RuleError.TheVariants.{LockupPresent}
@@ -64,21 +63,21 @@ position_at test number xs e = position_item test 0 number xs (sym (position_fro
 
 -- ---- a scanned flip-flop
 
--- the instance is a flip-flop on the port of a domain, with its reset or set held
+-- the instance is a flip-flop that has the clock of a domain, with its reset or set held
 record Passes (n : Netlist) (config : Config) (i : ℕ) : Type 0 where
   pub kind : may_be_scanned (kind_at n i) ≡ true
-  pub domain : ℕ
-  pub is_domain : domain_of n config i ≡ Some domain
+  pub clock : ℕ × Bool
+  pub is_clock : clocked_by n config i ≡ Some clock
   pub is_held : are_held_at n config i ≡ true
 
-passes_by : (n : Netlist) (config : Config) (i d : ℕ) (f : Bool) (domain : Option ℕ) (held scans kept : Bool) → may_be_scanned (kind_at n i) ≡ true → domain_of n config i ≡ domain → are_held_at n config i ≡ held → judged_by domain held scans kept ≡ Some (Scanned d f) → Passes n config i
-passes_by n config i d f None held scans kept kind domain is e = absurd cc
-passes_by n config i d f (Some p) false scans kept kind domain is e = absurd cc
-passes_by n config i d f (Some p) true scans kept kind domain is e = record { kind = kind; domain = p; is_domain = domain; is_held = is }
+passes_by : (n : Netlist) (config : Config) (i d : ℕ) (f : Bool) (clock : Option (ℕ × Bool)) (held scans kept : Bool) → may_be_scanned (kind_at n i) ≡ true → clocked_by n config i ≡ clock → are_held_at n config i ≡ held → judged_by clock held scans kept ≡ Some (Scanned d f) → Passes n config i
+passes_by n config i d f None held scans kept kind clock is e = absurd cc
+passes_by n config i d f (Some p) false scans kept kind clock is e = absurd cc
+passes_by n config i d f (Some p) true scans kept kind clock is e = record { kind = kind; clock = p; is_clock = clock; is_held = is }
 
 passes_if : (n : Netlist) (config : Config) (i d : ℕ) (f b : Bool) → may_be_scanned (kind_at n i) ≡ b →
-    (if b then judged_by (domain_of n config i) (are_held_at n config i) (is_some (scan_cell_of n i)) (is_kept n config.keep i) else None) ≡ Some (Scanned d f) → Passes n config i
-passes_if n config i d f true kind e = passes_by n config i d f (domain_of n config i) (are_held_at n config i) (is_some (scan_cell_of n i)) (is_kept n config.keep i) kind refl refl e
+    (if b then judged_by (clocked_by n config i) (are_held_at n config i) (is_some (scan_cell_of n i)) (is_kept n config.keep i) else None) ≡ Some (Scanned d f) → Passes n config i
+passes_if n config i d f true kind e = passes_by n config i d f (clocked_by n config i) (are_held_at n config i) (is_some (scan_cell_of n i)) (is_kept n config.keep i) kind refl refl e
 passes_if n config i d f false kind e = absurd (none-some (Scanned d f) e)
 
 stands_scanned : (n : Netlist) (config : Config) (chain place : ℕ) (cell : InstanceId) → IsInRange config → cell_at (plan_of n config).chains chain place ≡ Some cell → Passes n config cell.0
@@ -88,32 +87,35 @@ stands_scanned n config chain place cell range stands =
 
 -- ---- its clock
 
--- its clock traces to a bit of an input port, which is a clock
+-- its clock pin shows a bit of an input port, which is a clock, or its inverse
 record IsClocked (n : Netlist) (config : Config) (i : ℕ) : Type 0 where
   pub source : Source
   pub pin : pin_of role.Clock i (pins_of n i) ≡ Some source
-  pub net : ℕ
-  pub root : root_of n source ≡ Port net
-  pub is : (config_ports n config).is_clock net ≡ true
+  pub clock : ClockRoot
+  pub root : clock_root_of n source ≡ Some clock
+  pub is : (config_ports n config).is_clock clock.port ≡ true
 
-clocked_root : (n : Netlist) (config : Config) (i domain : ℕ) (source : Source) (r : Root) → pin_of role.Clock i (pins_of n i) ≡ Some source → root_of n source ≡ r → place_of_root n config.domains r ≡ Some domain → IsClocked n config i
-clocked_root n config i domain source (Port net) pin root e =
-    let it = position_at (λ name. is_net net (input_net n name)) domain config.domains e in
-    record { source = source; pin = pin; net = net; root = root; is = any_passes_from_place (λ name. is_net net (input_net n name)) config.domains it.place it.item it.at it.passes }
-clocked_root n config i domain source (Constant bit) pin root e = absurd (none-some domain e)
-clocked_root n config i domain source Other pin root e = absurd (none-some domain e)
+clocked_place : (n : Netlist) (config : Config) (i : ℕ) (place : ℕ × Bool) (source : Source) (clock : ClockRoot) (o : Option ℕ) → pin_of role.Clock i (pins_of n i) ≡ Some source → clock_root_of n source ≡ Some clock → place_of_port n config.domains clock.port ≡ o
+    → option_map (λ (d : ℕ). (d, clock.inverted)) o ≡ Some place → IsClocked n config i
+clocked_place n config i place source clock None pin root at e = absurd (none-some place e)
+clocked_place n config i place source clock (Some d) pin root at e =
+    let it = position_at (λ name. is_net clock.port (input_net n name)) d config.domains at in
+    record { source = source; pin = pin; clock = clock; root = root; is = any_passes_from_place (λ name. is_net clock.port (input_net n name)) config.domains it.place it.item it.at it.passes }
 
-clocked_pin : (n : Netlist) (config : Config) (i domain : ℕ) (o : Option Source) → pin_of role.Clock i (pins_of n i) ≡ o → option_and_then (place_of_source n config.domains) o ≡ Some domain → IsClocked n config i
-clocked_pin n config i domain None pin e = absurd (none-some domain e)
-clocked_pin n config i domain (Some source) pin e = clocked_root n config i domain source (root_of n source) pin refl e
+clocked_root : (n : Netlist) (config : Config) (i : ℕ) (place : ℕ × Bool) (source : Source) (r : Option ClockRoot) → pin_of role.Clock i (pins_of n i) ≡ Some source → clock_root_of n source ≡ r → place_of_clock n config.domains r ≡ Some place → IsClocked n config i
+clocked_root n config i place source None pin root e = absurd (none-some place e)
+clocked_root n config i place source (Some clock) pin root e = clocked_place n config i place source clock (place_of_port n config.domains clock.port) pin root refl e
 
-clocked : (n : Netlist) (config : Config) (i domain : ℕ) → domain_of n config i ≡ Some domain → IsClocked n config i
-clocked n config i domain e = clocked_pin n config i domain (pin_of role.Clock i (pins_of n i)) refl e
+clocked_pin : (n : Netlist) (config : Config) (i : ℕ) (place : ℕ × Bool) (o : Option Source) → pin_of role.Clock i (pins_of n i) ≡ o → option_and_then (clock_of_source n config.domains) o ≡ Some place → IsClocked n config i
+clocked_pin n config i place None pin e = absurd (none-some place e)
+clocked_pin n config i place (Some source) pin e = clocked_root n config i place source (clock_root_of n source) pin refl e
 
-domain_is : (n : Netlist) (config : Config) (i : ℕ) (c : IsClocked n config i) → domain_at n (config_ports n config) (pin_of role.Clock i (pins_of n i)) ≡ Some (port_root c.net)
+clocked : (n : Netlist) (config : Config) (i : ℕ) (place : ℕ × Bool) → clocked_by n config i ≡ Some place → IsClocked n config i
+clocked n config i place e = clocked_pin n config i place (pin_of role.Clock i (pins_of n i)) refl e
+
+domain_is : (n : Netlist) (config : Config) (i : ℕ) (c : IsClocked n config i) → domain_at n (config_ports n config) (pin_of role.Clock i (pins_of n i)) ≡ Some c.clock
 domain_is n config i c =
-    ap (domain_at n (config_ports n config)) c.pin ∙ ap (logic.domain_of (config_ports n config)) (traced_clock n c.source c.net c.root)
-    ∙ ap (λ (b : Bool). if b then Some (port_root c.net) else None) c.is
+    ap (domain_at n (config_ports n config)) c.pin ∙ ap (logic.domain_of (config_ports n config)) c.root ∙ ap (λ (b : Bool). if b then Some c.clock else None) c.is
 
 -- ---- its reset or set
 
@@ -195,22 +197,22 @@ pins_none library i (Some x) well may = no_pin i 0 (shape_of library x.cell).rol
 
 -- ---- the flip-flop
 
--- a cell of the chains: a flip-flop on a clock's port, with its data input, no scan pins, and perhaps a reset or set
+-- a cell of the chains: a flip-flop on a clock, with its data input, no scan pins, and perhaps a reset or set
 pub record IsModelled (n : Netlist) (config : Config) (i : ℕ) : Type 0 where
   pub kind : may_be_scanned (kind_at n i) ≡ true
   pub source : Source
   pub pin : pin_of role.Clock i (pins_of n i) ≡ Some source
-  pub clock : ℕ
-  pub root : root_of n source ≡ Port clock
+  pub clock : ClockRoot
+  pub root : clock_root_of n source ≡ Some clock
   pub force : Option Force
-  pub flop : flip_flop n (config_ports n config) i ≡ Some (record { domain = clock; falling = false; input = or_loose i (pin_of role.Din i (pins_of n i)); scan = None; force = force })
+  pub flop : flip_flop n (config_ports n config) i ≡ Some (record { domain = clock.port; falling = clock.inverted; input = or_loose i (pin_of role.Din i (pins_of n i)); scan = None; force = force })
 
 pub cell_modelled : (n : Netlist) (config : Config) (chain place : ℕ) (cell : InstanceId) → CanCapture n config → cell_at (plan_of n config).chains chain place ≡ Some cell → IsModelled n config cell.0
 cell_modelled n config chain place cell can stands =
     let ports : Ports = config_ports n config in
     let i : ℕ = cell.0 in
     let it : Passes n config i = stands_scanned n config chain place cell can.range stands in
-    let clock : IsClocked n config i = clocked n config i it.domain it.is_domain in
+    let clock : IsClocked n config i = clocked n config i it.clock it.is_clock in
     let force = force_pins n config (pin_of role.Reset i (pins_of n i)) (pin_of role.Preset i (pins_of n i)) it.is_held in
     let input : Source = or_loose i (pin_of role.Din i (pins_of n i)) in
     let scan : Option Scan = scan_of (pin_of role.ScanEnable i (pins_of n i)) (pin_of role.ScanIn i (pins_of n i)) in
@@ -218,14 +220,14 @@ cell_modelled n config chain place cell can stands =
       kind = it.kind;
       source = clock.source;
       pin = clock.pin;
-      clock = clock.net;
+      clock = clock.clock;
       root = clock.root;
       force = force.0;
       flop =
           ap (λ b. if b then modelled_of n ports i (pins_of n i) else None) (scannable_flop (kind_at n i) it.kind)
           ∙ ap (λ d. modelled d (forcing n ports (pin_of role.Reset i (pins_of n i)) (pin_of role.Preset i (pins_of n i))) input scan) (domain_is n config i clock)
-          ∙ ap (λ f. modelled (Some (port_root clock.net)) f input scan) force.1
-          ∙ ap (λ o. modelled (Some (port_root clock.net)) (Some force.0) input (scan_of o (pin_of role.ScanIn i (pins_of n i)))) (pins_none n.library i (slice_get n.instances i) can.library it.kind);
+          ∙ ap (λ f. modelled (Some clock.clock) f input scan) force.1
+          ∙ ap (λ o. modelled (Some clock.clock) (Some force.0) input (scan_of o (pin_of role.ScanIn i (pins_of n i)))) (pins_none n.library i (slice_get n.instances i) can.library it.kind);
     }
 
 -- ---- no lock-up

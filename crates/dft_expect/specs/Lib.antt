@@ -12,3 +12,4 @@ pub mod Unloads
 pub mod Policies
 pub mod Laws
 pub mod Examples
+pub mod CaptureExamples

@@ -1,5 +1,6 @@
 -- Where the next values of cells are read.
-use Rattle.std.specs.Prelude.{ℕ, Bool, false, if◌then◌else◌, ◌≡◌, List, length, Option, None, Some, option_map, slice_get, slice_index_or}
+use Rattle.std.specs.Prelude.{ℕ, Bool, false, ◌&&◌, if◌then◌else◌, ◌≡◌, List, length, Option, None, Some, slice_get, slice_index_or}
+use Rattle.std.specs.List.{list_any}
 use Rattle.dft_base.specs.declared.tri.Tri.{Tri}
 use Rattle.dft_base.specs.declared.tri.Tri.TheVariants.{Unknown}
 use Rattle.dft_base.specs.Tri.{known}
@@ -12,10 +13,11 @@ use Rattle.dft_netlist.specs.Netlist.{Netlist}
 use Rattle.dft_netlist.specs.Drivers.{Source, pins_of, source_of}
 use Rattle.dft_netlist.specs.Logic.{pin_of, or_loose}
 use Rattle.dft_netlist.specs.Settled.{value_from}
-use Rattle.dft_netlist.specs.Traces.{Root, Port, Other, root_of}
-use Rattle.dft_netlist.specs.Traces as traces
+use Rattle.dft_netlist.specs.declared.clock_roots.ClockRoot as declared
+use Rattle.dft_netlist.specs.ClockRoots.{ClockRoot, clock_root_of}
+use Rattle.dft_netlist.specs.ClockSteps.{shown_clock}
+use Rattle.dft_netlist.specs.Runs.{takes}
 use Rattle.dft_rules.specs.Rules.{is_net}
-use Rattle.dft_expect.specs.Loaded.{or_unknown}
 use Rattle.dft_expect.specs.declared.reads.Read.{Read}
 
 -- ---- pins
@@ -32,25 +34,20 @@ value_of_signal values Unconnected = Unknown
 
 -- ---- clocks
 
--- the bit of an input port that a root is
-abbrev pub port_of : Root → Option ℕ
-port_of (Port net) = Some net
-port_of (traces.Constant bit) = None
-port_of Other = None
+-- the clock that a source shows, if there is one
+abbrev pub clock_of : Netlist → Option Source → Option ClockRoot
+clock_of n None = None
+clock_of n (Some source) = clock_root_of n source
 
--- the bit of an input port that a source traces to
-abbrev pub clock_net : Netlist → Option Source → Option ℕ
-clock_net n None = None
-clock_net n (Some source) = port_of (root_of n source)
-
-abbrev pub clock_at : Netlist → Option Signal → Option ℕ
+-- the clock at what a pin is joined to
+abbrev pub clock_at : Netlist → Option Signal → Option ClockRoot
 clock_at n None = None
-clock_at n (Some signal) = port_of (root_of n (source_of 0 0 signal))
+clock_at n (Some signal) = clock_root_of n (source_of 0 0 signal)
 
 -- ---- the reads of cells
 
 pub record IsReadOf (n : Netlist) (cell : ℕ) (read : Read) : Type 0 where
-  pub clock : option_map (λ net. net.0) read.clock ≡ clock_net n (pin_of role.Clock cell (pins_of n cell))
+  pub clock : shown_clock read.clock ≡ clock_of n (pin_of role.Clock cell (pins_of n cell))
   pub input : (values : ℕ → Tri) → value_of_signal values read.input ≡ value_from values (or_loose cell (pin_of role.Din cell (pins_of n cell)))
 
 -- past the end nothing is read
@@ -61,11 +58,21 @@ pub record AreReads (n : Netlist) (cells : List InstanceId) (reads : List Read) 
   pub count : length reads ≡ length cells
   pub each : (number : ℕ) (cell : InstanceId) → slice_get cells number ≡ Some cell → IsReadOf n cell.0 (read_at reads number)
 
--- whether a clock, if there is one, is the one that captures
-abbrev pub same_net : Option NetId → (captures : Option NetId) → Bool
-same_net None captures = false
-same_net (Some net) captures = is_net net.0 captures
+-- ---- what is read
 
--- what is read of a cell: its next value where its clock captures, and else its loaded bit
-abbrev pub read_value : (ℕ → Tri) → (captures : Option NetId) → (loaded : Option Bool) → Read → Tri
-read_value values captures loaded read = if same_net read.clock captures then value_of_signal values read.input else or_unknown loaded
+-- whether a cell on this clock, if it is on one, takes its bit at this edge of the clock that captures
+abbrev pub is_at : Option declared.ClockRoot → (captures : Option NetId) → (rising : Bool) → Bool
+is_at None captures rising = false
+is_at (Some root) captures rising = is_net root.port.0 captures && takes rising root.inverted
+
+-- what is read of a cell at an edge: its next value where it takes one, and else what it had before
+abbrev pub read_value : (ℕ → Tri) → (captures : Option NetId) → (rising : Bool) → (before : Tri) → Read → Tri
+read_value values captures rising before read = if is_at read.clock captures rising then value_of_signal values read.input else before
+
+-- whether a cell is on an inverted clock
+abbrev pub is_falling : Option declared.ClockRoot → Bool
+is_falling None = false
+is_falling (Some root) = root.inverted
+
+abbrev pub any_falls : List Read → Bool
+any_falls reads = list_any (λ read. is_falling read.clock) reads

@@ -85,3 +85,17 @@ abbrev pub port_or : (may_have : Bool) → Option Bool → (before : Tri) → Tr
 port_or true (Some bit) before = known bit
 port_or true None before = before
 port_or false given before = before
+
+-- ---- what a setting is once the rising cells have moved
+
+abbrev pub turned : (inverted : Bool) → Tri → Tri
+turned true value = inverse value
+turned false value = value
+
+-- a cell has its value among these, and all else is as before
+abbrev pub moved_by : Setting → (cells : List Tri) → (before : Tri) → Tri
+moved_by (setting.Cell number inverted) cells before = turned inverted (slice_index_or cells number Unknown)
+moved_by setting.Input cells before = before
+moved_by setting.Reset cells before = before
+moved_by setting.Clock cells before = before
+moved_by setting.Unknown cells before = before

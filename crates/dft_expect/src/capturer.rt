@@ -1,14 +1,12 @@
 //! What patterns capture, up to 512 at a time.
 
-ghost use Rattle.std.specs.Prelude.{◌≡◌, ◌≤◌, ◌<◌, ◌^◌, None, length, IfOk};
-ghost use Rattle.dft_rules.specs.Refusals.{refusal};
-ghost use Rattle.dft_stitch.specs.Chains.{plan_of};
-ghost use Rattle.dft_expect.specs.Capturing.{AreCaptures, Captures, IsPrepared};
-ghost use Rattle.dft_expect.specs.Loaded.{all_cells};
+ghost use Rattle.std.specs.Prelude.{◌≡◌, ◌≤◌, ◌<◌, ◌^◌, length, IfOk};
+ghost use Rattle.dft_expect.specs.Capturing.{AreCaptures, Captures, IsPrepared, cells_in};
 
+use crate::moving::settle_again;
 use crate::pattern::Pattern;
-use crate::reading::{Reading, response, responses};
-use crate::reads::{Read, outputs, reads};
+use crate::reading::{Reading, fall, fall_all, rise, rise_all};
+use crate::reads::{Read, any_falls, outputs, reads};
 use crate::response::Response;
 use crate::settings::{Finding, Setting, flags, settings};
 use crate::sources::settle_all;
@@ -16,12 +14,13 @@ use crate::unloading::starts;
 use dft_config::Config;
 use dft_evaluator::Evaluator;
 use dft_netlist::{Design, NetId};
-use dft_stitch::Chains;
+use dft_stitch::Planned;
 use std::alloc::{AllocError, Global};
 use std::marker::Model;
+use std::slice::from_ref;
 
-/// What captures the responses of a design's patterns, up to 512 in one sweep over its nets. A clause sees the design and the
-/// configuration.
+/// What captures the responses of a design's patterns, up to 512 in one sweep over its nets, or in two where cells fall. A clause
+/// sees the design and the configuration.
 #[derive(Drop)]
 pub struct Capturer<'a> {
     design: &'a Design,
@@ -30,6 +29,7 @@ pub struct Capturer<'a> {
     settings: Vec<Setting>,
     reads: Vec<Read>,
     outputs: Vec<NetId>,
+    falls: bool,
 }
 
 impl<'a> Model for Capturer<'a> {
@@ -45,23 +45,19 @@ impl<'a> Model for Capturer<'a> {
 }
 
 impl<'a> Capturer<'a> {
-    /// What captures in a design that the scan rules pass, with its chains. All memory but that of the answers is taken here.
-    pub fn prepare(
-        alloc: Global,
-        design: &'a Design,
-        config: &'a Config,
-        chains: &Chains,
-    ) -> Result<Capturer<'a>, AllocError>
-        requires passed { refusal design.now config.now ≡ None }
-        requires chains { chains.now ≡ plan_of design.now config.now }
-        ensures { IfOk result (λ c. c ≡ record { design = design.entry.now; config = config.entry.now }) }
+    /// What captures in a planned design. All memory but that of the answers is taken here.
+    pub fn prepare(alloc: Global, planned: &Planned<'a>) -> Result<Capturer<'a>, AllocError>
+        ensures { IfOk result (λ c. c ≡ record { design = planned.entry.now.design; config = planned.entry.now.config }) }
     {
+        planned.soundness();
+        let design = planned.design();
+        let config = planned.config();
         design.soundness();
-        config.soundness();
         let evaluator = Evaluator::prepare(alloc, design)?;
-        let reads = reads(alloc, design, chains)?;
+        let reads = reads(alloc, design, planned.chains())?;
         let outputs = outputs(alloc, design)?;
-        let settings = all_settings(alloc, design, config, chains)?;
+        let settings = all_settings(alloc, planned)?;
+        let falls = any_falls(&reads);
         Ok(Capturer {
             design,
             config,
@@ -69,6 +65,7 @@ impl<'a> Capturer<'a> {
             settings,
             reads,
             outputs,
+            falls,
         })
     }
 
@@ -91,7 +88,20 @@ impl<'a> Capturer<'a> {
             reads: &self.reads,
             outputs: &self.outputs,
         };
-        responses(alloc, &reading, patterns)
+        let mut responses = rise_all(alloc, &reading, patterns)?;
+        if !self.falls {
+            return Ok(responses);
+        }
+        settle_again(&mut self.evaluator, &self.settings, &responses);
+        let reading = Reading {
+            design: self.design,
+            config: self.config,
+            evaluator: &self.evaluator,
+            reads: &self.reads,
+            outputs: &self.outputs,
+        };
+        fall_all(alloc, &reading, patterns, &mut responses)?;
+        Ok(responses)
     }
 
     /// What a pattern captures.
@@ -107,29 +117,37 @@ impl<'a> Capturer<'a> {
             reads: &self.reads,
             outputs: &self.outputs,
         };
-        response(alloc, &reading, pattern, 0)
+        let mut response = rise(alloc, &reading, pattern, 0)?;
+        if !self.falls {
+            return Ok(response);
+        }
+        settle_again(&mut self.evaluator, &self.settings, from_ref(&response));
+        let reading = Reading {
+            design: self.design,
+            config: self.config,
+            evaluator: &self.evaluator,
+            reads: &self.reads,
+            outputs: &self.outputs,
+        };
+        fall(alloc, &reading, pattern, 0, &mut response)?;
+        Ok(response)
     }
 }
 
 // What each net is set to.
-fn all_settings(
-    alloc: Global,
-    design: &Design,
-    config: &Config,
-    chains: &Chains,
-) -> Result<Vec<Setting>, AllocError>
-    requires chains { chains.now ≡ plan_of design.now config.now }
-    requires small { length (all_cells chains.now.chains) < 2 ^ 64 }
-    ensures { IfOk result (λ settings. IsPrepared design.now config.now settings.items) }
+fn all_settings(alloc: Global, planned: &Planned<'_>) -> Result<Vec<Setting>, AllocError>
+    requires { length (cells_in planned.now.design planned.now.config) < 2 ^ 64 }
+    ensures { IfOk result (λ settings. IsPrepared planned.now.design planned.now.config settings.items) }
 {
+    let design = planned.design();
+    let config = planned.config();
     let clocks = flags(alloc, design, config.domains())?;
     let resets = flags(alloc, design, config.resets())?;
-    let starts = starts(alloc, chains)?;
+    let starts = starts(alloc, planned.chains())?;
     let found = Finding {
-        design,
+        planned,
         clocks: &clocks,
         resets: &resets,
-        chains,
         starts: &starts,
     };
     settings(alloc, &found)

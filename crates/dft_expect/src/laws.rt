@@ -1,5 +1,6 @@
 //! What captures, masks and expected bits are.
 
+ghost use Rattle.dft_expect.specs.CaptureExamples.{BehindUnscanned, CellsInARow};
 ghost use Rattle.dft_expect.specs.Examples.{FallingPatterns, RisingPatterns};
 ghost use Rattle.dft_expect.specs.Laws.{CaptureIsOne, SettledStandsAbove, UnmaskedAreKnown};
 
@@ -23,4 +24,10 @@ pub fn unmasked_are_known()
 pub fn worked_patterns()
     ensures rising { RisingPatterns }
     ensures falling { FallingPatterns }
+{}
+
+/// Captures of two flip-flops in a row on one clock, of both edges, as cells of a chain and behind a flip-flop that is none.
+pub fn worked_captures()
+    ensures row { CellsInARow }
+    ensures unscanned { BehindUnscanned }
 {}

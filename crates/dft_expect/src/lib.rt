@@ -5,6 +5,7 @@ mod capturer;
 mod laws;
 mod loading;
 mod masking;
+mod moving;
 mod pattern;
 mod policy;
 mod reading;
@@ -16,7 +17,9 @@ mod sources;
 mod unloading;
 
 pub use capturer::Capturer;
-pub use laws::{capture_is_one, settled_stands_above, unmasked_are_known, worked_patterns};
+pub use laws::{
+    capture_is_one, settled_stands_above, unmasked_are_known, worked_captures, worked_patterns,
+};
 pub use loading::loaded;
 pub use masking::masks;
 pub use pattern::Pattern;

@@ -1,6 +1,7 @@
 //! Where a capture is read.
 
-ghost use Rattle.std.specs.Prelude.{◌≡◌, ℕ, ◌++◌, List, length, map, option_map, IfOk, IfSome, OnOk};
+ghost use Rattle.std.specs.Prelude.{◌≡◌, ℕ, ◌++◌, List, length, map, IfOk, IfSome, OnOk};
+ghost use Rattle.dft_netlist.specs.ClockSteps.{shown_clock};
 ghost use Rattle.dft_netlist.specs.Sound.{IsLive};
 ghost use Rattle.dft_expect.specs.Captures.{bits_out, output_bits};
 ghost use Rattle.dft_expect.specs.Loaded.{all_cells};
@@ -8,28 +9,24 @@ ghost use Rattle.dft_expect.specs.Reads.{AreReads, IsReadOf};
 ghost use Rattle.dft_expect.specs.Reads as spec;
 
 use dft_cells::Role;
-use dft_netlist::{Design, Dir, InstanceId, NetId, Port, Root, Signal};
+use dft_netlist::{ClockRoot, Design, Dir, InstanceId, NetId, Port, Signal};
 use dft_stitch::Chains;
 use std::alloc::{AllocError, Global};
 
-// Where the next value of a cell is read: the bit of an input port that its clock traces to, and what its data input is
-// joined to.
+// Where the next value of a cell is read: the clock that its clock pin shows, and what its data input is joined to.
 #[derive(Clone, Copy)]
 pub(crate) struct Read {
-    pub clock: Option<NetId>,
+    pub clock: Option<ClockRoot>,
     pub input: Signal,
 }
 
-// The bit of an input port that a pin traces to.
-fn clock_of(design: &Design, pin: Option<Signal>) -> Option<NetId>
+// The clock that a pin shows.
+fn clock_of(design: &Design, pin: Option<Signal>) -> Option<ClockRoot>
     requires { IfSome pin (IsLive (length design.now.nets)) }
-    ensures { option_map (λ net. net.0) result ≡ spec.clock_at design.now pin }
+    ensures { shown_clock result ≡ spec.clock_at design.now pin }
 {
     match pin {
-        Some(Signal::Net(net)) => match design.trace(net) {
-            Root::Port(port) => Some(port),
-            Root::Constant(_) | Root::Other => None,
-        },
+        Some(Signal::Net(net)) => design.clock_root(net),
         _ => None,
     }
 }
@@ -76,6 +73,28 @@ pub(crate) fn reads(
         add_reads(&mut reads, design, chains.chain(chain))?;
     }
     Ok(reads)
+}
+
+// Whether a cell is on an inverted clock.
+fn is_falling(clock: Option<ClockRoot>) -> bool
+    ensures { result ≡ spec.is_falling clock }
+{
+    match clock {
+        Some(root) => root.inverted,
+        None => false,
+    }
+}
+
+// Whether one of the cells takes its bit at the fall of its clock.
+pub(crate) fn any_falls(reads: &[Read]) -> bool
+    ensures { result ≡ spec.any_falls reads.now }
+{
+    for read in reads {
+        if is_falling(read.clock) {
+            return true;
+        }
+    }
+    false
 }
 
 // Adds the bits of an output port.

@@ -5,6 +5,7 @@ ghost use Rattle.std.specs.List.{list_any};
 ghost use Rattle.dft_netlist.specs.Connections.{input_net};
 ghost use Rattle.dft_netlist.specs.NetDrivers.{is_inverted as inverts, roles_at};
 ghost use Rattle.dft_rules.specs.Rules.{is_net};
+ghost use Rattle.dft_stitch.specs.Chains.{plan_of};
 ghost use Rattle.dft_expect.specs.Loaded.{all_cells};
 ghost use Rattle.dft_expect.specs.Settings.{AreFlags, AreSettings, IsCellSetting, IsSetting};
 ghost use Rattle.dft_expect.specs.Settings as spec;
@@ -14,7 +15,7 @@ use crate::unloading::starts;
 use dft_base::Name;
 use dft_cells::Role;
 use dft_netlist::{Design, InstanceId, NetDriver, NetId};
-use dft_stitch::Chains;
+use dft_stitch::{Chains, Planned};
 use std::alloc::{AllocError, Global};
 
 // What a net is set to before it is settled.
@@ -83,32 +84,33 @@ fn is_inverted(design: &Design, instance: InstanceId, pin: usize) -> bool
     }
 }
 
-// What the settings of nets are found by: the design, its clocks and its resets by net, and its chains.
+// What the settings of nets are found by: a planned design, its clocks and its resets by net, and how many cells stand before
+// each chain's.
 #[derive(Clone, Copy)]
 pub(crate) struct Finding<'a> {
-    pub design: &'a Design,
+    pub planned: &'a Planned<'a>,
     pub clocks: &'a [bool],
     pub resets: &'a [bool],
-    pub chains: &'a Chains,
     pub starts: &'a [usize],
 }
 
 // What a net is set to.
 fn setting_of(found: &Finding<'_>, net: NetId) -> Setting
-    requires net { net.0 < length found.now.design.now.nets }
-    requires clocks { length found.now.clocks.now ≡ length found.now.design.now.nets }
-    requires resets { length found.now.resets.now ≡ length found.now.design.now.nets }
-    requires starts { AreStarts found.now.chains.now.chains found.now.starts.now }
-    requires small { length (all_cells found.now.chains.now.chains) < 2 ^ 64 }
-    ensures { IsSetting found.now.design.now found.now.clocks.now found.now.resets.now (all_cells found.now.chains.now.chains) net.0 result }
+    requires net { net.0 < length found.now.planned.now.design.nets }
+    requires clocks { length found.now.clocks.now ≡ length found.now.planned.now.design.nets }
+    requires resets { length found.now.resets.now ≡ length found.now.planned.now.design.nets }
+    requires starts { AreStarts (plan_of found.now.planned.now.design found.now.planned.now.config).chains found.now.starts.now }
+    requires small { length (all_cells (plan_of found.now.planned.now.design found.now.planned.now.config).chains) < 2 ^ 64 }
+    ensures { IsSetting found.now.planned.now.design found.now.clocks.now found.now.resets.now (all_cells (plan_of found.now.planned.now.design found.now.planned.now.config).chains) net.0 result }
 {
-    match found.design.driver(net) {
+    let design = found.planned.design();
+    match design.driver(net) {
         NetDriver::Input => {
             port_setting(found.clocks[net.0 as usize], found.resets[net.0 as usize])
         }
         NetDriver::Pin { instance, pin } => {
-            let inverted = is_inverted(found.design, instance, pin);
-            cell_setting(found.chains, found.starts, instance, inverted)
+            let inverted = is_inverted(design, instance, pin);
+            cell_setting(found.planned.chains(), found.starts, instance, inverted)
         }
         NetDriver::Join(_) | NetDriver::Nothing => Setting::Unknown,
     }
@@ -116,14 +118,14 @@ fn setting_of(found: &Finding<'_>, net: NetId) -> Setting
 
 // What each net is set to.
 pub(crate) fn settings(alloc: Global, found: &Finding<'_>) -> Result<Vec<Setting>, AllocError>
-    requires clocks { length found.now.clocks.now ≡ length found.now.design.now.nets }
-    requires resets { length found.now.resets.now ≡ length found.now.design.now.nets }
-    requires starts { AreStarts found.now.chains.now.chains found.now.starts.now }
-    requires small { length (all_cells found.now.chains.now.chains) < 2 ^ 64 }
-    ensures { IfOk result (λ settings. AreSettings found.now.design.now found.now.clocks.now found.now.resets.now (all_cells found.now.chains.now.chains) settings.items) }
+    requires clocks { length found.now.clocks.now ≡ length found.now.planned.now.design.nets }
+    requires resets { length found.now.resets.now ≡ length found.now.planned.now.design.nets }
+    requires starts { AreStarts (plan_of found.now.planned.now.design found.now.planned.now.config).chains found.now.starts.now }
+    requires small { length (all_cells (plan_of found.now.planned.now.design found.now.planned.now.config).chains) < 2 ^ 64 }
+    ensures { IfOk result (λ settings. AreSettings found.now.planned.now.design found.now.clocks.now found.now.resets.now (all_cells (plan_of found.now.planned.now.design found.now.planned.now.config).chains) settings.items) }
 {
     let mut settings = Vec::new(alloc);
-    for net in 0..found.design.net_count() {
+    for net in 0..found.planned.design().net_count() {
         settings.push(setting_of(found, NetId(net)))?;
     }
     Ok(settings)

@@ -1,6 +1,6 @@
 -- No scan rule refuses a generated design with its configuration, and no limit of the plan.
 use Rattle.std.proofs.Common.{◌≡◌, ◌⊎◌, inl, inr, ℕ, zero, suc, ◌+◌, ◌*◌, ◌%◌, ◌<◌, ◌≤◌, Bool, true, false, cond, eqb, ltb, List, [], ◌∷◌, ◌++◌, length, map, Option, Some, None, count_by, refl, sym, ap, ◌∙◌, subst, arith}
-use Rattle.std.specs.Prelude.{is_some, option_map, find, ◌||◌, ◌&&◌}
+use Rattle.std.specs.Prelude.{is_some, option_map, find, slice_index_or, ◌||◌, ◌&&◌}
 use Rattle.std.specs.List.{range_with_len, list_any}
 use Rattle.std.proofs.lemmas.Bool.Decides.{nat_tests}
 use Rattle.std.proofs.lemmas.List.Sums.{sum_by-cons}
@@ -8,13 +8,14 @@ use Rattle.dft_base.specs.Lexing.{Text}
 use Rattle.dft_cells.specs.declared.cell.Cell.{Cell}
 use Rattle.dft_cells.specs.Standard.{standard_cells}
 use Rattle.dft_netlist.specs.Drivers.{Source, Net, Driver, Input, Joined, Driven, driver, driver_in, shape_of_cell, connections_from}
-use Rattle.dft_netlist.specs.Traces.{Other, Passed, Nothing, passed_by_gate, root_of_passed, root_of_driver, root_within}
+use Rattle.dft_netlist.specs.ClockRoots.{ClockRoot, turn_of, clock_of_gate, clock_of_driver, clock_within}
 use Rattle.dft_rules.specs.declared.error.RuleError.{RuleError}
 use Rattle.dft_rules.specs.declared.judged.Judged.{Judged}
 use Rattle.dft_rules.specs.declared.judged.Judged.TheVariants.{Scanned}
 use Rattle.dft_rules.specs.Refusals.{unknown_port, first_failing, present_as, present, first_present, takes, uses_data, is_data_of, is_clock_as_data, clock_as_data, is_scanned, too_few, refusal}
-use Rattle.dft_rules.specs.Rules.{place_of_root, place_of_source, judged, judgements}
+use Rattle.dft_rules.specs.Rules.{place_of_clock, clock_of_source, judged, judgements}
 use Rattle.dft_rules.proofs.CheckLemmas.{at_resets, at_keep, at_present, at_clocks, at_ports, at_count, at_end}
+use Rattle.dft_stitch.specs.Chains.{clock_in, is_falling}
 use Rattle.dft_generate.specs.Configurations.{configuration}
 use Rattle.dft_generate.specs.Words.{word_at}
 use Rattle.dft_generate_laws.specs.Designs.{nets_of, number_in, q_of, d_of, g_of, first_of, second_of, gate_in, flop_in, instances_in, design}
@@ -74,35 +75,35 @@ module _ (size : ℕ) (words : List ℕ) (few : size ≤ 20000) (some : 0 < size
       ap (λ (b : Bool). b || (is_data_of standard_cells net (flop_in all from) || list_any (is_data_of standard_cells net) (instances_in all size words (range_with_len (from + 1) count)))) g
       ∙ ap (λ (b : Bool). b || list_any (is_data_of standard_cells net) (instances_in all size words (range_with_len (from + 1) count))) f ∙ rest
 
-  -- another net traces to no clock
-  abbrev PlaceNone : (net : ℕ) → Driver → Type 0
-  PlaceNone net d = (steps : ℕ) → place_of_root (design size words) configuration.domains (root_of_driver (root_within (design size words) steps) net d) ≡ None
+  -- another net shows no clock
+  abbrev NoClock : (net : ℕ) → Driver → Type 0
+  NoClock net d = (steps : ℕ) → clock_of_driver (clock_within (design size words) steps) net d ≡ None
 
-  gate_root : (cell net : ℕ) → PlaceNone net (gate_drives all size words cell)
-  gate_root cell net steps =
+  gate_clock : (cell net : ℕ) → NoClock net (gate_drives all size words cell)
+  gate_clock cell net steps =
       let g = gate_known (word_at words (cell * 3)) in
       let inputs : List Source = Net (number_in all (q_of (first_of size words cell))) ∷ Net (number_in all (q_of (second_of size words cell))) ∷ [] in
-      ap (λ (p : Passed). place_of_root (design size words) configuration.domains (root_of_passed (root_within (design size words) steps) p)) (each_kind (λ kind. passed_by_gate kind inputs ≡ Nothing) refl refl refl refl g.kind g.among)
+      ap (λ (turns : Option Bool). clock_of_gate (clock_within (design size words) steps) turns inputs) (each_kind (λ kind. turn_of kind ≡ None) refl refl refl refl g.kind g.among)
 
-  q_root : (steps : ℕ) → root_within (design size words) steps (Net (number_in all (q_of 0))) ≡ Other
-  q_root zero = refl
-  q_root (suc steps) = ap (root_of_driver (root_within (design size words) steps) (number_in all (q_of 0))) (q_driver size words 0 few some)
+  q_clock : (steps : ℕ) → clock_within (design size words) steps (Net (number_in all (q_of 0))) ≡ None
+  q_clock zero = refl
+  q_clock (suc steps) = ap (clock_of_driver (clock_within (design size words) steps) (number_in all (q_of 0))) (q_driver size words 0 few some)
 
-  join_root : (net : ℕ) → PlaceNone net (Joined (Net (number_in all (q_of 0))))
-  join_root net steps = ap (place_of_root (design size words) configuration.domains) (q_root steps)
+  join_clock : (net : ℕ) → NoClock net (Joined (Net (number_in all (q_of 0))))
+  join_clock net steps = q_clock steps
 
-  cells_root : (net i from count : ℕ) → AllDrive (PlaceNone net) (cells_drive all size words i from count)
-  cells_root net i from zero = tt
-  cells_root net i from (suc count) = (gate_root from net, (λ steps. refl, cells_root net (suc (suc i)) (from + 1) count))
+  cells_clock : (net i from count : ℕ) → AllDrive (NoClock net) (cells_drive all size words i from count)
+  cells_clock net i from zero = tt
+  cells_clock net i from (suc count) = (gate_clock from net, (λ steps. refl, cells_clock net (suc (suc i)) (from + 1) count))
 
-  far_root : (net : ℕ) → 2 ≤ net → PlaceNone net (driver (design size words) net)
-  far_root net high =
+  far_clock : (net : ℕ) → 2 ≤ net → NoClock net (driver (design size words) net)
+  far_clock net high =
       let cells : List Driven = cells_drive all size words 0 0 size ++ (2, Joined (Net (number_in all (q_of 0)))) ∷ [] in
       let a : eqb 0 net ≡ false = grind (arith, nat_tests) in
       let b : eqb 1 net ≡ false = grind (arith, nat_tests) in
       let is : driver (design size words) net ≡ driver_in cells net =
       ap (λ (ds : List Driven). driver_in ds net) (all-listed size words) ∙ ap (λ t. cond t Input (driver_in ((1, Input) ∷ cells) net)) a ∙ ap (λ t. cond t Input (driver_in cells net)) b in
-      subst (PlaceNone net) (sym is) (drive_in (PlaceNone net) cells net (λ steps. refl) (drive_append (PlaceNone net) (cells_drive all size words 0 0 size) ((2, Joined (Net (number_in all (q_of 0)))) ∷ []) (cells_root net 0 0 size) (join_root net, tt)))
+      subst (NoClock net) (sym is) (drive_in (NoClock net) cells net (λ steps. refl) (drive_append (NoClock net) (cells_drive all size words 0 0 size) ((2, Joined (Net (number_in all (q_of 0)))) ∷ []) (cells_clock net 0 0 size) (join_clock net, tt)))
 
   near_or : (net : ℕ) → (net < 3) ⊎ (2 ≤ net)
   near_or zero = inl (omega arith)
@@ -115,8 +116,8 @@ module _ (size : ℕ) (words : List ℕ) (few : size ≤ 20000) (some : 0 < size
 
   no_clock : (net : ℕ) → is_clock_as_data (design size words) configuration.domains net ≡ false
   no_clock net = elim (near_or net) [
-    | inl low ↦ and_false (is_some (place_of_source (design size words) configuration.domains (Net net))) (list_any (is_data_of standard_cells net) (design size words).instances) (no_data net size 0 low (omega arith))
-    | inr high ↦ ap (λ (o : Option ℕ). is_some o && list_any (is_data_of standard_cells net) (design size words).instances) (far_root net high (length all))
+    | inl low ↦ and_false (is_some (clock_of_source (design size words) configuration.domains (Net net))) (list_any (is_data_of standard_cells net) (design size words).instances) (no_data net size 0 low (omega arith))
+    | inr high ↦ ap (λ (o : Option ClockRoot). is_some (place_of_clock (design size words) configuration.domains o) && list_any (is_data_of standard_cells net) (design size words).instances) (far_clock net high (length all))
   ]
 
   none_found : (p : ℕ → Bool) (xs : List ℕ) → ((x : ℕ) → p x ≡ false) → find p xs ≡ None
@@ -148,6 +149,17 @@ module _ (size : ℕ) (words : List ℕ) (few : size ≤ 20000) (some : 0 < size
   judgements-are =
       let count : length (design size words).instances ≡ size + size = let l = instances-length all size words size 0 in omega (arith, l) in
       ap (λ (k : ℕ). map (judged (design size words) configuration) (range_with_len 0 k)) count ∙ judged_from size 0 (omega arith)
+
+  -- each at the rises of its clock
+  rising : (count from i : ℕ) → is_falling (clock_in (slice_index_or (verdicts from count) i None)) ≡ false
+  rising zero from zero = refl
+  rising zero from (suc i) = refl
+  rising (suc count) from zero = refl
+  rising (suc count) from (suc zero) = refl
+  rising (suc count) from (suc (suc i)) = rising count (from + 1) i
+
+  pub all_rise : (i : ℕ) → is_falling (clock_in (slice_index_or (judgements (design size words) configuration) i None)) ≡ false
+  all_rise i = ap (λ (js : List (Option Judged)). is_falling (clock_in (slice_index_or js i None))) judgements-are ∙ rising size 0 i
 
   scanned_count : (count from : ℕ) → count_by is_scanned (verdicts from count) ≡ count
   scanned_count zero from = refl

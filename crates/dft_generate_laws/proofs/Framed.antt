@@ -1,12 +1,11 @@
 -- Insertion refuses nothing of a generated design, and no check before the cubes does.
-use Rattle.std.proofs.Common.{◌≡◌, ◌⊎◌, inl, inr, ℕ, zero, suc, ◌+◌, ◌*◌, ◌<◌, ◌≤◌, Bool, true, false, cond, leb, List, [], ◌∷◌, ◌++◌, length, map, flat_map, get_or, take, drop, Option, None, Some, is_some, option_and_then, slice_get, codes, decimal, refl, sym, ap, ◌∙◌, subst, arith, append_assoc, length-append}
+use Rattle.std.proofs.Common.{◌≡◌, ◌⊎◌, inl, inr, ℕ, zero, suc, ◌+◌, ◌*◌, ◌<◌, ◌≤◌, Bool, true, false, leb, List, [], ◌∷◌, ◌++◌, length, map, flat_map, get_or, take, drop, Option, None, Some, option_and_then, slice_get, codes, decimal, refl, sym, ap, ◌∙◌, subst, arith, append_assoc, length-append}
 use Rattle.std.specs.Prelude.{slice_index_or, option_map}
 use Rattle.std.specs.List.{filter_map, cons_option, range_with_len}
 use Rattle.std.specs.Str.{bytes_eq}
 use Rattle.std.proofs.lemmas.Bool.Decides.{nat_tests}
 use Rattle.std.proofs.lemmas.Fmt.{decimal_digit}
-use Rattle.std.proofs.lemmas.List.{get_or_past}
-use Rattle.std.proofs.lemmas.List.FromFn.{get_or-map-range_with_len, length-map-range_with_len, length-range_with_len}
+use Rattle.std.proofs.lemmas.List.FromFn.{length-range_with_len}
 use Rattle.std.proofs.lemmas.Option.{none-some}
 use Rattle.dft_base.specs.Lexing.{Text}
 use Rattle.dft_base.proofs.TextLemmas.{differ}
@@ -17,14 +16,12 @@ use Rattle.dft_netlist.specs.declared.ids.InstanceId.{InstanceId}
 use Rattle.dft_netlist.specs.declared.instance.Instance.{Instance}
 use Rattle.dft_netlist.specs.declared.limits.TheConstants.{MAX_NETS}
 use Rattle.dft_netlist.specs.Names.{is_taken, instance_name}
-use Rattle.dft_netlist.specs.Drivers.{kind_at}
 use Rattle.dft_netlist.specs.Netlist.{Netlist}
-use Rattle.dft_netlist.proofs.LiveLemmas.{le_or_lt}
 use Rattle.dft_rules.specs.declared.judged.Judged.{Judged}
 use Rattle.dft_rules.specs.Refusals.{is_scanned}
-use Rattle.dft_rules.specs.Rules.{judged, judged_by, judgements, may_be_scanned, domain_of, are_held_at, is_kept, scan_cell_in, scan_cell_of}
+use Rattle.dft_rules.specs.Rules.{judged, judgements, scan_cell_in}
 use Rattle.dft_stitch.specs.declared.places.LockupPlace.{LockupPlace}
-use Rattle.dft_stitch.specs.Chains.{blocks, chain_lengths, chains_of, clock_at, clock_in, clock_of, is_falling, lockup_after, lockups_in, cells_of, plan_of}
+use Rattle.dft_stitch.specs.Chains.{blocks, chain_lengths, chains_of, clock_at, clock_of, is_falling, lockup_after, lockups_in, cells_of, plan_of}
 use Rattle.dft_stitch.specs.Plans.{Plan}
 use Rattle.dft_stitch.proofs.LockupLemmas.{between_is, lockups_all}
 use Rattle.dft_parts.specs.Parts.{parts_refusal}
@@ -45,7 +42,7 @@ use Rattle.dft_generate_laws.proofs.Ties.{heads_differ}
 use Rattle.dft_generate_laws.proofs.NetNames.{IsNetName, OfClock0, OfClock1, OfOutput, OfCell, are_nets, own_words, own-are}
 use Rattle.dft_generate_laws.proofs.Said.{nets_grow}
 use Rattle.dft_generate_laws.proofs.Places.{nets-few, instances-length}
-use Rattle.dft_generate_laws.proofs.Checks.{scanned_here, rules_pass}
+use Rattle.dft_generate_laws.proofs.Checks.{all_rise, scanned_here, rules_pass}
 use Rattle.dft_generate_laws.proofs.Plans.{few_cells, plan_passes}
 use Rattle.dft_generate_laws.proofs.Sizes.{sum_of}
 use Rattle.dft_generate_laws.proofs.Added.{AreLow, edt_most}
@@ -94,29 +91,15 @@ lockups_few verdicts (x ∷ rest) front =
     omega (arith, more, here, length-append (lockups_in verdicts chains (length front)) (flat_map (lockups_in verdicts chains) (range_with_len (length front + 1) (length rest))))
 
 -- no cell falls, so each lock-up is low
-judged_rises : (t : Bool) (domain : Option ℕ) (held scans kept : Bool) → is_falling (clock_in (cond t (judged_by domain held scans kept) None)) ≡ false
-judged_rises false domain held scans kept = refl
-judged_rises true None held scans kept = refl
-judged_rises true (Some d) false scans kept = refl
-judged_rises true (Some d) true false kept = refl
-judged_rises true (Some d) true true true = refl
-judged_rises true (Some d) true true false = refl
+low_at : (size : ℕ) (words : List ℕ) → size ≤ 20000 → 0 < size → (o : Option InstanceId) (l : LockupPlace) →
+    option_and_then (clock_of (judgements (design size words) configuration)) o ≡ Some (record { domain = l.domain; falling = l.high }) → l.high ≡ false
+low_at size words few some None l is = absurd (none-some (record { domain = l.domain; falling = l.high }) is)
+low_at size words few some (Some cell) l is = sym (ap is_falling is) ∙ all_rise size words few some cell.0
 
-verdict_rises : (n : Netlist) (i : ℕ) → is_falling (clock_in (slice_index_or (judgements n configuration) i None)) ≡ false
-verdict_rises n i = elim (le_or_lt (length n.instances) i) [
-  | inl past ↦ ap (λ (o : Option Judged). is_falling (clock_in o)) (get_or_past (judgements n configuration) i None (omega (arith, past, length-map-range_with_len (judged n configuration) 0 (length n.instances))))
-  | inr less ↦ ap (λ (o : Option Judged). is_falling (clock_in o)) (get_or-map-range_with_len (judged n configuration) 0 (length n.instances) i i None less (omega arith))
-      ∙ judged_rises (may_be_scanned (kind_at n i)) (domain_of n configuration i) (are_held_at n configuration i) (is_some (scan_cell_of n i)) (is_kept n configuration.keep i)
-]
-
-low_at : (n : Netlist) (o : Option InstanceId) (l : LockupPlace) → option_and_then (clock_of (judgements n configuration)) o ≡ Some (record { domain = l.domain; falling = l.high }) → l.high ≡ false
-low_at n None l is = absurd (none-some (record { domain = l.domain; falling = l.high }) is)
-low_at n (Some cell) l is = sym (ap is_falling is) ∙ verdict_rises n cell.0
-
-low_after : (n : Netlist) (chain place : ℕ) (cells : List InstanceId) (l : LockupPlace) → lockup_after (judgements n configuration) chain cells place ≡ Some l → l.high ≡ false
-low_after n chain place cells l is =
-    let v : List (Option Judged) = judgements n configuration in
-    low_at n (slice_get cells place) l (between_is chain place (clock_at v cells place) (clock_at v cells (place + 1)) l is).clock_is
+low_after : (size : ℕ) (words : List ℕ) → size ≤ 20000 → 0 < size → (chain place : ℕ) (cells : List InstanceId) (l : LockupPlace) → lockup_after (judgements (design size words) configuration) chain cells place ≡ Some l → l.high ≡ false
+low_after size words few some chain place cells l is =
+    let v : List (Option Judged) = judgements (design size words) configuration in
+    low_at size words few some (slice_get cells place) l (between_is chain place (clock_at v cells place) (clock_at v cells (place + 1)) l is).clock_is
 
 -- how much there is in the plan at most
 pub record IsSmall (size : ℕ) (plan : Plan) : Type 0 where
@@ -136,7 +119,7 @@ plan_small size words few some =
     record {
       cells = omega (arith, all, count, scanned);
       lockups = omega (arith, lockups, all, count, scanned);
-      low = lockups_all (λ l. l.high ≡ false) verdicts (chains_of cells 16) (λ chain place l less is. low_after (design size words) chain place (slice_index_or (chains_of cells 16) chain []) l is);
+      low = lockups_all (λ l. l.high ≡ false) verdicts (chains_of cells 16) (λ chain place l less is. low_after size words few some chain place (slice_index_or (chains_of cells 16) chain []) l is);
       chains = blocks_count (chain_lengths (length cells) 16) cells;
     }
 

@@ -12,7 +12,7 @@ use Rattle.dft_netlist.specs.Drivers.{Net, kind_of, kind_at, pins_at, shape_of_c
 use Rattle.dft_netlist.specs.Logic.{pin_of}
 use Rattle.dft_netlist.specs.Names.{find_net, find_net_from}
 use Rattle.dft_rules.specs.declared.judged.Judged.TheVariants.{Scanned}
-use Rattle.dft_rules.specs.Rules.{may_be_scanned, place_of_source, domain_of, are_held, are_held_at, scan_cell_of, scan_cell_in, judged}
+use Rattle.dft_rules.specs.Rules.{may_be_scanned, clock_of_source, clocked_by, are_held, are_held_at, scan_cell_of, scan_cell_in, judged}
 use Rattle.dft_generate.specs.Configurations.{configuration}
 use Rattle.dft_generate.specs.Words.{word_at}
 use Rattle.dft_generate_laws.specs.Designs.{design}
@@ -32,7 +32,7 @@ clock1_net size words =
     let found : find_net (design size words) (codes "clk1") ≡ Some (record { 0 = 1 }) = ap (λ (xs : List Text). find_net_from 0 xs (codes "clk1")) (nets_grow size words).is in
     rw found refl
 
-clock_place : (size : ℕ) (words : List ℕ) (clock : ℕ) → clock < 2 → place_of_source (design size words) configuration.domains (Net clock) ≡ Some clock
+clock_place : (size : ℕ) (words : List ℕ) (clock : ℕ) → clock < 2 → clock_of_source (design size words) configuration.domains (Net clock) ≡ Some (clock, false)
 clock_place size words zero lt = rw (clock0_net size words) refl
 clock_place size words (suc zero) lt = rw (clock0_net size words, clock1_net size words) refl
 clock_place size words (suc (suc clock)) lt = absurd (omega (arith, lt))
@@ -55,8 +55,8 @@ judged_flop size words k lt =
     let i : ℕ = suc (k + k) in
     let at = flop_there size words k lt in
     let kind : may_be_scanned (kind_at n i) ≡ true = ap (λ (o : Option Instance). may_be_scanned (kind_of standard_cells o)) at in
-    let clock : domain_of n configuration i ≡ Some (k % 2) =
-    ap (λ (o : Option Instance). option_and_then (place_of_source n configuration.domains) (pin_of role.Clock i (pins_at standard_cells o))) at ∙ clock_place size words (k % 2) (mod-lt k (omega arith)) in
+    let clock : clocked_by n configuration i ≡ Some (k % 2, false) =
+    ap (λ (o : Option Instance). option_and_then (clock_of_source n configuration.domains) (pin_of role.Clock i (pins_at standard_cells o))) at ∙ clock_place size words (k % 2) (mod-lt k (omega arith)) in
     let held : are_held_at n configuration i ≡ true =
     ap (λ (o : Option Instance). are_held n [] (pin_of role.Reset i (pins_at standard_cells o)) (pin_of role.Preset i (pins_at standard_cells o))) at in
     let scans : is_some (scan_cell_of n i) ≡ true = ap (λ (o : Option Instance). is_some (option_and_then (λ (x : Instance). scan_cell_in standard_cells x.cell) o)) at in

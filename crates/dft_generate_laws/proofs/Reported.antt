@@ -23,7 +23,7 @@ use Rattle.dft_rules.specs.declared.judged.Judged.{Judged}
 use Rattle.dft_rules.specs.declared.judged.Judged.TheVariants.{Scanned, Unscanned}
 use Rattle.dft_rules.specs.Rules.{judgements}
 use Rattle.dft_stitch.specs.declared.places.CellPlace.{CellPlace}
-use Rattle.dft_stitch.specs.Chains.{cells_of, domain_of, plan_of}
+use Rattle.dft_stitch.specs.Chains.{cells_of, clock_of, domain_of, is_falling, plan_of}
 use Rattle.dft_stitch.specs.Plans.{Plan, falling_head}
 use Rattle.dft_cubes.specs.declared.cube.Cube.{Cube}
 use Rattle.dft_cubes.specs.declared.cube.Merged.{Merged}
@@ -40,7 +40,7 @@ use Rattle.dft_report.specs.declared.report.ScannedLine.{ScannedLine}
 use Rattle.dft_report.specs.declared.report.SumLine.{SumLine}
 use Rattle.dft_report.specs.declared.report.UnscannedLine.{UnscannedLine}
 use Rattle.dft_report.specs.declared.report.Variable.{Variable}
-use Rattle.dft_report.specs.Written.{bit_text, chain_line, chain_lines, counts_text, cube_lines, header_line, lines_before_cubes, outcome_text, place_text, rule_text, scanned_line, sum_line, unscanned_line, unsolvable_text, variable_text, variables_text, written}
+use Rattle.dft_report.specs.Written.{bit_text, chain_line, chain_lines, counts_text, cube_lines, edge_text, header_line, lines_before_cubes, outcome_text, place_text, rule_text, scanned_line, sum_line, unscanned_line, unsolvable_text, variable_text, variables_text, written}
 use Rattle.dft_scan.specs.Reports.{domain_name, name_of, scanned_as, scanned_in, unscanned_as}
 use Rattle.dft_scan.proofs.ListLemmas.{filter_shorter}
 use Rattle.dft_cube_reports.specs.Outcomes as outcomes
@@ -141,12 +141,17 @@ chains_short (cells ∷ chains) from count few =
       length-append (chain_line from (length cells)) (chain_lines (from + 1) (map length chains)),
     )
 
-scanned_short : (chain place : ℕ) (name domain : Option Text) (l : ScannedLine) → chain < 16 → place < 16240 → IsShortName name → ((t : Text) → domain ≡ Some t → length t ≤ 4) → scanned_as chain place name domain ≡ Some l → length (scanned_line l) ≤ 41
+edge_short : (falling : Bool) → length (edge_text falling) ≤ 8
+edge_short false = omega arith
+edge_short true = omega arith
+
+scanned_short : (chain place : ℕ) (falling : Bool) (name domain : Option Text) (l : ScannedLine) → chain < 16 → place < 16240 → IsShortName name → ((t : Text) → domain ≡ Some t → length t ≤ 4) → scanned_as chain place falling name domain ≡ Some l →
+    length (scanned_line l) ≤ 49
 unfolding scanned_line place_text
-scanned_short chain place (Some name) (Some domain) l low few n d is =
-    let behind : Text = codes " place " ++ (decimal place ++ codes "\n") in
+scanned_short chain place falling (Some name) (Some domain) l low few n d is =
+    let behind : Text = codes " place " ++ (decimal place ++ (edge_text falling ++ codes "\n")) in
     let at : Text = codes " chain " ++ (decimal chain ++ behind) in
-    subst (λ (x : ScannedLine). length (scanned_line x) ≤ 41) (same_Some _ l is)
+    subst (λ (x : ScannedLine). length (scanned_line x) ≤ 49) (same_Some _ l is)
     (omega (
       arith,
       n name refl,
@@ -156,10 +161,12 @@ scanned_short chain place (Some name) (Some domain) l low few n d is =
       length-append name (codes " " ++ (domain ++ at)),
       length-append domain at,
       length-append (decimal chain) behind,
-      length-append (decimal place) (codes "\n"),
+      length-append (decimal place) (edge_text falling ++ codes "\n"),
+      length-append (edge_text falling) (codes "\n"),
+      edge_short falling,
     ))
-scanned_short chain place (Some name) None l low few n d is = absurd (none-some l is)
-scanned_short chain place None domain l low few n d is = absurd (none-some l is)
+scanned_short chain place falling (Some name) None l low few n d is = absurd (none-some l is)
+scanned_short chain place falling None domain l low few n d is = absurd (none-some l is)
 
 unscanned_short : (name : Text) (verdict : Option Judged) (l : UnscannedLine) → length name ≤ 6 → unscanned_as (Some name) verdict ≡ Some l → length (unscanned_line l) ≤ 20
 unfolding unscanned_line
@@ -177,14 +184,14 @@ unscanned_short name None l le is = absurd (none-some l is)
 
 module _ (size : ℕ) (words : List ℕ) (few : size ≤ 16240) (verdicts : List (Option Judged)) where
   scanned_most : (chains : List (List InstanceId)) (from : ℕ) → from + length chains ≤ 16 → sum_of (λ (cells : List InstanceId). length cells * 1) chains ≤ 16240
-      → length (flat_map scanned_line (flat_map (λ (at : ℕ × List InstanceId). scanned_in (design size words) configuration verdicts at.0 at.1) (enumerate_from from chains))) ≤ sum_of (λ (cells : List InstanceId). length cells * 1) chains * 41
+      → length (flat_map scanned_line (flat_map (λ (at : ℕ × List InstanceId). scanned_in (design size words) configuration verdicts at.0 at.1) (enumerate_from from chains))) ≤ sum_of (λ (cells : List InstanceId). length cells * 1) chains * 49
   scanned_most [] from count cells = omega arith
   scanned_most (chain ∷ chains) from count cells =
       let n : Netlist = design size words in
       let here : List ScannedLine = scanned_in n configuration verdicts from chain in
       let rest : List ScannedLine = flat_map (λ (at : ℕ × List InstanceId). scanned_in n configuration verdicts at.0 at.1) (enumerate_from (from + 1) chains) in
-      let a = lines_from (λ (place : ℕ) (cell : InstanceId). scanned_as from place (name_of n cell.0) (domain_name configuration verdicts cell)) scanned_line 41 16240
-      (λ place cell l lt is. scanned_short from place (name_of n cell.0) (domain_name configuration verdicts cell) l (omega (arith, count)) lt (instance_short size words cell.0 few) (domain_short (domain_of verdicts cell)) is)
+      let a = lines_from (λ (place : ℕ) (cell : InstanceId). scanned_as from place (is_falling (clock_of verdicts cell)) (name_of n cell.0) (domain_name configuration verdicts cell)) scanned_line 49 16240
+      (λ place cell l lt is. scanned_short from place (is_falling (clock_of verdicts cell)) (name_of n cell.0) (domain_name configuration verdicts cell) l (omega (arith, count)) lt (instance_short size words cell.0 few) (domain_short (domain_of verdicts cell)) is)
       chain 0 (omega (arith, cells)) in
       let b = scanned_most chains (from + 1) (omega (arith, count)) (omega (arith, cells)) in
       omega (arith, a, b, ap length (flat_map-append scanned_line here rest), length-append (flat_map scanned_line here) (flat_map scanned_line rest))

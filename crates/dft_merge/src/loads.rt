@@ -67,6 +67,13 @@ impl<'a> Loads<'a> {
         plans_stand_apart();
     }
 
+    /// The planned design.
+    pub fn planned(&self) -> &Planned<'a>
+        ensures { result.now ≡ record { design = self.now.design; config = self.now.config } }
+    {
+        &self.planned
+    }
+
     /// The design.
     pub fn design(&self) -> &'a Design
         ensures { result.now ≡ self.now.design }

@@ -1,5 +1,5 @@
 -- A capture leaves what the pattern says that it captures.
-use Rattle.std.proofs.Common.{ℕ, zero, suc, ◌<◌, ◌≤◌, ◌≡◌, ◌==◌, Bool, true, false, List, [], ◌∷◌, ◌++◌, length, Option, None, Some, is_some, option_map, slice_get, refl, sym, ap, subst, arith, ◌∙◌}
+use Rattle.std.proofs.Common.{ℕ, zero, suc, ◌<◌, ◌≤◌, ◌≡◌, Bool, true, false, List, [], ◌∷◌, ◌++◌, length, Option, None, Some, is_some, option_map, slice_get, refl, sym, ap, subst, arith, ◌∙◌}
 use Rattle.std.specs.Prelude.{if◌then◌else◌}
 use Rattle.std.proofs.lemmas.Bool.{eqb-true, eq-eqb}
 use Rattle.std.proofs.lemmas.Option.{none-some, same_Some, slice_get-map, slice_get_within}
@@ -40,12 +40,14 @@ use Rattle.dft_stitch.specs.Chains.{cells_of, plan_of}
 use Rattle.dft_stitch.specs.Plans.{cell_at, falling_head}
 use Rattle.dft_stitch.proofs.BlockLemmas.{chain_count}
 use Rattle.dft_chains.specs.ScanOff.{Places}
-use Rattle.dft_edt.specs.Captures.{StandsOver}
+use Rattle.dft_edt.specs.Captures.{IsCaptured, StandsOver}
 use Rattle.dft_edt.specs.Captures as edt
 use Rattle.dft_edt.specs.Loads.{load_sum}
 use Rattle.dft_edt.specs.Vectors.{IsClearing}
-use Rattle.dft_expect.specs.Captures.{bit_of_port, bits_out, capture_vector, output_bits, port_value}
-use Rattle.dft_expect.specs.Loaded.{loaded_bit, loaded_of, loaded_values}
+use Rattle.dft_expect.specs.Captures.{Settled, after_edges, bit_of_port, bits_out, capture_vector, output_bits, port_value}
+use Rattle.dft_expect.specs.Loaded.{all_cells, loaded_bit, loaded_of, loaded_values}
+use Rattle.dft_expect.proofs.CellNumbers.{number_of}
+use Rattle.dft_expect.proofs.VectorLemmas.{chained}
 use Rattle.dft_scan_frame.specs.ConfigPorts.{config_ports}
 use Rattle.dft_scan_frame.specs.Statements.{IsReady}
 use Rattle.dft_scan_frame.proofs.Contained.{AreMatched}
@@ -68,7 +70,8 @@ use Rattle.dft_pattern_behavior.specs.Given.{Pattern, IsPattern, IsLoadOf, IsCap
 use Rattle.dft_pattern_behavior.specs.Rounds.{ShowsCapture}
 use Rattle.dft_pattern_behavior.proofs.Clocks.{named_input, pulsed_rests, reset_rests}
 use Rattle.dft_pattern_behavior.proofs.Loaded.{loaded_above}
-use Rattle.dft_pattern_behavior.proofs.Unloading.{HasCaptured, captured_in}
+use Rattle.dft_pattern_behavior.proofs.Edges.{captured_same, risen_above}
+use Rattle.dft_pattern_behavior.proofs.Unloading.{HasCaptured, captured_in, loaded_in, vector_in}
 
 -- ---- inputs of the design
 
@@ -233,13 +236,22 @@ module _ (n : Netlist) (config : Config) (ports : Ports) (p : Pattern) (clear : 
   same : SameAt n (config_ports n config) y cv
   same net its_data = captures.ports net its_data.0 (pulsed_rests n config net p.merged.domain its_data.1)
 
-  flops_same : (cell : ℕ) → (rise_of original y its).old cell ≡ (rise_of original cv its).old cell
-  flops_same cell = forced_same n (config_ports n config) y cv (original.cell cell).force (its cell) same (force_input cell)
+  flops_same : (state : ℕ → Tri) (cell : ℕ) → (rise_of original y state).old cell ≡ (rise_of original cv state).old cell
+  flops_same state cell = forced_same n (config_ports n config) y cv (original.cell cell).force (state cell) same (force_input cell)
 
-  settled : IsTriSettled original (strobe_sources original y its is.captured.values) is.captured.values
-  settled net =
-      is.captured.settled net
-      ∙ sym (given_same n (config_ports n config) original y cv its is.captured.values net (original.net net) (input_by n (config_ports n config) net (driver n net)) same flops_same)
+  -- the values that are settled before the clock rises, and those before it falls
+  abbrev caught : Settled
+  caught = (vector_in n config p is).step
+
+  abbrev risen : ℕ → Tri
+  risen = after_edges original chains cv true caught.first its
+
+  settled_same : (state values : ℕ → Tri) → IsTriSettled original (strobe_sources original cv state values) values → IsTriSettled original (strobe_sources original y state values) values
+  settled_same state values settles net =
+      settles net ∙ sym (given_same n (config_ports n config) original y cv state values net (original.net net) (input_by n (config_ports n config) net (driver n net)) same (flops_same state))
+
+  settled : IsTriSettled original (strobe_sources original y its caught.first) caught.first
+  settled = settled_same its caught.first (vector_in n config p is).are.first
 
   -- each cell has what the load brings to it
   brought : (chain place : ℕ) (cell : InstanceId) → cell_at chains chain place ≡ Some cell → loaded cell.0 ≡ known (loaded_bit config.ring p.table cycles (late chain) chain place)
@@ -273,36 +285,29 @@ module _ (n : Netlist) (config : Config) (ports : Ports) (p : Pattern) (clear : 
       let it = planned Edt n config chain place cell ready stands in
       modelled_old s (flip_flop n (config_ports n config) cell.0) (flip_flop (scanned Edt n config) (ports_in Edt n config) cell.0) it.flop it.is (instance_matched Edt n config ready (spared Edt n config ready) cell.0 it.instance it.at)
 
-  next_same : (cell : ℕ) → next_from original y is.captured.values cell ≡ next_from original cv is.captured.values cell
-  next_same cell = forced_same n (config_ports n config) y cv (original.cell cell).force _ same (force_input cell)
+  next_same : (values : ℕ → Tri) (cell : ℕ) → next_from original y values cell ≡ next_from original cv values cell
+  next_same values cell = forced_same n (config_ports n config) y cv (original.cell cell).force _ same (force_input cell)
 
   one : (cell : ℕ) (f : Force) → (original.cell cell).force ≡ Some f → y.ports f.port ≡ One
   one cell f e = same f.port (force_input cell f e) ∙ ap (λ b. port_value b (bit_of_port p.merged.ports f.port)) (resets cell f e)
 
-  kept : (cell : ℕ) → (rise_of original y its).old cell ≡ its cell
-  kept cell = not_forced (original.cell cell).force y.ports (its cell) (one cell)
+  idle : (cell : ℕ) (t : Tri) → tri_forced_by (original.cell cell).force y.ports t ≡ t
+  idle cell t = not_forced (original.cell cell).force y.ports t (one cell)
 
   halves : AreHalves l capture loaded r.halves
   halves = closed_views l capture loaded r.halves (least_closed l capture loaded r.halves round.least)
 
-  captured_by : (cell : InstanceId) (b : Bool) → s.is_flop cell.0 ≡ true → ((original.cell cell.0).domain == is.clock.0) ≡ b →
-      AboveTri (if b then next_from original cv is.captured.values cell.0 else its cell.0) (new cell.0)
-  captured_by cell true modelled at =
-      subst (λ (t : Tri). AboveTri t (new cell.0)) (next_same cell.0)
-      ((captures_follow n config ports ready suits is.clock.0 y capture its loaded r.halves is.captured.values is_capture over settled halves cell.0 modelled).0 (eqb-true (original.cell cell.0).domain is.clock.0 at))
-  captured_by cell false modelled at =
-      subst (λ (t : Tri). AboveTri t (new cell.0)) (kept cell.0)
-      ((captures_follow n config ports ready suits is.clock.0 y capture its loaded r.halves is.captured.values is_capture over settled halves cell.0 modelled).1 at)
-
-  swapped : (a b : ℕ) → (a == b) ≡ (b == a)
-  swapped a b = grind arith
+  is_caught : IsCaptured original is.clock.0 y its risen caught.first caught.second
+  is_caught = record {
+    first = settled;
+    above = risen_above n config chains p.merged is.clock is.clocked y next_same idle caught.first (loaded_in n config p);
+    second = settled_same risen caught.second (vector_in n config p is).are.second;
+  }
 
   cell_above : (chain place : ℕ) (cell : InstanceId) → cell_at chains chain place ≡ Some cell → AboveTri (captured_in n config p is cell) (new cell.0)
   cell_above chain place cell stands =
-      let domain : ℕ = (original.cell cell.0).domain in
-      subst (λ (b : Bool). AboveTri (if b then next_from original cv is.captured.values cell.0 else its cell.0) (new cell.0))
-      (swapped domain is.clock.0 ∙ sym (ap (is_net domain) is.clocked))
-      (captured_by cell (domain == is.clock.0) (flop_modelled chain place cell stands) refl)
+      subst (λ (t : Tri). AboveTri t (new cell.0)) (sym (captured_same n config chains p.merged is.clock is.clocked y next_same idle caught its cell.0 (chained (all_cells chains) _ cell.0 (number_of chains chain place cell stands))))
+      (captures_follow n config ports ready suits is.clock.0 y capture its risen loaded r.halves caught.first caught.second is_capture over is_caught halves cell.0 (flop_modelled chain place cell stands))
 
   pub has_captured : HasCaptured n config p is new
   has_captured =
@@ -313,7 +318,7 @@ module _ (n : Netlist) (config : Config) (ports : Ports) (p : Pattern) (clear : 
   pub shows_capture : ShowsCapture n config p r
   shows_capture k net value at here =
       let less : net.0 < length n.nets = design_ports_few n config net.0 ready (before_at (length (bits_of n.ports)) (output_bits n.ports) k net (outputs_before (length (bits_of n.ports)) n.ports (ports_before n config ready)) at) in
-      let its_value : Some (is.captured.values net.0) ≡ Some value =
-      sym (ap (option_map (λ (k : NetId). is.captured.values k.0)) at) ∙ sym (slice_get-map (λ (k : NetId). is.captured.values k.0) (output_bits n.ports) k) ∙ ap (λ (os : List Tri). slice_get os k) (sym is.captured.outputs) ∙ here in
-      subst (λ (t : Tri). AboveTri t (r.strobe (s.moved net.0))) (same_Some (is.captured.values net.0) value its_value)
-      (strobes_follow n config ports ready suits y capture its loaded is.captured.values r.strobe over settled round.strobe net.0 less)
+      let its_value : Some (caught.first net.0) ≡ Some value =
+      sym (ap (option_map (λ (k : NetId). caught.first k.0)) at) ∙ sym (slice_get-map (λ (k : NetId). caught.first k.0) (output_bits n.ports) k) ∙ ap (λ (os : List Tri). slice_get os k) (sym (vector_in n config p is).outputs) ∙ here in
+      subst (λ (t : Tri). AboveTri t (r.strobe (s.moved net.0))) (same_Some (caught.first net.0) value its_value)
+      (strobes_follow n config ports ready suits y capture its loaded caught.first r.strobe over settled round.strobe net.0 less)

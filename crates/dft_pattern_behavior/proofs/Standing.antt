@@ -17,27 +17,29 @@ use Rattle.dft_netlist.specs.declared.ids.InstanceId.{InstanceId}
 use Rattle.dft_netlist.specs.declared.port.Port.{Port}
 use Rattle.dft_netlist.specs.Connections.{is_input}
 use Rattle.dft_netlist.specs.Drivers.{driver}
-use Rattle.dft_netlist.specs.Logic.{Cell}
+use Rattle.dft_netlist.specs.Logic.{Logic, flip_flop}
 use Rattle.dft_netlist.specs.Netlist.{Netlist}
 use Rattle.dft_netlist.specs.NetNumbers.{nets_from}
 use Rattle.dft_netlist.specs.Runs.{Vector}
 use Rattle.dft_netlist.specs.Sound.{IsNetlist, bit_names_of, bits_of}
 use Rattle.dft_netlist.proofs.LiveLemmas.{length-bits}
 use Rattle.dft_netlist.proofs.Ranks.{order_is_rank}
-use Rattle.dft_netlist.proofs.StoredLemmas.{flop_cell}
-use Rattle.dft_abstract.specs.Cycle.{after_halves}
+use Rattle.dft_abstract.specs.Cycle.{after_halves, tri_forced_by}
+use Rattle.dft_abstract.specs.Laws.{next_from}
 use Rattle.dft_config.specs.Config.{Config}
-use Rattle.dft_rules.specs.Rules.{is_net}
 use Rattle.dft_stitch.specs.Chains.{plan_of}
 use Rattle.dft_chains.specs.ScanOff.{Places}
-use Rattle.dft_edt.specs.Captures.{StandsOver}
+use Rattle.dft_edt.specs.Captures.{IsCaptured, StandsOver}
 use Rattle.dft_edt.proofs.Captures.{capture_law, strobe_law}
 use Rattle.dft_cubes.specs.declared.cube.Merged.{Merged}
 use Rattle.dft_expect.specs.Loaded.{bit_of_cell, loaded_values, or_unknown}
-use Rattle.dft_expect.specs.Captures.{bits_out, capture_clock, capture_vector, captured_value, config_ports, original, output_bits}
-use Rattle.dft_expect.specs.Capturing.{CanCapture, cells_in}
+use Rattle.dft_expect.specs.Captures.{Settled, after_edges, bits_out, capture_vector, config_ports, next_state, original, output_bits}
+use Rattle.dft_expect.specs.Capturing.{cells_in}
 use Rattle.dft_expect.proofs.GivenLemmas.{number_modelled}
+use Rattle.dft_expect.proofs.VectorLemmas.{IsOneVector, chained, one_vector}
+use Rattle.dft_scan_behavior.proofs.ClockFree.{clock_free, inputs_clear, is_clear}
 use Rattle.dft_pattern_behavior.specs.Statements.{AreLoaded, CapturesStandOver, IsCaptureVector, value_in}
+use Rattle.dft_pattern_behavior.proofs.Edges.{captured_same, risen_above}
 use Rattle.dft_pattern_behavior.proofs.Inputs.{data_above, data_next, data_settled, data_stays, data_vector}
 
 -- ---- the loaded bits
@@ -126,37 +128,35 @@ map_at f (y ∷ xs) (suc k) x at = map_at f xs k x at
 value_at : {A : Type 0} (f : A → Tri) (values : List Tri) (xs : List A) (k : ℕ) (x : A) → values ≡ map f xs → slice_get xs k ≡ Some x → value_in values k ≡ f x
 value_at f values xs k x is at = ap (λ (l : List Tri). value_in l k) is ∙ map_at f xs k x at
 
--- ---- a cell
-
-above_if : (b : Bool) (next kept after : Tri) → (b ≡ true → AboveTri next after) → (b ≡ false → AboveTri kept after) → AboveTri (if b then next else kept) after
-above_if true next kept after up down = up refl
-above_if false next kept after up down = down refl
-
-swapped : (a b : ℕ) → (a == b) ≡ false → (b == a) ≡ false
-swapped a b e = grind (arith, nat_tests)
-
--- a scanned cell takes its bit at the rise of its clock
-number_rises : (n : Netlist) (config : Config) (number i : ℕ) → CanCapture n config → slice_get (cells_in n config) number ≡ Some (record { 0 = i }) → ((original n config).cell i).falling ≡ false
-number_rises n config number i can at = let m = number_modelled n config number i can at in ap (λ (c : Cell). c.falling) (flop_cell n (config_ports n config) i _ m.flop)
+-- ---- a capture
 
 pub stand_over : CapturesStandOver
 stand_over n rank config merged loaded r written p x old can ordered captured covers places vector are =
+    let l : Logic = original n config in
+    let chains : List (List InstanceId) = (plan_of n config).chains in
     let y : Vector = data_vector n config merged in
-    let its : ℕ → Tri = loaded_values (plan_of n config).chains loaded in
+    let its : ℕ → Tri = loaded_values chains loaded in
+    let one : IsOneVector n config chains merged loaded r = one_vector n config chains merged loaded r captured in
+    let s : Settled = one.step in
+    let clock : NetId = vector.clock in
     let ranked = order_is_rank n (config_ports n config) rank ordered in
     let over : StandsOver p y x its old = stands_over n config merged loaded p x old vector are in
-    let settled_over = data_settled n config merged its captured.values can.range captured.settled in
-    let clock : ℕ = vector.clock.0 in (
-      λ shows settled number net at. subst (λ (t : Tri). AboveTri t (shows (p.moved net.0))) (sym (value_at (λ (k : NetId). captured.values k.0) r.outputs (output_bits n.ports) number net captured.outputs at))
-          (strobe_law (original n config) written rank p y x its old captured.values shows ranked covers over settled_over settled net.0 (subst (λ (k : ℕ). net.0 < k) (sym places.size) (output_live n number net can.netlist at))),
+    let settled_over = data_settled n config merged its s.first can.range one.are.first in
+    let next : (values : ℕ → Tri) (cell : ℕ) → next_from l y values cell ≡ next_from l (capture_vector n config merged) values cell = λ values cell. data_next n config merged values cell can.range in
+    let idle : (cell : ℕ) (t : Tri) → tri_forced_by (l.cell cell).force y.ports t ≡ t = λ cell t. data_stays n config merged cell t can.range in
+    let risen : ℕ → Tri = after_edges l chains (capture_vector n config merged) true s.first its in
+    let caught : IsCaptured l clock.0 y its risen s.first s.second = record {
+      first = settled_over;
+      above = risen_above n config chains merged clock vector.captures y next idle s.first loaded;
+      second = data_settled n config merged risen s.second can.range one.are.second;
+    } in (
+      λ shows settled number net at. subst (λ (t : Tri). AboveTri t (shows (p.moved net.0))) (sym (value_at (λ (k : NetId). s.first k.0) r.outputs (output_bits n.ports) number net one.outputs at))
+          (strobe_law l written rank p y x its old s.first shows ranked covers over settled_over settled net.0 (subst (λ (k : ℕ). net.0 < k) (sym places.size) (output_live n number net can.netlist at))),
       λ h halves number cell at. (
-          let domain : ℕ = ((original n config).cell cell.0).domain in
-          let flop : p.is_flop cell.0 ≡ true = places.flops cell.0 ∙ ap is_some (number_modelled n config number cell.0 can at).flop in
-          let law = capture_law (original n config) written rank p clock y x its old h captured.values ranked covers vector.pulses over settled_over halves cell.0 flop (number_rises n config number cell.0 can at) in
-          let pulsed : is_net domain (capture_clock n config merged.domain) ≡ (clock == domain) = ap (is_net domain) vector.captures in
-          let after : Tri = after_halves written x old h cell.0 in
-          subst (λ (t : Tri). AboveTri t after) (sym (value_at (λ (c : InstanceId). captured_value n config (plan_of n config).chains merged loaded captured.values c.0) r.cells (cells_in n config) number cell captured.cells at))
-          (above_if (is_net domain (capture_clock n config merged.domain)) _ (its cell.0) after
-          (λ up. subst (λ (t : Tri). AboveTri t after) (data_next n config merged captured.values cell.0 can.range) (law.0 (sym (eqb-true clock domain (sym pulsed ∙ up)))))
-          (λ down. subst (λ (t : Tri). AboveTri t after) (data_stays n config merged cell.0 (its cell.0) can.range) (law.1 (swapped clock domain (sym pulsed ∙ down)))))),
+          let modelled : is_some (flip_flop n (config_ports n config) cell.0) ≡ true = ap is_some (number_modelled n config number cell.0 can at).flop in
+          let law = capture_law l written rank p clock.0 y x its risen old h s.first s.second (is_clear n config) ranked covers (clock_free n config rank ordered can.netlist can.library can.passed) vector.pulses over caught halves cell.0
+          (places.flops cell.0 ∙ modelled) (λ falls. inputs_clear n config rank ordered can.netlist can.library can.passed cell.0 modelled) in
+          subst (λ (t : Tri). AboveTri t (after_halves written x old h cell.0))
+          (sym (value_at (λ (c : InstanceId). next_state l chains (capture_vector n config merged) its s c.0) r.cells (cells_in n config) number cell one.cells at
+          ∙ captured_same n config chains merged clock vector.captures y next idle s its cell.0 (chained (cells_in n config) number cell.0 at))) law),
     )

@@ -1,9 +1,7 @@
 //! What patterns capture, which chains are masked and what the outputs show, worked by hand.
 
-ghost use Rattle.std.specs.Prelude.{ℕ, ◌≡◌, ◌<◌, ◌≤◌, ◌*◌, true, None, Some, length, slice_get, IfOk};
-ghost use Rattle.dft_rules.specs.Refusals.{refusal};
-ghost use Rattle.dft_stitch.specs.Chains.{plan_of};
-ghost use Rattle.dft_expect.specs.Loaded.{all_cells};
+ghost use Rattle.std.specs.Prelude.{ℕ, ◌≡◌, ◌<◌, ◌≤◌, ◌*◌, true, Some, length, slice_get, IfOk};
+ghost use Rattle.dft_expect.specs.Capturing.{cells_in};
 ghost use Rattle.dft_expect.specs.declared.response.Response.{Response};
 
 use crate::lines::{Job, Texts, Told, line_for};
@@ -20,6 +18,14 @@ use std::test::Fail;
 // A latch in place of the gate before f0: nothing is known of what f0 captures.
 const LATCHED: &str =
     "module m (clk, a, y); input clk, a; output y; LATCH g0 (.G(a), .D(q4), .Q(d0)); DFF f0 (.CK(clk), .D(d0), .Q(q0)); DFF f1 (.CK(clk), .D(q0), .Q(q1)); DFF f2 (.CK(clk), .D(q1), .Q(q2)); DFF f3 (.CK(clk), .D(q2), .Q(q3)); DFF f4 (.CK(clk), .D(q3), .Q(q4)); INV g1 (.A(q4), .Y(y)); endmodule";
+
+// The first flip-flop takes its bit at the fall, when the last one has its new value.
+const HALF: &str =
+    "module m (clk, a, y); input clk, a; output y; NAND2 g0 (.A(a), .B(q4), .Y(d0)); DFF f0 (.CK(nclk), .D(d0), .Q(q0)); DFF f1 (.CK(clk), .D(q0), .Q(q1)); DFF f2 (.CK(clk), .D(q1), .Q(q2)); DFF f3 (.CK(clk), .D(q2), .Q(q3)); DFF f4 (.CK(clk), .D(q3), .Q(q4)); INV g1 (.A(q4), .Y(y)); INV g2 (.A(clk), .Y(nclk)); endmodule";
+
+// An output shows the inverse of the clock.
+const SHOWN: &str =
+    "module m (clk, a, y, z); input clk, a; output y, z; INV b0 (.A(clk), .Y(z)); DFFR f0 (.CK(clk), .D(a), .RN(1'b1), .Q(q0), .QN(n0)); DFF f1 (.CK(clk), .D(n0), .Q(q1)); DFF f2 (.CK(clk), .D(q0), .Q(q2)); XOR2 g0 (.A(q1), .B(q2), .Y(y)); endmodule";
 
 // Its reset is tied to constant 1, and an output shows the clock.
 const TIED: &str =
@@ -38,7 +44,7 @@ const ON_BOTH: &str = "version = 1\ndomains = ['ca', 'cb']\nwarm = 2\nwindow = 4
 
 // A netlist, the two parts of a configuration, the patterns as cubes, and their channel bits; then for each pattern the loaded
 // bits, the captured values of the cells and of the outputs, the mask bits, and what the outputs show cycle by cycle.
-static CASES: [(&str, &str, &str, &str, &str, &str); 7] = [
+static CASES: [(&str, &str, &str, &str, &str, &str); 10] = [
     (
         SMALL,
         ON_CLK,
@@ -81,6 +87,33 @@ static CASES: [(&str, &str, &str, &str, &str, &str); 7] = [
         "cube k0 clk\nport a 1\nend\ncube k1 clk\nport a 0\nend\n",
         "0110 1010",
         "111 101 00 00 11100001 | 001 010 10 00 10000000 | ",
+    ),
+    // and 1 where its inverse is
+    (
+        SHOWN,
+        ON_CLK,
+        RING,
+        "cube k0 clk\nport a 1\nend\ncube k1 clk\nport a 0\nend\n",
+        "0110 1010",
+        "111 101 01 00 11100001 | 001 010 11 00 10000000 | ",
+    ),
+    // a falling cell takes what rising cells have after the rise
+    (
+        HALF,
+        ON_CLK,
+        RING,
+        "cube k0 clk\ncell f2 1\ncell f3 0\nport a 1\nend\ncube k1 clk\ncell f2 0\ncell f3 1\ncell f4 1\nend\n",
+        "01100 01000",
+        "11101 11110 0 00 1001100010 | 01011 10101 0 00 0100100000 | ",
+    ),
+    // but nothing of a flip-flop that is kept out of the chains
+    (
+        HALF,
+        KEPT,
+        RING,
+        "cube k0 clk\nport a 1\nend\ncube k1 clk\nport a 0\nend\n",
+        "0110 1010",
+        "1110 X111 X 10 11110000 | 0011 1001 X 00 11100000 | ",
     ),
     // what is joined to nothing is unknown, but for an and with 0
     (
@@ -166,13 +199,12 @@ fn is_row(config: &Config, chains: &Chains, row: &[u64]) -> bool
 }
 
 // The bits that a row brings to the cells.
-fn load_of(alloc: Global, job: &Job<'_>, row: &[u64]) -> Result<Vec<bool>, AllocError>
-    requires passed { refusal job.now.design.now job.now.config.now ≡ None }
-    requires chains { job.now.chains.now ≡ plan_of job.now.design.now job.now.config.now }
-{
-    job.config.soundness();
-    if is_row(job.config, job.chains, row) {
-        loaded(alloc, job.config, job.chains, row)
+fn load_of(alloc: Global, job: &Job<'_>, row: &[u64]) -> Result<Vec<bool>, AllocError> {
+    let config = job.planned.config();
+    let chains = job.planned.chains();
+    config.soundness();
+    if is_row(config, chains, row) {
+        loaded(alloc, config, chains, row)
     } else {
         Ok(Vec::new(alloc))
     }
@@ -200,17 +232,17 @@ fn push_unload(
     response: &Response,
     next: &[u64],
 ) -> Result<(), AllocError>
-    requires passed { refusal job.now.design.now job.now.config.now ≡ None }
-    requires chains { job.now.chains.now ≡ plan_of job.now.design.now job.now.config.now }
-    requires cells { length response.now.cells ≡ length (all_cells job.now.chains.now.chains) }
+    requires cells { length response.now.cells ≡ length (cells_in job.now.planned.now.design job.now.planned.now.config) }
 {
-    job.config.soundness();
-    if !is_row(job.config, job.chains, next) {
+    let config = job.planned.config();
+    let chains = job.planned.chains();
+    config.soundness();
+    if !is_row(config, chains, next) {
         return line.push('?');
     }
-    let always = always_masked(alloc, job.config, job.chains.count())?;
+    let always = always_masked(alloc, config, chains.count())?;
     let always = always.as_slice();
-    if always.len() != usize::from(job.chains.count()) {
+    if always.len() != usize::from(chains.count()) {
         return line.push('?');
     }
     let policy = MaskPolicy::new(
@@ -219,12 +251,12 @@ fn push_unload(
         { unknown || always[chain as usize] },
         always,
     );
-    let masks = masks(alloc, &policy, job.chains, response)?;
+    let masks = masks(alloc, &policy, chains, response)?;
     push_bits(line, &masks)?;
-    if masks.len() != usize::from(job.chains.count()) {
+    if masks.len() != usize::from(chains.count()) {
         return line.push('?');
     }
-    let expected = expected(alloc, job.config, job.chains, response, &masks, next)?;
+    let expected = expected(alloc, config, chains, response, &masks, next)?;
     push_bits(line, &expected)
 }
 
@@ -234,22 +266,17 @@ fn responses_of(
     job: &Job<'_>,
     patterns: &[Pattern<'_>],
 ) -> Result<Vec<Response>, AllocError>
-    requires passed { refusal job.now.design.now job.now.config.now ≡ None }
-    requires chains { job.now.chains.now ≡ plan_of job.now.design.now job.now.config.now }
-    ensures { IfOk result (λ found. (place : ℕ) (r : Response) → slice_get found.items place ≡ Some r → length r.cells ≡ length (all_cells job.now.chains.now.chains)) }
+    ensures { IfOk result (λ found. (place : ℕ) (r : Response) → slice_get found.items place ≡ Some r → length r.cells ≡ length (cells_in job.now.planned.now.design job.now.planned.now.config)) }
 {
     if patterns.len() > 512 {
         return Ok(Vec::new(alloc));
     }
-    let mut capturer = Capturer::prepare(alloc, job.design, job.config, job.chains)?;
+    let mut capturer = Capturer::prepare(alloc, job.planned)?;
     capturer.capture_all(alloc, patterns)
 }
 
 // What becomes of the patterns of the cubes, loaded by these rows.
-fn captured(alloc: Global, job: &Job<'_>, rows: &[Vec<u64>]) -> Result<String, AllocError>
-    requires passed { refusal job.now.design.now job.now.config.now ≡ None }
-    requires chains { job.now.chains.now ≡ plan_of job.now.design.now job.now.config.now }
-{
+fn captured(alloc: Global, job: &Job<'_>, rows: &[Vec<u64>]) -> Result<String, AllocError> {
     let mut line = String::new(alloc);
     let merged = all_merged(alloc, job.cubes)?;
     let mut loads = Vec::new(alloc);
@@ -275,10 +302,7 @@ fn captured(alloc: Global, job: &Job<'_>, rows: &[Vec<u64>]) -> Result<String, A
 }
 
 // What the cubes capture as patterns, loaded by these rows of channel bits.
-pub(crate) fn line(alloc: Global, job: &Job<'_>, rows: &str) -> Result<String, AllocError>
-    requires passed { refusal job.now.design.now job.now.config.now ≡ None }
-    requires chains { job.now.chains.now ≡ plan_of job.now.design.now job.now.config.now }
-{
+pub(crate) fn line(alloc: Global, job: &Job<'_>, rows: &str) -> Result<String, AllocError> {
     let rows = rows_of(alloc, rows)?;
     captured(alloc, job, &rows)
 }

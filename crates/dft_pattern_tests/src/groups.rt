@@ -114,14 +114,11 @@ fn compared(
 }
 
 // Whether the cubes, by turns and with random loads, capture the same in groups and one by one.
-pub(crate) fn line(alloc: Global, job: &Job<'_>) -> Result<String, AllocError>
-    requires passed { refusal job.now.design.now job.now.config.now ≡ None }
-    requires chains { job.now.chains.now ≡ plan_of job.now.design.now job.now.config.now }
-{
+pub(crate) fn line(alloc: Global, job: &Job<'_>) -> Result<String, AllocError> {
     let merged = all_merged(alloc, job.cubes)?;
     let loads = loads(alloc)?;
     let patterns = patterns_of(alloc, &merged, &loads)?;
-    let mut capturer = Capturer::prepare(alloc, job.design, job.config, job.chains)?;
+    let mut capturer = Capturer::prepare(alloc, job.planned)?;
     compared(alloc, &mut capturer, &patterns)
 }
 

@@ -1,17 +1,13 @@
 //! What is told of a netlist, a configuration and cubes, as one line.
 
-ghost use Rattle.std.specs.Prelude.{◌≡◌, ◌≤◌, None, length};
-ghost use Rattle.dft_rules.specs.Refusals.{refusal};
-ghost use Rattle.dft_rules.specs.Rules.{judgements};
-ghost use Rattle.dft_stitch.specs.Chains.{plan_of};
+ghost use Rattle.std.specs.Prelude.{◌≤◌, length};
 
 use crate::{captures, groups, placements};
 use dft_cells::Library;
 use dft_config::Config;
 use dft_cubes::{Cube, read as read_cubes};
 use dft_netlist::Design;
-use dft_rules::{Verdicts, judge};
-use dft_stitch::{Chains, plan};
+use dft_stitch::Planned;
 use dft_verilog::{MAX_TEXT, read as read_netlist};
 use std::alloc::{AllocError, Global};
 
@@ -35,13 +31,11 @@ pub(crate) enum Told<'a> {
     Groups,
 }
 
-// What the texts stand for, and the chains of the design.
+// What the texts stand for, with the chains of the design.
 #[derive(Clone, Copy)]
 pub(crate) struct Job<'a> {
-    pub(crate) design: &'a Design,
-    pub(crate) config: &'a Config,
+    pub(crate) planned: &'a Planned<'a>,
     pub(crate) cubes: &'a [Cube],
-    pub(crate) chains: &'a Chains,
 }
 
 pub(crate) fn line_for(
@@ -87,43 +81,24 @@ fn with_cubes(
     requires cubes { length texts.now.cubes.now ≤ 4096 }
 {
     match read_cubes(alloc, texts.cubes.as_bytes(), design, config) {
-        Ok(cubes) => judged(alloc, design, config, &cubes, told),
+        Ok(cubes) => with_chains(alloc, design, config, &cubes, told),
         Err(_) => String::from_str(alloc, "no cubes"),
     }
 }
 
-fn judged(
+fn with_chains(
     alloc: Global,
     design: &Design,
     config: &Config,
     cubes: &[Cube],
     told: Told<'_>,
 ) -> Result<String, AllocError> {
-    match judge(alloc, design, config) {
-        Ok(verdicts) => planned(alloc, design, config, cubes, &verdicts, told),
-        Err(_) => String::from_str(alloc, "not judged"),
-    }
-}
-
-fn planned(
-    alloc: Global,
-    design: &Design,
-    config: &Config,
-    cubes: &[Cube],
-    verdicts: &Verdicts,
-    told: Told<'_>,
-) -> Result<String, AllocError>
-    requires passed { refusal design.now config.now ≡ None }
-    requires verdicts { verdicts.now ≡ judgements design.now config.now }
-{
-    match plan(alloc, design, config, verdicts) {
-        Ok(chains) => line_of(
+    match Planned::prepare(alloc, design, config) {
+        Ok(planned) => line_of(
             alloc,
             &Job {
-                design,
-                config,
+                planned: &planned,
                 cubes,
-                chains: &chains,
             },
             told,
         ),
@@ -131,10 +106,7 @@ fn planned(
     }
 }
 
-fn line_of(alloc: Global, job: &Job<'_>, told: Told<'_>) -> Result<String, AllocError>
-    requires passed { refusal job.now.design.now job.now.config.now ≡ None }
-    requires chains { job.now.chains.now ≡ plan_of job.now.design.now job.now.config.now }
-{
+fn line_of(alloc: Global, job: &Job<'_>, told: Told<'_>) -> Result<String, AllocError> {
     match told {
         Told::Placements => placements::line(alloc, job),
         Told::Captures(rows) => captures::line(alloc, job, rows),

@@ -229,7 +229,7 @@ fn merged(alloc: Global, loads: &Loads<'_>, cubes: &[Cube]) -> Result<String, Al
 
 // What becomes of the cubes of a job.
 pub(crate) fn line(alloc: Global, job: &Job<'_>) -> Result<String, AllocError> {
-    match Planned::prepare(alloc, job.design, job.config).ok() {
+    match Planned::prepare(alloc, job.planned.design(), job.planned.config()).ok() {
         Some(planned) => {
             let loads = Loads::prepare(alloc, planned)?;
             merged(alloc, &loads, job.cubes)

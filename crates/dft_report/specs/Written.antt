@@ -38,12 +38,17 @@ abbrev pub chain_lines : (chain : ℕ) → (lengths : List ℕ) → Text
 chain_lines chain [] = []
 chain_lines chain (length ∷ lengths) = chain_line chain length ++ chain_lines (chain + 1) lengths
 
--- a place of a chain
-unfoldable pub place_text : (chain place : ℕ) → Text
-place_text chain place = codes " chain " ++ (decimal chain ++ (codes " place " ++ (decimal place ++ codes "\n")))
+-- behind a place: a word for a flip-flop that takes its bits at falls
+abbrev pub edge_text : (falling : Bool) → Text
+edge_text false = []
+edge_text true = codes " falling"
+
+-- a place of a chain, and the edge
+unfoldable pub place_text : (chain place : ℕ) → (falling : Bool) → Text
+place_text chain place falling = codes " chain " ++ (decimal chain ++ (codes " place " ++ (decimal place ++ (edge_text falling ++ codes "\n"))))
 
 unfoldable pub scanned_line : ScannedLine → Text
-scanned_line line = codes "scanned " ++ (line.name ++ (codes " " ++ (line.domain ++ place_text line.chain line.place)))
+scanned_line line = codes "scanned " ++ (line.name ++ (codes " " ++ (line.domain ++ place_text line.chain line.place line.falling)))
 
 abbrev pub rule_text : Rule → Text
 rule_text S1 = codes "S1"

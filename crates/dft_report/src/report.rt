@@ -26,6 +26,8 @@ pub struct ScannedLine {
     pub chain: u32,
     /// From the scan input on, from 0.
     pub place: u32,
+    /// Whether it takes its bits at the falls of its clock, and not at the rises.
+    pub falling: bool,
 }
 
 /// Why a flip-flop is not scanned.

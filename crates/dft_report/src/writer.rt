@@ -69,15 +69,22 @@ fn add_chains(out: &mut Vec<u8>, lengths: &[u32]) -> Result<(), AllocError>
     Ok(())
 }
 
-// Adds a place of a chain.
+fn edge_text(falling: bool) -> &'static [u8]
+    ensures { result.now ≡ form.edge_text falling }
+{
+    if falling { b" falling" } else { b"" }
+}
+
+// Adds a place of a chain, and the edge.
 #[tactic(auto, unfolding(crate::specs::Written::place_text))]
-fn add_place(out: &mut Vec<u8>, chain: u32, place: u32) -> Result<(), AllocError>
-    ensures { OnOk result (out.new.items ≡ out.old.items ++ form.place_text chain place) }
+fn add_place(out: &mut Vec<u8>, chain: u32, place: u32, falling: bool) -> Result<(), AllocError>
+    ensures { OnOk result (out.new.items ≡ out.old.items ++ form.place_text chain place falling) }
 {
     out.extend_from_slice(b" chain ")?;
     add_number(out, u64::from(chain))?;
     out.extend_from_slice(b" place ")?;
     add_number(out, u64::from(place))?;
+    out.extend_from_slice(edge_text(falling))?;
     out.extend_from_slice(b"\n")
 }
 
@@ -90,7 +97,7 @@ fn add_scanned_line(out: &mut Vec<u8>, line: &ScannedLine) -> Result<(), AllocEr
     out.extend_from_slice(line.name.as_slice())?;
     out.extend_from_slice(b" ")?;
     out.extend_from_slice(line.domain.as_slice())?;
-    add_place(out, line.chain, line.place)?;
+    add_place(out, line.chain, line.place, line.falling)?;
     Ok(())
 }
 

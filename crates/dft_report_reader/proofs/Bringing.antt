@@ -15,13 +15,13 @@ use Rattle.dft_report.specs.declared.report.SumLine.{SumLine}
 use Rattle.dft_report.specs.declared.report.CubeLine.{CubeLine}
 use Rattle.dft_report.specs.declared.report.CubeLine.TheVariants as outcome
 use Rattle.dft_report.specs.declared.report.CubeReport.{CubeReport}
-use Rattle.dft_report.specs.Written.{bit_text, chain_line, chain_lines, counts_text, cube_lines, header_line, place_text, rule_text, scanned_line, sum_line, unscanned_line, unsolvable_text, variables_text}
+use Rattle.dft_report.specs.Written.{bit_text, chain_line, chain_lines, counts_text, cube_lines, header_line, rule_text, scanned_line, sum_line, unscanned_line, unsolvable_text, variables_text}
 use Rattle.dft_report_reader.specs.Saying.{said_of}
 use Rattle.dft_report_reader.specs.Reading.{Owing, Reading, nothing_read, with_cube, with_owing, with_said, with_sum}
 use Rattle.dft_report_reader.specs.WrittenRead.{Each, IsCubeReadable, IsHeaderReadable, IsLoadReadable, IsOutcomeReadable, IsScannedReadable, IsSmall, IsSumReadable, IsUnscannedReadable}
 use Rattle.dft_report_reader.proofs.NumberLemmas.{IsFine, number_fine}
 use Rattle.dft_report_reader.proofs.Lines.{Brings, behind, behind_append, brings_both, brings_line, brings_none}
-use Rattle.dft_report_reader.proofs.Saying.{bit_fine, bit_word, name_fine, rule_fine, says_chain, says_encoded, says_load, says_plain, says_scanned, says_skipped, says_sum, says_unscanned, says_unsolvable, variable_words, variables_behind, variables_fine, variables_heard}
+use Rattle.dft_report_reader.proofs.Saying.{bit_fine, bit_word, edge_fine, name_fine, rule_fine, scanned_behind, scanned_words, says_chain, says_encoded, says_load, says_plain, says_scanned, says_skipped, says_sum, says_unscanned, says_unsolvable, variable_words, variables_behind, variables_fine, variables_heard}
 
 -- a line as it is written, which is a line of words
 brings_text : (r s : Reading) (text word : Text) (words : List Text) → text ≡ word ++ behind words (10 ∷ []) → IsFine word → Each IsFine words → with_said r (said_of (word ∷ words)) ≡ Some s → Brings r text s
@@ -86,11 +86,11 @@ abbrev pub scanned_at : Reading → List ScannedLine → (stage : ℕ) → Readi
 scanned_at r lines stage = record r { scanned = lines; stage = stage }
 
 one_scanned : (r : Reading) (done : List ScannedLine) (stage : ℕ) (line : ScannedLine) → 2 ≤ stage → stage ≤ 3 → IsScannedReadable line → Brings (scanned_at r done stage) (scanned_line line) (scanned_at r (done ++ line ∷ []) 3)
-unfolding scanned_line place_text
 one_scanned r done stage line a b is =
-    brings_text (scanned_at r done stage) (scanned_at r (done ++ line ∷ []) 3) _ (codes "scanned") (line.name ∷ line.domain ∷ codes "chain" ∷ decimal line.chain ∷ codes "place" ∷ decimal line.place ∷ []) refl refl
-    (name_fine line.name is.0, (name_fine line.domain is.1, (refl, (number_fine line.chain is.2, (refl, (number_fine line.place is.3, tt))))))
-    (ap (with_said (scanned_at r done stage)) (says_scanned line.name line.domain line.chain line.place is.0 is.1 is.2 is.3)
+    brings_text (scanned_at r done stage) (scanned_at r (done ++ line ∷ []) 3) (scanned_line line) (codes "scanned") (scanned_words line.name line.domain line.chain line.place line.falling)
+    (scanned_behind line.name line.domain line.chain line.place line.falling) refl
+    (name_fine line.name is.0, (name_fine line.domain is.1, (refl, (number_fine line.chain is.2, (refl, (number_fine line.place is.3, edge_fine line.falling))))))
+    (ap (with_said (scanned_at r done stage)) (says_scanned line.name line.domain line.chain line.place line.falling is.0 is.1 is.2 is.3)
     ∙ ap (λ (t : Bool). if t then Some (scanned_at r (done ++ line ∷ []) 3) else None) (between 2 3 stage a b))
 
 -- a later stage, up to which one may go on

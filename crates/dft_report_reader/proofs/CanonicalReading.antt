@@ -19,7 +19,7 @@ use Rattle.dft_report.specs.declared.report.CubeLine.{CubeLine}
 use Rattle.dft_report.specs.declared.report.CubeLine.TheVariants as outcome
 use Rattle.dft_report.specs.declared.report.CubeReport.{CubeReport}
 use Rattle.dft_report.specs.declared.report.Report.{Report}
-use Rattle.dft_report.specs.Written.{chain_line, chain_lines, counts_text, cube_lines, header_line, lines_before_cubes, place_text, scanned_line, sum_line, unscanned_line, unsolvable_text, written}
+use Rattle.dft_report.specs.Written.{chain_line, chain_lines, counts_text, cube_lines, header_line, lines_before_cubes, scanned_line, sum_line, unscanned_line, unsolvable_text, written}
 use Rattle.dft_report_reader.specs.declared.error.ReadError.{ReadError}
 use Rattle.dft_report_reader.specs.declared.error.ReadError.TheVariants.{K1}
 use Rattle.dft_report_reader.specs.Words.{words_of}
@@ -27,7 +27,7 @@ use Rattle.dft_report_reader.specs.Saying.{Said, Title, Counts, Chain, Scanned, 
 use Rattle.dft_report_reader.specs.Reading.{Owing, Reading, may_be_cube, nothing_read, place_of_line, read_lines, report_by, report_in, summed, then_ended, then_lines, with_chain, with_counts, with_cube, with_owing, with_said, with_scanned, with_sum, with_title, with_unscanned}
 use Rattle.dft_report_reader.specs.WrittenRead.{ReadIsWritten}
 use Rattle.dft_report_reader.proofs.Lines.{behind, by_lines, front, last, lines_some, read_on}
-use Rattle.dft_report_reader.proofs.Saying.{bit_word}
+use Rattle.dft_report_reader.proofs.Saying.{bit_word, scanned_behind}
 use Rattle.dft_report_reader.proofs.CanonicalNumbers.{behind_test}
 use Rattle.dft_report_reader.proofs.CanonicalWords.{said_told, variables_are, word_said, words_said}
 use Rattle.dft_report_reader.proofs.Bringing.{sum_words}
@@ -406,11 +406,12 @@ header_words cells chains (Some load) =
     ∙ ap (λ (x : Text). decimal load.cycles ++ x) (append_assoc (codes " variables ") (decimal load.variables) (codes "\n"))))
 
 adds_said : (said : Said) (r s : Reading) → IsStaged r → with_said r (Some said) ≡ Some s → Adds r (line_said said) s
-unfolding chain_line scanned_line place_text unscanned_line cube_lines
+unfolding chain_line unscanned_line cube_lines
 adds_said Title r s is e = adds_title r s is e
 adds_said (Counts header) r s is e = subst (λ (x : Text). Adds r x s) (header_words header.cells header.chains header.load) (adds_counts r s header is e)
 adds_said (Chain chain size) r s is e = adds_chain r s chain size is e
-adds_said (Scanned name domain chain place) r s is e = adds_scanned r s (record { name = name; domain = domain; chain = chain; place = place }) is e
+adds_said (Scanned name domain chain place falling) r s is e =
+    subst (λ (x : Text). Adds r x s) (scanned_behind name domain chain place falling) (adds_scanned r s (record { name = name; domain = domain; chain = chain; place = place; falling = falling }) is e)
 adds_said (Unscanned name rule) r s is e = adds_unscanned r s (record { name = name; rule = rule }) is e
 adds_said (Encoded name pattern) r s is e = adds_cube r s name (outcome.Encoded pattern) is e
 adds_said (Unsolvable name sums) r s is e = adds_unsolvable (sums == 0) r s name sums is refl e

@@ -15,9 +15,9 @@ use Rattle.dft_report.specs.declared.report.Load.{Load}
 use Rattle.dft_report.specs.declared.report.Variable.{Variable}
 use Rattle.dft_report.specs.Written.{rule_text}
 use Rattle.dft_report_reader.specs.Words.{is_name, number_of}
-use Rattle.dft_report_reader.specs.Saying.{Said, Title, Counts, Chain, Scanned, Unscanned, Encoded, Unsolvable, Skipped, Sum, all_variables, and_variable, at_place, bit_of, chain_of, counts_of, counts_with, cube_of, in_chain, load_by, load_of, outcome_of, plain_counts, rule_of, said_of, scanned_of, sum_of, sum_with, title_of, unscanned_of, variable_by, variable_of, variable_with, variables_by, variables_of, with_two}
+use Rattle.dft_report_reader.specs.Saying.{Said, Title, Counts, Chain, Scanned, Unscanned, Encoded, Unsolvable, Skipped, Sum, all_variables, and_variable, at_place, bit_of, chain_of, counts_of, counts_with, cube_of, edge_of, in_chain, load_by, load_of, outcome_of, plain_counts, rule_of, said_of, scanned_of, scanned_with, sum_of, sum_with, title_of, unscanned_of, variable_by, variable_of, variable_with, variables_by, variables_of, with_two}
 use Rattle.dft_report_reader.proofs.CanonicalNumbers.{behind_test, number_word}
-use Rattle.dft_report_reader.proofs.Saying.{bit_word, variable_word, variable_words}
+use Rattle.dft_report_reader.proofs.Saying.{bit_word, edge_words, scanned_words, variable_word, variable_words}
 
 -- ---- the words that are written
 
@@ -26,7 +26,7 @@ abbrev pub word_said : Said → Text
 word_said Title = codes "edt"
 word_said (Counts header) = codes "cells"
 word_said (Chain chain size) = codes "chain"
-word_said (Scanned name domain chain place) = codes "scanned"
+word_said (Scanned name domain chain place falling) = codes "scanned"
 word_said (Unscanned name rule) = codes "unscanned"
 word_said (Encoded name pattern) = codes "cube"
 word_said (Unsolvable name sums) = codes "cube"
@@ -41,7 +41,7 @@ abbrev pub words_said : Said → List Text
 words_said Title = codes "report" ∷ codes "1" ∷ []
 words_said (Counts header) = counts_said header.cells header.chains header.load
 words_said (Chain chain size) = decimal chain ∷ codes "length" ∷ decimal size ∷ []
-words_said (Scanned name domain chain place) = name ∷ domain ∷ codes "chain" ∷ decimal chain ∷ codes "place" ∷ decimal place ∷ []
+words_said (Scanned name domain chain place falling) = scanned_words name domain chain place falling
 words_said (Unscanned name rule) = name ∷ rule_text rule ∷ []
 words_said (Encoded name pattern) = name ∷ codes "encoded" ∷ decimal pattern ∷ []
 words_said (Unsolvable name sums) = name ∷ codes "unsolvable" ∷ decimal sums ∷ []
@@ -133,17 +133,30 @@ chain_told (a ∷ b ∷ c ∷ []) s e =
     subst (Told (codes "chain") (a ∷ b ∷ c ∷ [])) t.4
     (refl, ap₂ (λ (x y : Text). x ∷ y ∷ c ∷ []) (number_word a t.0 t.2).0 (same_text b _ r.0) ∙ ap (λ (x : Text). decimal t.0 ∷ codes "length" ∷ x ∷ []) (number_word c t.1 t.3).0)
 
+edge_is : (words : List Text) (falling : Bool) → edge_of words ≡ Some falling → words ≡ edge_words falling
+edge_is [] falling e = ap edge_words (same_Some false falling e)
+edge_is (a ∷ b ∷ words) falling e = absurd cc
+edge_is (a ∷ []) falling e =
+    let r = behind_test (bytes_eq a (codes "falling")) (Some true) falling e in
+    ap (λ (x : Text). x ∷ []) (same_text a _ r.0) ∙ ap edge_words (same_Some true falling r.1)
+
+edge_told : (name domain : Text) (chain place : Option ℕ) (edge : Option Bool) (s : Said) → scanned_with name domain edge chain place ≡ Some s →
+    (falling : Bool) × (edge ≡ Some falling) × (with_two (λ c k. Scanned name domain c k falling) chain place ≡ Some s)
+edge_told name domain chain place None s e = absurd cc
+edge_told name domain chain place (Some falling) s e = (falling, refl, e)
+
 place_told : (name domain word chain : Text) (rest : List Text) (s : Said) → word ≡ codes "chain" → at_place name domain chain rest ≡ Some s → Told (codes "scanned") (name ∷ domain ∷ word ∷ chain ∷ rest) s
 place_told name domain word chain [] s f e = absurd cc
 place_told name domain word chain (a ∷ []) s f e = absurd cc
-place_told name domain word chain (a ∷ b ∷ c ∷ rest) s f e = absurd cc
-place_told name domain word chain (a ∷ b ∷ []) s f e =
-    let r = behind_test (bytes_eq a (codes "place")) (with_two (Scanned name domain) (number_of chain) (number_of b)) s e in
-    let t = two_numbers (Scanned name domain) (number_of chain) (number_of b) s r.1 in
-    subst (Told (codes "scanned") (name ∷ domain ∷ word ∷ chain ∷ a ∷ b ∷ [])) t.4 (
+place_told name domain word chain (a ∷ b ∷ rest) s f e =
+    let r = behind_test (bytes_eq a (codes "place")) (scanned_with name domain (edge_of rest) (number_of chain) (number_of b)) s e in
+    let g = edge_told name domain (number_of chain) (number_of b) (edge_of rest) s r.1 in
+    let t = two_numbers (λ c k. Scanned name domain c k g.0) (number_of chain) (number_of b) s g.2 in
+    subst (Told (codes "scanned") (name ∷ domain ∷ word ∷ chain ∷ a ∷ b ∷ rest)) t.4 (
       refl,
-      ap₂ (λ (x y : Text). name ∷ domain ∷ x ∷ y ∷ a ∷ b ∷ []) f (number_word chain t.0 t.2).0
-          ∙ ap₂ (λ (x y : Text). name ∷ domain ∷ codes "chain" ∷ decimal t.0 ∷ x ∷ y ∷ []) (same_text a _ r.0) (number_word b t.1 t.3).0,
+      ap₂ (λ (x y : Text). name ∷ domain ∷ x ∷ y ∷ a ∷ b ∷ rest) f (number_word chain t.0 t.2).0
+          ∙ ap₂ (λ (x y : Text). name ∷ domain ∷ codes "chain" ∷ decimal t.0 ∷ x ∷ y ∷ rest) (same_text a _ r.0) (number_word b t.1 t.3).0
+          ∙ ap (λ (xs : List Text). name ∷ domain ∷ codes "chain" ∷ decimal t.0 ∷ codes "place" ∷ decimal t.1 ∷ xs) (edge_is rest g.0 g.1),
     )
 
 scanned_rest : (name domain : Text) (rest : List Text) (s : Said) → in_chain name domain rest ≡ Some s → Told (codes "scanned") (name ∷ domain ∷ rest) s

@@ -1,7 +1,7 @@
 -- Words that are too few, or too many.
 use Rattle.std.proofs.Common.{◌≡◌, ◌<◌, ◌≤◌, List, [], ◌∷◌, length, None, refl, arith}
 use Rattle.dft_base.specs.Lexing.{Text}
-use Rattle.dft_report_reader.specs.Saying.{variables_by, load_by, counts_of}
+use Rattle.dft_report_reader.specs.Saying.{variables_by, load_by, counts_of, edge_of}
 
 pub variables_few : (cells chains cycles : Text) (xs : List Text) → length xs < 2 → None ≡ variables_by cells chains cycles xs
 variables_few cells chains cycles [] less = refl
@@ -24,3 +24,8 @@ counts_few [] less = refl
 counts_few (a ∷ []) less = refl
 counts_few (a ∷ b ∷ []) less = refl
 counts_few (a ∷ b ∷ c ∷ xs) less = absurd (omega (arith, less))
+
+pub edge_many : (xs : List Text) → 2 ≤ length xs → None ≡ edge_of xs
+edge_many [] many = absurd (omega (arith, many))
+edge_many (a ∷ []) many = absurd (omega (arith, many))
+edge_many (a ∷ b ∷ xs) many = refl

@@ -19,9 +19,9 @@ use Rattle.dft_base.specs.declared.rule.Rule.{Rule}
 use Rattle.dft_base.specs.declared.rule.Rule.TheVariants.{S1, S2, S3, S4}
 use Rattle.dft_word_lines.specs.Lines.{is_printed_word, is_printed}
 use Rattle.dft_report.specs.declared.report.Variable.{Variable}
-use Rattle.dft_report.specs.Written.{rule_text, variable_text, variables_text}
+use Rattle.dft_report.specs.Written.{place_text, rule_text, scanned_line, variable_text, variables_text}
 use Rattle.dft_report_reader.specs.Words.{is_name, number_of}
-use Rattle.dft_report_reader.specs.Saying.{Counts, Chain, Scanned, Unscanned, Encoded, Unsolvable, Skipped, Sum, all_variables, and_variable, bit_of, counts_with, in_chain, load_of, outcome_of, plain_counts, rule_of, said_of, sum_with, variable_by, variable_of, variable_with, variables_of, with_two}
+use Rattle.dft_report_reader.specs.Saying.{Counts, Chain, Scanned, Unscanned, Encoded, Unsolvable, Skipped, Sum, all_variables, and_variable, bit_of, counts_with, edge_of, in_chain, load_of, outcome_of, plain_counts, rule_of, said_of, scanned_with, sum_with, variable_by, variable_of, variable_with, variables_of, with_two}
 use Rattle.dft_report_reader.specs.WrittenRead.{Each, IsSmall, IsVariableReadable}
 use Rattle.dft_report_reader.proofs.NumberLemmas.{IsFine, number_fine, number_read}
 use Rattle.dft_report_reader.proofs.Lines.{behind}
@@ -60,11 +60,36 @@ says_load cells chains cycles variables a b c d =
 pub says_chain : (chain size : ℕ) → IsSmall chain → IsSmall size → said_of (codes "chain" ∷ decimal chain ∷ codes "length" ∷ decimal size ∷ []) ≡ Some (Chain chain size)
 says_chain chain size a b = ap₂ (with_two Chain) (number_read chain a) (number_read size b)
 
-pub says_scanned : (name domain : Text) (chain place : ℕ) → IsName name → IsName domain → IsSmall chain → IsSmall place →
-    said_of (codes "scanned" ∷ name ∷ domain ∷ codes "chain" ∷ decimal chain ∷ codes "place" ∷ decimal place ∷ []) ≡ Some (Scanned name domain chain place)
-says_scanned name domain chain place a b c d =
-    ap (λ (t : Bool). if t then in_chain name domain (codes "chain" ∷ decimal chain ∷ codes "place" ∷ decimal place ∷ []) else None) (and_from (is_name name) (is_name domain) (name_heard name a) (name_heard domain b))
-    ∙ ap₂ (with_two (Scanned name domain)) (number_read chain c) (number_read place d)
+-- the word of an edge, if there is one
+abbrev pub edge_words : (falling : Bool) → List Text
+edge_words false = []
+edge_words true = codes "falling" ∷ []
+
+edge_heard : (falling : Bool) → edge_of (edge_words falling) ≡ Some falling
+edge_heard false = refl
+edge_heard true = refl
+
+pub edge_fine : (falling : Bool) → Each IsFine (edge_words falling)
+edge_fine false = tt
+edge_fine true = (refl, tt)
+
+-- the words of a scanned flip-flop behind the first
+abbrev pub scanned_words : (name domain : Text) → (chain place : ℕ) → (falling : Bool) → List Text
+scanned_words name domain chain place falling = name ∷ domain ∷ codes "chain" ∷ decimal chain ∷ codes "place" ∷ decimal place ∷ edge_words falling
+
+pub says_scanned : (name domain : Text) (chain place : ℕ) (falling : Bool) → IsName name → IsName domain → IsSmall chain → IsSmall place →
+    said_of (codes "scanned" ∷ scanned_words name domain chain place falling) ≡ Some (Scanned name domain chain place falling)
+says_scanned name domain chain place falling a b c d =
+    ap (λ (t : Bool). if t then in_chain name domain (codes "chain" ∷ decimal chain ∷ codes "place" ∷ decimal place ∷ edge_words falling) else None) (and_from (is_name name) (is_name domain) (name_heard name a) (name_heard domain b))
+    ∙ ap (λ (edge : Option Bool). scanned_with name domain edge (number_of (decimal chain)) (number_of (decimal place))) (edge_heard falling)
+    ∙ ap₂ (with_two (λ c k. Scanned name domain c k falling)) (number_read chain c) (number_read place d)
+
+-- a scanned line is a line of these words
+pub scanned_behind : (name domain : Text) (chain place : ℕ) (falling : Bool) →
+    scanned_line (record { name = name; domain = domain; chain = chain; place = place; falling = falling }) ≡ codes "scanned" ++ behind (scanned_words name domain chain place falling) (10 ∷ [])
+unfolding scanned_line place_text
+scanned_behind name domain chain place false = refl
+scanned_behind name domain chain place true = refl
 
 rule_heard : (rule : Rule) → rule_of (rule_text rule) ≡ Some rule
 rule_heard S1 = refl

@@ -84,7 +84,7 @@ with_said r None = None
 with_said r (Some Title) = with_title r
 with_said r (Some (Counts header)) = with_counts r header
 with_said r (Some (Chain chain size)) = with_chain r chain size
-with_said r (Some (Scanned name domain chain place)) = with_scanned r (record { name = name; domain = domain; chain = chain; place = place })
+with_said r (Some (Scanned name domain chain place falling)) = with_scanned r (record { name = name; domain = domain; chain = chain; place = place; falling = falling })
 with_said r (Some (Unscanned name rule)) = with_unscanned r (record { name = name; rule = rule })
 with_said r (Some (Encoded name pattern)) = with_cube r name (outcome.Encoded pattern)
 with_said r (Some (Unsolvable name sums)) = with_unsolvable r name sums

@@ -14,7 +14,7 @@ pub data Said : Type 0 where
   Title : Said
   Counts : (header : Header) → Said
   Chain : (chain length : ℕ) → Said
-  Scanned : (name domain : Text) → (chain place : ℕ) → Said
+  Scanned : (name domain : Text) → (chain place : ℕ) → (falling : Bool) → Said
   Unscanned : (name : Text) → (rule : Rule) → Said
   Encoded : (name : Text) → (pattern : ℕ) → Said
   Unsolvable : (name : Text) → (sums : ℕ) → Said
@@ -71,17 +71,27 @@ abbrev pub chain_of : List Text → Option Said
 chain_of (chain ∷ word ∷ length ∷ []) = if bytes_eq word (codes "length") then with_two Chain (number_of chain) (number_of length) else None
 chain_of _ = None
 
--- place k
+-- nothing more, or the word for a flip-flop that takes its bits at falls
+abbrev pub edge_of : List Text → Option Bool
+edge_of [] = Some false
+edge_of (word ∷ []) = if bytes_eq word (codes "falling") then Some true else None
+edge_of _ = None
+
+abbrev pub scanned_with : (name domain : Text) → (falling : Option Bool) → (chain place : Option ℕ) → Option Said
+scanned_with name domain None chain place = None
+scanned_with name domain (Some falling) chain place = with_two (λ c k. Scanned name domain c k falling) chain place
+
+-- place k, and the edge
 abbrev pub at_place : (name domain chain : Text) → List Text → Option Said
-at_place name domain chain (word ∷ place ∷ []) = if bytes_eq word (codes "place") then with_two (Scanned name domain) (number_of chain) (number_of place) else None
+at_place name domain chain (word ∷ place ∷ rest) = if bytes_eq word (codes "place") then scanned_with name domain (edge_of rest) (number_of chain) (number_of place) else None
 at_place name domain chain _ = None
 
--- chain c place k
+-- chain c place k, and the edge
 abbrev pub in_chain : (name domain : Text) → List Text → Option Said
 in_chain name domain (word ∷ chain ∷ rest) = if bytes_eq word (codes "chain") then at_place name domain chain rest else None
 in_chain name domain _ = None
 
--- NAME DOMAIN chain c place k
+-- NAME DOMAIN chain c place k, and the edge
 abbrev pub scanned_of : List Text → Option Said
 scanned_of (name ∷ domain ∷ rest) = if is_name name && is_name domain then in_chain name domain rest else None
 scanned_of _ = None

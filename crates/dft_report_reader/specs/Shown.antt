@@ -12,7 +12,7 @@ abbrev pub said_by : Heard → Said
 said_by heard.Title = Title
 said_by (heard.Counts header) = Counts header
 said_by (heard.Chain chain length) = Chain chain length
-said_by (heard.Scanned name domain chain place) = Scanned name.now domain.now chain place
+said_by (heard.Scanned name domain stand) = Scanned name.now domain.now stand.chain stand.place stand.falling
 said_by (heard.Unscanned name rule) = Unscanned name.now rule
 said_by (heard.Encoded name pattern) = Encoded name.now pattern
 said_by (heard.Unsolvable name sums) = Unsolvable name.now sums
@@ -24,7 +24,7 @@ abbrev pub SaysNames : Said → Type 0
 SaysNames Title = Unit {0}
 SaysNames (Counts header) = Unit {0}
 SaysNames (Chain chain length) = Unit {0}
-SaysNames (Scanned name domain chain place) = IsName name × IsName domain
+SaysNames (Scanned name domain chain place falling) = IsName name × IsName domain
 SaysNames (Unscanned name rule) = IsName name
 SaysNames (Encoded name pattern) = IsName name
 SaysNames (Unsolvable name sums) = IsName name

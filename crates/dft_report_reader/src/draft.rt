@@ -6,7 +6,7 @@ ghost use Rattle.dft_report_reader.specs.Saying as saying;
 ghost use Rattle.dft_report_reader.specs.Words as texts;
 ghost use Rattle.dft_report_reader.specs.Shown.{SaysNames, Takes, owing_of, reading_of, said_by};
 
-use crate::heard::{Heard, heard_of};
+use crate::heard::{Heard, Stand, heard_of};
 use crate::variables::variables_of;
 use crate::words::words_of;
 use dft_base::{Listed, Name, Rule};
@@ -220,20 +220,20 @@ impl Draft {
         alloc: Global,
         name: &[u8],
         domain: &[u8],
-        chain: u32,
-        place: u32,
+        stand: Stand,
     ) -> Result<bool, AllocError>
         requires name { IsName name.now }
         requires domain { IsName domain.now }
-        ensures { Takes (spec.with_scanned (reading_of self.old) (record { name = name.now; domain = domain.now; chain = chain; place = place })) result self.new }
+        ensures { Takes (spec.with_scanned (reading_of self.old) (record { name = name.now; domain = domain.now; chain = stand.chain; place = stand.place; falling = stand.falling })) result self.new }
     {
         let name = Name::from_slice(alloc, name)?;
         let domain = Name::from_slice(alloc, domain)?;
         self.scanned(ScannedLine {
             name,
             domain,
-            chain,
-            place,
+            chain: stand.chain,
+            place: stand.place,
+            falling: stand.falling,
         })
     }
 
@@ -298,9 +298,8 @@ impl Draft {
             Heard::Scanned {
                 name,
                 domain,
-                chain,
-                place,
-            } => self.take_scanned(alloc, name, domain, chain, place),
+                stand,
+            } => self.take_scanned(alloc, name, domain, stand),
             Heard::Unscanned { name, rule } => self.take_unscanned(alloc, name, rule),
             Heard::Encoded { name, pattern } => self.take_encoded(alloc, name, pattern),
             Heard::Unsolvable { name, sums } => self.take_unsolvable(alloc, name, sums),

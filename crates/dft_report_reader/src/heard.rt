@@ -12,6 +12,14 @@ use crate::words::is_name;
 use dft_base::Rule;
 use dft_report::{Header, Load};
 
+// Where a scanned flip-flop stands, and whether it takes its bits at falls.
+#[derive(Clone, Copy, Debug)]
+pub(crate) struct Stand {
+    pub(crate) chain: u32,
+    pub(crate) place: u32,
+    pub(crate) falling: bool,
+}
+
 // What a line says.
 #[derive(Clone, Copy, Debug)]
 pub(crate) enum Heard<'a> {
@@ -24,8 +32,7 @@ pub(crate) enum Heard<'a> {
     Scanned {
         name: &'a [u8],
         domain: &'a [u8],
-        chain: u32,
-        place: u32,
+        stand: Stand,
     },
     Unscanned {
         name: &'a [u8],
@@ -196,23 +203,45 @@ fn scanned_with<'a>(
     domain: &'a [u8],
     chain: &[u8],
     place: &[u8],
+    falling: bool,
 ) -> Option<Heard<'a>>
     requires name { IsName name.now }
     requires domain { IsName domain.now }
-    ensures said { option_map said_by result ≡ spec.with_two (Scanned name.now domain.now) (texts.number_of chain.now) (texts.number_of place.now) }
+    ensures said { option_map said_by result ≡ spec.with_two (λ c k. Scanned name.now domain.now c k falling) (texts.number_of chain.now) (texts.number_of place.now) }
     ensures names { IfSome result (λ heard. SaysNames (said_by heard)) }
 {
     let chain = number_of(chain)?;
     let place = number_of(place)?;
+    let stand = Stand {
+        chain,
+        place,
+        falling,
+    };
     Some(Heard::Scanned {
         name,
         domain,
-        chain,
-        place,
+        stand,
     })
 }
 
-// `place k`
+// nothing more, or `falling`
+fn edge_of(words: &[&[u8]]) -> Option<bool>
+    ensures { result ≡ spec.edge_of (map (λ word. word.now) words.now) }
+{
+    match words {
+        [] => Some(false),
+        [word] => {
+            if *word == b"falling".as_slice() {
+                Some(true)
+            } else {
+                None
+            }
+        }
+        _ => None,
+    }
+}
+
+// `place k`, and the edge
 fn at_place<'a>(
     name: &'a [u8],
     domain: &'a [u8],
@@ -225,9 +254,10 @@ fn at_place<'a>(
     ensures names { IfSome result (λ heard. SaysNames (said_by heard)) }
 {
     match words {
-        [word, place] => {
+        [word, place, rest @ ..] => {
             if *word == b"place".as_slice() {
-                scanned_with(name, domain, chain, place)
+                let falling = edge_of(rest)?;
+                scanned_with(name, domain, chain, place, falling)
             } else {
                 None
             }
@@ -236,7 +266,7 @@ fn at_place<'a>(
     }
 }
 
-// `chain c place k`
+// `chain c place k`, and the edge
 fn in_chain<'a>(name: &'a [u8], domain: &'a [u8], words: &[&[u8]]) -> Option<Heard<'a>>
     requires name { IsName name.now }
     requires domain { IsName domain.now }
@@ -255,7 +285,7 @@ fn in_chain<'a>(name: &'a [u8], domain: &'a [u8], words: &[&[u8]]) -> Option<Hea
     }
 }
 
-// `NAME DOMAIN chain c place k`
+// `NAME DOMAIN chain c place k`, and the edge
 fn scanned_of<'a>(words: &'a [&'a [u8]]) -> Option<Heard<'a>>
     ensures said { option_map said_by result ≡ spec.scanned_of (map (λ word. word.now) words.now) }
     ensures names { IfSome result (λ heard. SaysNames (said_by heard)) }

@@ -1,4 +1,5 @@
 pub mod RootLemmas
+pub mod ClockTables
 pub mod FindLemmas
 pub mod JudgeLemmas
 pub mod CheckLemmas
@@ -9,5 +10,7 @@ pub mod Passed
 pub mod MarkLemmas
 pub mod PlaceLemmas
 pub mod WorkedRules
+pub mod WorkedEdges
 pub mod Scannable
-pub mod ClocksRise
+pub mod ClockReads
+pub mod ClockedFlops

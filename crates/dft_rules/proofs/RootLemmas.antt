@@ -53,7 +53,7 @@ same_step n one two a b net (Flop i inverted) agree = refl
 same_step n one two a b net (drivers.Lockup i) agree = refl
 same_step n one two a b net Free agree = refl
 
-has_below : (rank : ℕ → ℕ) (k : ℕ) (nets : List ℕ) → AreBelow rank k nets → (r : ℕ) → Has nets r → rank r < k
+pub has_below : (rank : ℕ → ℕ) (k : ℕ) (nets : List ℕ) → AreBelow rank k nets → (r : ℕ) → Has nets r → rank r < k
 has_below rank k [] below r has = absurd has
 has_below rank k (net ∷ nets) below r has = elim has [ inl e ↦ (let h = below.0 in rw e h) | inr more ↦ has_below rank k nets below.1 r more ]
 
@@ -72,7 +72,7 @@ one_step n rank o net =
 
 -- ---- a net past the end
 
-past_free : (n : Netlist) → IsNetlist n → (net : ℕ) → length n.nets ≤ net → driver n net ≡ Free
+pub past_free : (n : Netlist) → IsNetlist n → (net : ℕ) → length n.nets ≤ net → driver n net ≡ Free
 past_free n s net past = by (first_by (all_drives n) net) (driver_same n (all_drives n) (all_driven n) net (all_entries n)) (elim (first_drives n (all_drives n) (all_driven n) net (all_entries n)) [ inl none ↦ inl none.0 | inr d ↦ inr d ])
   where
     no : (b : NetDriver) → (b ≡ Nothing → ⊥) → (b ≡ Nothing) ⊎ Drives n b net → ⊥

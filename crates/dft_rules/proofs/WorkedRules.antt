@@ -18,7 +18,7 @@ use Rattle.dft_rules.specs.Refusals.{refusal}
 use Rattle.dft_rules.specs.Rules.{judgements}
 
 -- a flip-flop, its scan cell, a clock gate and a lock-up
-abbrev library : List Cell
+abbrev pub library : List Cell
 library =
     record { name = codes "DFF"; kind = kind.Dff; pins = record { name = codes "CK"; role = role.Clock } ∷ record { name = codes "D"; role = role.Din } ∷ record { name = codes "Q"; role = role.Output } ∷ []; scan = Some (record { 0 = 1 }) }
     ∷ record { name = codes "SDFF"; kind = kind.Sdff; pins = record { name = codes "CK"; role = role.Clock } ∷ record { name = codes "D"; role = role.Din } ∷ record { name = codes "SI"; role = role.ScanIn } ∷ record { name = codes "SE"; role = role.ScanEnable } ∷ record { name = codes "Q"; role = role.Output } ∷ []; scan = None }
@@ -26,7 +26,7 @@ library =
     ∷ record { name = codes "LOCKUP"; kind = kind.Lockup; pins = record { name = codes "CK"; role = role.Clock } ∷ record { name = codes "D"; role = role.Din } ∷ record { name = codes "Q"; role = role.Output } ∷ []; scan = None }
     ∷ []
 
-abbrev joined : (name : Text) → (cell a b c : ℕ) → Instance
+abbrev pub joined : (name : Text) → (cell a b c : ℕ) → Instance
 joined name cell a b c = record { name = Some name; cell = cell_ref.Library (record { 0 = cell }); pins = signal.Net (record { 0 = a }) ∷ signal.Net (record { 0 = b }) ∷ signal.Net (record { 0 = c }) ∷ [] }
 
 -- four flip-flops in a row, by turns on `ca` and `cb`, and a clock gate on `cb`; the last flip-flop has this net for its clock

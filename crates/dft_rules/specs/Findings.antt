@@ -1,5 +1,5 @@
 -- What is looked up once, before flip-flops are judged.
-use Rattle.std.specs.Prelude.{ℕ, ◌≡◌, ◌==◌, ◌<◌, ◌≤◌, Bool, true, false, ◌&&◌, List, length, map, Option, None, Some, is_some, option_and_then, position, slice_index_or}
+use Rattle.std.specs.Prelude.{ℕ, ◌≡◌, ◌==◌, ◌<◌, ◌≤◌, Bool, true, false, ◌&&◌, List, length, map, Option, None, Some, is_some, option_map, option_and_then, position, slice_index_or}
 use Rattle.std.specs.List.{list_any}
 use Rattle.dft_base.specs.Lexing.{Text}
 use Rattle.dft_cells.specs.declared.cell.Cell.{Cell}
@@ -7,6 +7,7 @@ use Rattle.dft_netlist.specs.declared.ids.NetId.{NetId}
 use Rattle.dft_netlist.specs.declared.instance.Signal.{Signal}
 use Rattle.dft_netlist.specs.declared.instance.Instance.{Instance}
 use Rattle.dft_netlist.specs.declared.limits.TheConstants.{MAX_INSTANCES}
+use Rattle.dft_netlist.specs.declared.clock_roots.ClockRoot.{ClockRoot}
 use Rattle.dft_netlist.specs.declared.root.Root.{Root}
 use Rattle.dft_netlist.specs.declared.root.Root.TheVariants.{Port, Constant, Other}
 use Rattle.dft_netlist.specs.Netlist.{Netlist}
@@ -15,6 +16,7 @@ use Rattle.dft_rules.specs.declared.findings.Findings.{Findings}
 use Rattle.dft_rules.specs.Refusals.{is_data_of}
 use Rattle.dft_netlist.specs.Connections.{input_net}
 use Rattle.dft_rules.specs.Rules.{is_kept}
+use Rattle.dft_rules.specs.Clocks.{AreClocks, clock_in}
 use Rattle.dft_rules.specs.Roots.{AreRoots, root_in}
 
 -- these are the nets that the names stand for
@@ -26,6 +28,11 @@ abbrev pub place_among : List NetId → Root → Option ℕ
 place_among nets (Port net) = position (λ other. other.0 == net.0) nets
 place_among nets (Constant bit) = None
 place_among nets Other = None
+
+-- the place of a shown clock's port among nets, and whether the clock is inverted
+abbrev pub clock_place : List NetId → Option ClockRoot → Option (ℕ × Bool)
+clock_place nets None = None
+clock_place nets (Some clock) = option_map (λ place. (place, clock.inverted)) (place_among nets (Port clock.port))
 
 -- there is a mark for each instance, and those with these names are marked
 pub record AreKept (n : Netlist) (names : List Text) (marks : List Bool) : Type 0 where
@@ -39,18 +46,19 @@ pub record IsFor (n : Netlist) (f : Findings) : Type 0 where
   pub kept : length f.kept.items ≡ length n.instances
   pub few : length n.instances ≤ MAX_INSTANCES
 
--- it is what the names of the configuration stand for, and the roots of the nets
+-- it is what the names of the configuration stand for, the roots of the nets, and the clocks that they show
 pub record AreFindings (n : Netlist) (config : Config) (f : Findings) : Type 0 where
   pub domains : AreNets n config.domains f.domains.items
   pub resets : AreNets n config.resets f.resets.items
   pub kept : AreKept n config.keep f.kept.items
   pub roots : AreRoots n f.roots.items
+  pub clocks : AreClocks n f.clocks.items
 
 -- ---- what the rules ask, by what is at hand
 
--- the domain of a clock pin
-abbrev pub domain_at : List NetId → List Root → Option Signal → Option ℕ
-domain_at domains roots clock = option_and_then (λ s. place_among domains (root_in roots s)) clock
+-- the clock at a clock pin: the place of its domain, and whether it is inverted
+abbrev pub clock_at : List NetId → List (Option ClockRoot) → Option Signal → Option (ℕ × Bool)
+clock_at domains clocks pin = option_and_then (λ s. clock_place domains (clock_in clocks s)) pin
 
 -- whether a set or reset with this root is held
 abbrev pub is_held_at : List NetId → Root → Bool
@@ -69,6 +77,6 @@ pub record AreUsed (library : List Cell) (instances : List Instance) (nets : ℕ
   pub count : length marks ≡ nets
   pub each : (net : ℕ) → net < nets → slice_index_or marks net false ≡ list_any (is_data_of library net) instances
 
--- whether a net that is marked traces to one of these nets
-abbrev pub is_marked_clock : List NetId → List Root → List Bool → (net : ℕ) → Bool
-is_marked_clock domains roots used net = is_some (place_among domains (slice_index_or roots net Other)) && slice_index_or used net false
+-- whether a net that is marked shows the clock of one of these nets or its inverse
+abbrev pub is_marked_clock : List NetId → List (Option ClockRoot) → List Bool → (net : ℕ) → Bool
+is_marked_clock domains clocks used net = is_some (clock_place domains (slice_index_or clocks net None)) && slice_index_or used net false

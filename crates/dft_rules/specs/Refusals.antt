@@ -3,7 +3,7 @@ use Rattle.std.specs.Prelude.{ℕ, pos, ◌≡◌, ◌==◌, nat_lt, Bool, true,
 use Rattle.std.specs.List.{list_any, range_with_len}
 use Rattle.dft_base.specs.Lexing.{Text}
 use Rattle.dft_cells.specs.declared.kind.Kind.{Kind}
-use Rattle.dft_cells.specs.declared.kind.Kind.TheVariants.{Buf, Sdff, Sdffr, Sdffs, Lockup, Opaque}
+use Rattle.dft_cells.specs.declared.kind.Kind.TheVariants.{Buf, Inv, Sdff, Sdffr, Sdffs, Lockup, Opaque}
 use Rattle.dft_cells.specs.declared.kind.Role.{Role}
 use Rattle.dft_cells.specs.declared.kind.Role.TheVariants as role
 use Rattle.dft_cells.specs.declared.cell.Cell.{Cell}
@@ -19,7 +19,7 @@ use Rattle.dft_rules.specs.declared.error.RuleError.TheVariants.{ClockAsData, Sc
 use Rattle.dft_rules.specs.declared.judged.Judged.{Judged}
 use Rattle.dft_rules.specs.declared.judged.Judged.TheVariants.{Scanned, Unscanned}
 use Rattle.dft_netlist.specs.Connections.{input_net}
-use Rattle.dft_rules.specs.Rules.{flip_flop_named, place_of_source, judgements}
+use Rattle.dft_rules.specs.Rules.{flip_flop_named, clock_of_source, judgements}
 
 -- ---- names that are not there
 
@@ -69,9 +69,10 @@ takes_data role.Clock = false
 takes_data role.Output = false
 takes_data role.Inverted = false
 
--- a buffer passes a clock on, and nothing is known of an opaque cell
+-- a buffer or an inverter passes a clock on, and nothing is known of an opaque cell
 abbrev pub uses_data : Kind → Bool
 uses_data Buf = false
+uses_data Inv = false
 uses_data Opaque = false
 uses_data _ = true
 
@@ -88,9 +89,9 @@ takes net c = takes_data c.role && is_joined_to net c.to
 abbrev pub is_data_of : List Cell → (net : ℕ) → Instance → Bool
 is_data_of library net i = uses_data (shape_of library i.cell).kind && list_any (takes net) (connections_of library i)
 
--- whether a net traces to a configured domain, and some instance takes it as data
+-- whether a net shows the clock of a configured domain or its inverse, and some instance takes it as data
 abbrev pub is_clock_as_data : Netlist → (domains : List Text) → (net : ℕ) → Bool
-is_clock_as_data n domains net = is_some (place_of_source n domains (Net net)) && list_any (is_data_of n.library net) n.instances
+is_clock_as_data n domains net = is_some (clock_of_source n domains (Net net)) && list_any (is_data_of n.library net) n.instances
 
 -- the first such net
 abbrev pub clock_as_data : Netlist → (domains : List Text) → Option RuleError

@@ -1,5 +1,6 @@
--- The scan rules: which flip-flops are scanned, and in which domain. A flip-flop is judged by the first rule that fails (Bushnell and Agrawal, Essentials of Electronic Testing).
-use Rattle.std.specs.Prelude.{ℕ, ◌==◌, Bool, true, false, not, List, [], ◌∷◌, map, length, Option, None, Some, is_some, is_none, option_and_then, position, slice_get, find, if◌then◌else◌}
+-- The scan rules: which flip-flops are scanned, in which domain and at which edge of its clock. A flip-flop is judged by the first rule that fails
+-- (Bushnell and Agrawal, Essentials of Electronic Testing).
+use Rattle.std.specs.Prelude.{ℕ, ◌==◌, Bool, true, false, not, List, [], ◌∷◌, map, length, Option, None, Some, is_some, is_none, option_and_then, option_map, position, slice_get, find, if◌then◌else◌}
 use Rattle.std.specs.List.{list_any, range_with_len}
 use Rattle.dft_base.specs.Lexing.{Text}
 use Rattle.dft_cells.specs.declared.kind.Kind.{Kind}
@@ -17,6 +18,7 @@ use Rattle.dft_netlist.specs.Logic.{pin_of}
 use Rattle.dft_netlist.specs.Connections.{input_net}
 use Rattle.dft_netlist.specs.Names.{find_instance}
 use Rattle.dft_netlist.specs.Traces.{Root, Port, Constant, Other, root_of}
+use Rattle.dft_netlist.specs.ClockRoots.{ClockRoot, clock_root_of}
 use Rattle.dft_config.specs.Config.{Config}
 use Rattle.dft_base.specs.declared.rule.Rule.{Rule}
 use Rattle.dft_base.specs.declared.rule.Rule.TheVariants.{S1, S2, S3, S4}
@@ -45,21 +47,30 @@ abbrev pub is_instance : (instance : ℕ) → Option InstanceId → Bool
 is_instance i None = false
 is_instance i (Some other) = other.0 == i
 
--- the place, among these names, of the input port's bit that a root is
+-- the place, among these names, of an input port's bit
+abbrev pub place_of_port : Netlist → (names : List Text) → (net : ℕ) → Option ℕ
+place_of_port n names net = position (λ name. is_net net (input_net n name)) names
+
+-- the place of the input port's bit that a root is
 abbrev pub place_of_root : Netlist → (names : List Text) → Root → Option ℕ
-place_of_root n names (Port net) = position (λ name. is_net net (input_net n name)) names
+place_of_root n names (Port net) = place_of_port n names net
 place_of_root n names (Constant bit) = None
 place_of_root n names Other = None
 
 -- ---- what the rules ask
 
--- the place, among these names, of the input port's bit that a source traces to
-abbrev pub place_of_source : Netlist → (names : List Text) → Source → Option ℕ
-place_of_source n names source = place_of_root n names (root_of n source)
+-- the place of a shown clock's port among these names, and whether the clock is inverted
+abbrev pub place_of_clock : Netlist → (names : List Text) → Option ClockRoot → Option (ℕ × Bool)
+place_of_clock n names None = None
+place_of_clock n names (Some clock) = option_map (λ place. (place, clock.inverted)) (place_of_port n names clock.port)
 
--- the configured domain that the clock of an instance traces to, by its place
-abbrev pub domain_of : Netlist → Config → (instance : ℕ) → Option ℕ
-domain_of n config i = option_and_then (place_of_source n config.domains) (pin_of role.Clock i (pins_of n i))
+-- the clock that a source shows
+abbrev pub clock_of_source : Netlist → (names : List Text) → Source → Option (ℕ × Bool)
+clock_of_source n names source = place_of_clock n names (clock_root_of n source)
+
+-- the configured domain whose clock an instance has, by its place, and whether it has the inverse
+abbrev pub clocked_by : Netlist → Config → (instance : ℕ) → Option (ℕ × Bool)
+clocked_by n config i = option_and_then (clock_of_source n config.domains) (pin_of role.Clock i (pins_of n i))
 
 -- a reset or set may act where it traces to a configured reset; it never acts at constant 1
 abbrev pub is_held : Netlist → (resets : List Text) → Root → Bool
@@ -87,24 +98,24 @@ is_kept n names i = list_any (λ name. is_instance i (flip_flop_named n name)) n
 
 -- ---- judgement
 
--- Whether a rule fails, by the domain of the clock, whether set and reset are held, whether there is a scan cell, and whether the
+-- Whether a rule fails, by the clock's domain and edge, whether set and reset are held, whether there is a scan cell, and whether the
 -- flip-flop is kept.
-abbrev pub fails : (domain : Option ℕ) → (held scans kept : Bool) → Rule → Bool
-fails domain held scans kept S1 = is_none domain
-fails domain held scans kept S2 = not held
-fails domain held scans kept S3 = not scans
-fails domain held scans kept S4 = kept
+abbrev pub fails : (clock : Option (ℕ × Bool)) → (held scans kept : Bool) → Rule → Bool
+fails clock held scans kept S1 = is_none clock
+fails clock held scans kept S2 = not held
+fails clock held scans kept S3 = not scans
+fails clock held scans kept S4 = kept
 
--- a flip-flop that no rule keeps out is scanned in its domain, at the rises of its clock
-abbrev pub judgement : (domain : Option ℕ) → (failing : Option Rule) → Option Judged
+-- a flip-flop that no rule keeps out is scanned in the domain of its clock, at the falls where it has the inverse
+abbrev pub judgement : (clock : Option (ℕ × Bool)) → (failing : Option Rule) → Option Judged
 judgement None None = None
-judgement (Some domain) None = Some (Scanned domain false)
+judgement (Some clock) None = Some (Scanned clock.0 clock.1)
 judgement None (Some rule) = Some (Unscanned rule)
-judgement (Some domain) (Some rule) = Some (Unscanned rule)
+judgement (Some clock) (Some rule) = Some (Unscanned rule)
 
 -- the first rule that fails decides
-abbrev pub judged_by : (domain : Option ℕ) → (held scans kept : Bool) → Option Judged
-judged_by domain held scans kept = judgement domain (find (fails domain held scans kept) (S1 ∷ S2 ∷ S3 ∷ S4 ∷ []))
+abbrev pub judged_by : (clock : Option (ℕ × Bool)) → (held scans kept : Bool) → Option Judged
+judged_by clock held scans kept = judgement clock (find (fails clock held scans kept) (S1 ∷ S2 ∷ S3 ∷ S4 ∷ []))
 
 -- the set or the reset of an instance is held where it traces to a configured reset or to constant 1
 abbrev pub are_held_at : Netlist → Config → (instance : ℕ) → Bool
@@ -113,7 +124,7 @@ are_held_at n config i = are_held n config.resets (pin_of role.Reset i (pins_of 
 -- how an instance is judged; one that is no such flip-flop is not
 abbrev pub judged : Netlist → Config → (instance : ℕ) → Option Judged
 judged n config i =
-    if may_be_scanned (kind_at n i) then judged_by (domain_of n config i) (are_held_at n config i) (is_some (scan_cell_of n i)) (is_kept n config.keep i) else None
+    if may_be_scanned (kind_at n i) then judged_by (clocked_by n config i) (are_held_at n config i) (is_some (scan_cell_of n i)) (is_kept n config.keep i) else None
 
 -- how all instances are judged, by their numbers
 abbrev pub judgements : Netlist → Config → List (Option Judged)

@@ -43,5 +43,5 @@ pub(crate) fn may_be_scanned(kind: Kind) -> bool
 pub(crate) fn uses_data(kind: Kind) -> bool
     ensures { result ≡ refusals.uses_data kind }
 {
-    !matches!(kind, Kind::Buf | Kind::Opaque)
+    !matches!(kind, Kind::Buf | Kind::Inv | Kind::Opaque)
 }

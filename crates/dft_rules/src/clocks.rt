@@ -4,33 +4,34 @@ ghost use Rattle.std.specs.Prelude.{◌≡◌, ◌≤◌, ◌<◌, ◌^◌, ◌|
 ghost use Rattle.std.specs.List.{list_any, range_with_len};
 ghost use Rattle.dft_netlist.specs.Drivers.{connections_of};
 ghost use Rattle.dft_netlist.specs.Sound.{IsInstance, IsLive};
+ghost use Rattle.dft_rules.specs.Clocks.{AreClocks};
 ghost use Rattle.dft_rules.specs.Findings.{AreNets, AreUsed, is_marked_clock};
 ghost use Rattle.dft_rules.specs.Refusals.{IsRefusal, clock_as_data, is_data_of, is_joined_to, takes};
-ghost use Rattle.dft_rules.specs.Roots.{AreRoots};
 
 use crate::cells::{takes_data, uses_data};
 use crate::error::RuleError;
-use crate::findings::place_of;
+use crate::findings::clock_place;
 use dft_base::Name;
 use dft_cells::Cell;
-use dft_netlist::{Design, Instance, NetId, Root, Signal, kind_of};
+use dft_netlist::{ClockRoot, Design, Instance, NetId, Signal, kind_of};
 use std::alloc::{AllocError, Global};
 
-// Tests that no instance takes as data a net that traces to one of these nets, which are the configured domains'.
+// Tests that no instance takes as data a net that shows the clock of one of these nets, which are the configured domains',
+// or its inverse.
 pub(crate) fn check_clocks(
     alloc: Global,
     design: &Design,
     domains: &[NetId],
-    roots: &[Root],
+    clocks: &[Option<ClockRoot>],
 ) -> Result<(), RuleError>
     requires few { length domains.now ≤ 16 }
-    requires small { length roots.now < 2 ^ 32 }
-    requires roots { AreRoots design.now roots.now }
+    requires small { length clocks.now < 2 ^ 32 }
+    requires clocks { AreClocks design.now clocks.now }
     ensures ok { OnOk result ((names : List (List ℕ)) → AreNets design.now names domains.now → clock_as_data design.now names ≡ None) }
     ensures refused { IfErr result (λ error. (names : List (List ℕ)) → AreNets design.now names domains.now → IsRefusal (clock_as_data design.now names) error) }
 {
     let used = data_nets(alloc, design)?;
-    match first_clock(domains, roots, &used) {
+    match first_clock(domains, clocks, &used) {
         Some(net) => Err(RuleError::ClockAsData {
             net: design.net_name(net).copy(alloc)?,
         }),
@@ -38,16 +39,16 @@ pub(crate) fn check_clocks(
     }
 }
 
-// The first marked net that traces to one of these nets.
-fn first_clock(domains: &[NetId], roots: &[Root], used: &[bool]) -> Option<NetId>
+// The first marked net that shows the clock of one of these nets or its inverse.
+fn first_clock(domains: &[NetId], clocks: &[Option<ClockRoot>], used: &[bool]) -> Option<NetId>
     requires few { length domains.now ≤ 16 }
-    requires small { length roots.now < 2 ^ 32 }
-    requires marks { length used.now ≡ length roots.now }
-    ensures first { option_map (λ net. net.0) result ≡ find (is_marked_clock domains.now roots.now used.now) (range_with_len 0 (length roots.now)) }
-    ensures live { IfSome result (λ net. net.0 < length roots.now) }
+    requires small { length clocks.now < 2 ^ 32 }
+    requires marks { length used.now ≡ length clocks.now }
+    ensures first { option_map (λ net. net.0) result ≡ find (is_marked_clock domains.now clocks.now used.now) (range_with_len 0 (length clocks.now)) }
+    ensures live { IfSome result (λ net. net.0 < length clocks.now) }
 {
-    for net in 0..roots.len() {
-        if place_of(domains, roots[net]).is_some() && used[net] {
+    for net in 0..clocks.len() {
+        if clock_place(domains, clocks[net]).is_some() && used[net] {
             return Some(NetId(net as u32));
         }
     }

@@ -7,10 +7,11 @@ ghost use Rattle.dft_rules.specs.Refusals.{IsRefusal, unknown_cell, unknown_port
 ghost use Rattle.dft_rules.specs.Rules as spec;
 
 use crate::cells::may_be_scanned;
+use crate::clock_roots::clock_in;
 use crate::error::RuleError;
 use crate::roots::root_at;
 use dft_base::Name;
-use dft_netlist::{Design, InstanceId, NetId, Root, Signal};
+use dft_netlist::{ClockRoot, Design, InstanceId, NetId, Root, Signal};
 use std::alloc::{AllocError, Global};
 
 // What is looked up once, before flip-flops are judged.
@@ -24,6 +25,8 @@ pub(crate) struct Findings {
     pub(crate) kept: Vec<bool>,
     // The root of each net, by its number.
     pub(crate) roots: Vec<Root>,
+    // The clock that each net shows, by its number.
+    pub(crate) clocks: Vec<Option<ClockRoot>>,
 }
 
 // The bits of input ports that these names stand for.
@@ -86,13 +89,31 @@ fn unknown(alloc: Global, name: &Name) -> Result<RuleError, AllocError>
     })
 }
 
-// The domain of a clock pin that is joined to this.
-pub(crate) fn domain_at(domains: &[NetId], roots: &[Root], clock: Option<Signal>) -> Option<u8>
+// The clock at a clock pin that is joined to this: the place of its domain, and whether it is inverted.
+pub(crate) fn clock_at(
+    domains: &[NetId],
+    clocks: &[Option<ClockRoot>],
+    pin: Option<Signal>,
+) -> Option<(u8, bool)>
     requires { length domains.now ≤ 16 }
-    ensures { result ≡ at.domain_at domains.now roots.now clock }
+    ensures { result ≡ at.clock_at domains.now clocks.now pin }
+{
+    match pin {
+        Some(signal) => clock_place(domains, clock_in(clocks, signal)),
+        None => None,
+    }
+}
+
+// The place of a shown clock's port among nets, and whether the clock is inverted.
+pub(crate) fn clock_place(nets: &[NetId], clock: Option<ClockRoot>) -> Option<(u8, bool)>
+    requires { length nets.now ≤ 16 }
+    ensures { result ≡ at.clock_place nets.now clock }
 {
     match clock {
-        Some(signal) => place_of(domains, root_at(roots, signal)),
+        Some(clock) => match place_of_net(nets, clock.port) {
+            Some(place) => Some((place, clock.inverted)),
+            None => None,
+        },
         None => None,
     }
 }
@@ -128,7 +149,7 @@ fn is_held(resets: &[NetId], root: Root) -> bool
 }
 
 // The place of a root among nets.
-pub(crate) fn place_of(nets: &[NetId], root: Root) -> Option<u8>
+fn place_of(nets: &[NetId], root: Root) -> Option<u8>
     requires { length nets.now ≤ 16 }
     ensures { result ≡ place_among nets.now root }
 {

@@ -8,9 +8,10 @@ ghost use Rattle.dft_rules.specs.Rules.{judged, judged_by, judgements};
 
 use crate::cells::{has_scan_cell, may_be_scanned};
 use crate::checks::{check_absent, check_count, check_ports};
+use crate::clock_roots::find_clocks;
 use crate::clocks::check_clocks;
 use crate::error::RuleError;
-use crate::findings::{Findings, are_held, domain_at, input_nets, kept_cells};
+use crate::findings::{Findings, are_held, clock_at, input_nets, kept_cells};
 use crate::judged::Judged;
 use crate::roots::find_roots;
 use crate::verdicts::Verdicts;
@@ -47,14 +48,16 @@ fn look_up(alloc: Global, design: &Design, config: &Config) -> Result<Findings, 
     let resets = input_nets(alloc, design, config.resets())?;
     let kept = kept_cells(alloc, design, config.keep())?;
     check_absent(alloc, design.library().cells(), design.instances())?;
-    let roots = find_roots(alloc, design)?;
-    check_clocks(alloc, design, &domains, &roots)?;
+    let clocks = find_clocks(alloc, design)?;
+    check_clocks(alloc, design, &domains, &clocks)?;
     check_ports(alloc, design.ports())?;
+    let roots = find_roots(alloc, design)?;
     Ok(Findings {
         domains,
         resets,
         kept,
         roots,
+        clocks,
     })
 }
 
@@ -84,22 +87,22 @@ fn judge_instance(design: &Design, found: &Findings, number: usize) -> Option<Ju
     if !may_be_scanned(kind_of(cells, instance.cell)) {
         return None;
     }
-    let clock = signal_of(cells, instance, Role::Clock);
+    let pin = signal_of(cells, instance, Role::Clock);
     let reset = signal_of(cells, instance, Role::Reset);
     let preset = signal_of(cells, instance, Role::Preset);
-    let domain = domain_at(&found.domains, &found.roots, clock);
+    let clock = clock_at(&found.domains, &found.clocks, pin);
     let held = are_held(&found.resets, &found.roots, reset, preset);
     let scans = has_scan_cell(cells, instance.cell);
-    judgement(domain, held, scans, found.kept[number])
+    judgement(clock, held, scans, found.kept[number])
 }
 
 // The judgement by the first rule that fails.
-fn judgement(domain: Option<u8>, held: bool, scans: bool, kept: bool) -> Option<Judged>
-    ensures { result ≡ judged_by domain held scans kept }
+fn judgement(clock: Option<(u8, bool)>, held: bool, scans: bool, kept: bool) -> Option<Judged>
+    ensures { result ≡ judged_by clock held scans kept }
 {
-    match domain {
+    match clock {
         None => Some(Judged::Unscanned { rule: Rule::S1 }),
-        Some(domain) => {
+        Some((domain, falling)) => {
             if !held {
                 Some(Judged::Unscanned { rule: Rule::S2 })
             } else if !scans {
@@ -107,10 +110,7 @@ fn judgement(domain: Option<u8>, held: bool, scans: bool, kept: bool) -> Option<
             } else if kept {
                 Some(Judged::Unscanned { rule: Rule::S4 })
             } else {
-                Some(Judged::Scanned {
-                    domain,
-                    falling: false,
-                })
+                Some(Judged::Scanned { domain, falling })
             }
         }
     }

@@ -1,8 +1,10 @@
-//! The scan rules: which flip-flops of a design are scanned and in which domain, and why a design is refused.
+//! The scan rules: which flip-flops of a design are scanned, in which domain and at which edge, and why a design is
+//! refused.
 #![tactic(auto)]
 
 mod cells;
 mod checks;
+mod clock_roots;
 mod clocks;
 mod error;
 mod findings;
@@ -16,5 +18,5 @@ pub use dft_base::Rule;
 pub use error::RuleError;
 pub use judged::Judged;
 pub use judging::judge;
-pub use laws::{flip_flops_are_judged, passed_designs_rise};
+pub use laws::{flip_flops_are_judged, scanned_are_clocked};
 pub use verdicts::Verdicts;

@@ -19,8 +19,8 @@ use Rattle.dft_config.specs.Config.{Config}
 use Rattle.dft_rules.specs.declared.judged.Judged.{Judged}
 use Rattle.dft_rules.specs.declared.judged.Judged.TheVariants.{Scanned, Unscanned}
 use Rattle.dft_base.specs.declared.rule.Rule.{Rule}
-use Rattle.dft_rules.specs.Rules.{judged, judged_by, judgements, may_be_scanned, domain_of as clock_domain, are_held_at, scan_cell_of, is_kept}
-use Rattle.dft_stitch.specs.Chains.{domain_in}
+use Rattle.dft_rules.specs.Rules.{judged, judged_by, judgements, may_be_scanned, clocked_by, are_held_at, scan_cell_of, is_kept}
+use Rattle.dft_stitch.specs.Chains.{clock_of, domain_in, is_falling}
 use Rattle.dft_stitch.proofs.OnceLemmas.{domain_within}
 use Rattle.dft_scan_frame.specs.Statements.{IsReady}
 use Rattle.dft_scan.specs.Reports.{domain_name, name_of, scanned_as, unscanned_as}
@@ -65,7 +65,7 @@ flip_flop_by true o verdict e = refl
 flip_flop_by false o verdict e = absurd (let f : ⊥ = cc in f)
 
 is_flip_flop : (n : Netlist) (config : Config) (i : ℕ) (verdict : Judged) → judged n config i ≡ Some verdict → may_be_scanned (kind_at n i) ≡ true
-is_flip_flop n config i verdict e = flip_flop_by (may_be_scanned (kind_at n i)) (judged_by (clock_domain n config i) (are_held_at n config i) (is_some (scan_cell_of n i)) (is_kept n config.keep i)) verdict e
+is_flip_flop n config i verdict e = flip_flop_by (may_be_scanned (kind_at n i)) (judged_by (clocked_by n config i) (are_held_at n config i) (is_some (scan_cell_of n i)) (is_kept n config.keep i)) verdict e
 
 is_there : (n : Netlist) (i : ℕ) → may_be_scanned (kind_at n i) ≡ true → i < length n.instances
 is_there n i s = elim (le_or_lt (length n.instances) i) [
@@ -87,10 +87,10 @@ domain_named n config i d f h =
 
 -- ---- lines
 
-scanned_some : (chain place : ℕ) (name domain : Option Text) → IsSome name → IsSome domain → IsSome (scanned_as chain place name domain)
-scanned_some chain place (Some name) (Some domain) x y = refl
-scanned_some chain place (Some name) None x y = y
-scanned_some chain place None domain x y = x
+scanned_some : (chain place : ℕ) (falling : Bool) (name domain : Option Text) → IsSome name → IsSome domain → IsSome (scanned_as chain place falling name domain)
+scanned_some chain place falling (Some name) (Some domain) x y = refl
+scanned_some chain place falling (Some name) None x y = y
+scanned_some chain place falling None domain x y = x
 
 unscanned_some : (name : Option Text) (rule : Rule) → IsSome name → IsSome (unscanned_as name (Some (Unscanned rule)))
 unscanned_some (Some name) rule x = refl
@@ -99,7 +99,7 @@ unscanned_some None rule x = x
 has_line : (n : Netlist) (config : Config) (i : ℕ) (verdict : Option Judged) → IsReady n config → judged n config i ≡ verdict → HasLine n config i verdict
 has_line n config i None ready e = _
 has_line n config i (Some (Scanned d f)) ready e = λ chain place.
-    scanned_some chain place (name_of n i) (domain_name config (judgements n config) (record { 0 = i }))
+    scanned_some chain place (is_falling (clock_of (judgements n config) (record { 0 = i }))) (name_of n i) (domain_name config (judgements n config) (record { 0 = i }))
     (named_by n i (slice_get n.instances i) ready.netlist refl (is_flip_flop n config i (Scanned d f) e)) (domain_named n config i d f e)
 has_line n config i (Some (Unscanned rule)) ready e =
     unscanned_some (name_of n i) rule (named_by n i (slice_get n.instances i) ready.netlist refl (is_flip_flop n config i (Unscanned rule) e))

@@ -12,7 +12,7 @@ use Rattle.dft_rules.specs.declared.judged.Judged.{Judged}
 use Rattle.dft_rules.specs.declared.judged.Judged.TheVariants.{Scanned, Unscanned}
 use Rattle.dft_rules.specs.Rules.{judgements}
 use Rattle.dft_rules.specs.Refusals.{is_scanned}
-use Rattle.dft_stitch.specs.Chains.{domain_of, plan_of}
+use Rattle.dft_stitch.specs.Chains.{clock_of, domain_of, is_falling, plan_of}
 pub use Rattle.dft_stitch.specs.Plans.{lengths_of}
 use Rattle.dft_report.specs.declared.report.ScannedLine.{ScannedLine}
 use Rattle.dft_report.specs.declared.report.UnscannedLine.{UnscannedLine}
@@ -28,15 +28,15 @@ name_of n i = option_and_then instance_name (slice_get n.instances i)
 abbrev pub domain_name : Config → List (Option Judged) → InstanceId → Option Text
 domain_name config verdicts cell = option_and_then (slice_get config.domains) (domain_of verdicts cell)
 
--- the line of a cell, by its name and its domain's
-abbrev pub scanned_as : (chain place : ℕ) → (name domain : Option Text) → Option ScannedLine
-scanned_as chain place (Some name) (Some domain) = Some (record { name = name; domain = domain; chain = chain; place = place })
-scanned_as chain place (Some name) None = None
-scanned_as chain place None domain = None
+-- the line of a cell, by its edge, its name and its domain's
+abbrev pub scanned_as : (chain place : ℕ) → (falling : Bool) → (name domain : Option Text) → Option ScannedLine
+scanned_as chain place falling (Some name) (Some domain) = Some (record { name = name; domain = domain; chain = chain; place = place; falling = falling })
+scanned_as chain place falling (Some name) None = None
+scanned_as chain place falling None domain = None
 
 -- the line of the cell at a place
 abbrev pub scanned_line : Netlist → Config → List (Option Judged) → (chain place : ℕ) → InstanceId → Option ScannedLine
-scanned_line n config verdicts chain place cell = scanned_as chain place (name_of n cell.0) (domain_name config verdicts cell)
+scanned_line n config verdicts chain place cell = scanned_as chain place (is_falling (clock_of verdicts cell)) (name_of n cell.0) (domain_name config verdicts cell)
 
 -- the lines of a chain, from the scan input on
 abbrev pub scanned_in : Netlist → Config → List (Option Judged) → (chain : ℕ) → List InstanceId → List ScannedLine

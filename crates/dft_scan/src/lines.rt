@@ -2,13 +2,14 @@
 
 ghost use Rattle.std.specs.Prelude.{◌≡◌, Some, IfOk, slice_get};
 ghost use Rattle.dft_scan.specs.Reports as spec;
+ghost use Rattle.dft_stitch.specs.Chains as chains;
 
 use dft_base::Name;
 use dft_config::Config;
 use dft_netlist::{Design, Instance, InstanceId};
 use dft_report::{ScannedLine, UnscannedLine};
 use dft_rules::{Judged, Rule, Verdicts};
-use dft_stitch::domain_of;
+use dft_stitch::{clock_of, domain_of};
 use std::alloc::{AllocError, Global};
 
 // The line of the cell at a place of a chain.
@@ -25,16 +26,28 @@ pub(crate) fn scanned_line(
 {
     let name = name_of(alloc, design, cell)?;
     let domain = domain_name(alloc, config, verdicts, cell)?;
-    Ok(scanned_as(chain, place, name, domain))
+    let falling = is_falling(verdicts, cell);
+    Ok(scanned_as(chain, place, falling, name, domain))
+}
+
+// Whether the cell takes its bits at falls.
+fn is_falling(verdicts: &Verdicts, cell: InstanceId) -> bool
+    ensures { result ≡ chains.is_falling (chains.clock_of verdicts.now cell) }
+{
+    match clock_of(verdicts, cell) {
+        Some(clock) => clock.falling,
+        None => false,
+    }
 }
 
 fn scanned_as(
     chain: u32,
     place: u32,
+    falling: bool,
     name: Option<Name>,
     domain: Option<Name>,
 ) -> Option<ScannedLine>
-    ensures { result ≡ spec.scanned_as chain place name domain }
+    ensures { result ≡ spec.scanned_as chain place falling name domain }
 {
     let name = name?;
     let domain = domain?;
@@ -43,6 +56,7 @@ fn scanned_as(
         domain,
         chain,
         place,
+        falling,
     })
 }
 

@@ -1,12 +1,12 @@
 -- One capture vector of a scanned netlist of style Edt.
 use Rattle.std.proofs.Common.{ℕ, ◌≡◌, true, Option, None, Some, is_some, slice_get, refl, sym, ◌∙◌}
-use Rattle.dft_netlist.specs.Logic.{Logic, Ports, Cell, IsRanked, IsRising, flip_flop, logic_of}
+use Rattle.dft_netlist.specs.Drivers.{IsOrdered}
+use Rattle.dft_netlist.specs.Logic.{Logic, Ports, Cell, IsRanked, flip_flop, logic_of}
 use Rattle.dft_netlist.specs.Netlist.{Netlist}
 use Rattle.dft_netlist.proofs.RankLemmas.{order_ranks}
 use Rattle.dft_netlist.proofs.Ranks.{order_is_rank}
 use Rattle.dft_netlist.proofs.StoredLemmas.{flop_cell}
 use Rattle.dft_config.specs.Config.{Config}
-use Rattle.dft_rules.proofs.ClocksRise.{passed_rise}
 use Rattle.dft_runs.specs.WiderPorts.{Widens}
 use Rattle.dft_runs.proofs.WiderPortsLemmas.{ports_widen}
 use Rattle.dft_chains.specs.ScanOff.{Places}
@@ -24,6 +24,7 @@ use Rattle.dft_scan_equivalence.proofs.Matching.{instance_matched}
 use Rattle.dft_scan_equivalence.proofs.Sparing.{spared}
 use Rattle.dft_scan_behavior.specs.Capturing.{design_logic, StrobesFollow, CapturesFollow}
 use Rattle.dft_scan_behavior.specs.EdtVectors.{SuitsEdt, edt_logic}
+use Rattle.dft_scan_behavior.proofs.ClockFree.{clock_free, inputs_clear, is_clear}
 
 -- a flip-flop of the design is modelled in the scanned netlist
 modelled_by : (p : Places) (old new : Option Cell) → is_some old ≡ true → AreMatched p old new → (c : Cell) × (new ≡ Some c)
@@ -54,11 +55,11 @@ module _ (n : Netlist) (config : Config) (ports : Ports) (ready : IsReady n conf
   covers : Covers original l p
   covers = widening_covers original (logic_of (scanned Edt n config) (ports_in Edt n config)) l p (contains Edt n config ready (spared Edt n config ready)) wider.logic same
 
-  ranked : (rank : ℕ → ℕ) × IsRanked original rank
-  ranked = let order = order_ranks n ready.order ready.netlist ready.ordered in (order.0, order_is_rank n (config_ports n config) order.0 order.1)
+  ordered : (rank : ℕ → ℕ) × IsOrdered n rank
+  ordered = order_ranks n ready.order ready.netlist ready.ordered
 
-design_rises : (n : Netlist) (config : Config) → IsReady n config → IsRising (design_logic n config)
-design_rises n config ready = let order = order_ranks n ready.order ready.netlist ready.ordered in passed_rise n config order.0 order.1 ready.netlist ready.passed
+  ranked : (rank : ℕ → ℕ) × IsRanked original rank
+  ranked = (ordered.0, order_is_rank n (config_ports n config) ordered.0 ordered.1)
 
 pub strobes_follow : StrobesFollow
 strobes_follow n config ports ready suits y x its old values shows over settled written net less =
@@ -66,7 +67,8 @@ strobes_follow n config ports ready suits y x its old values shows over settled 
     strobe_law (design_logic n config) (edt_logic n config ports) r.0 (places_in Edt n config) y x its old values shows r.1 (covers n config ports ready suits) over settled written net less
 
 pub captures_follow : CapturesFollow
-captures_follow n config ports ready suits d y x its old h values capture over settled halves cell is =
+captures_follow n config ports ready suits d y x its risen old h values later capture over caught halves cell is =
+    let o = ordered n config ports ready suits in
     let r = ranked n config ports ready suits in
-    capture_law (design_logic n config) (edt_logic n config ports) r.0 (places_in Edt n config) d y x its old h values r.1 (covers n config ports ready suits) capture over settled halves cell is
-    (design_rises n config ready cell)
+    capture_law (design_logic n config) (edt_logic n config ports) r.0 (places_in Edt n config) d y x its risen old h values later (is_clear n config) r.1 (covers n config ports ready suits)
+    (clock_free n config o.0 o.1 ready.netlist ready.library ready.passed) capture over caught halves cell is (λ falls. inputs_clear n config o.0 o.1 ready.netlist ready.library ready.passed cell is)

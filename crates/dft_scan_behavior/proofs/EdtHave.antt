@@ -85,13 +85,13 @@ module _ (n : Netlist) (config : Config) (ready : IsReady n config) where
 
   -- ---- into and out of the chains
 
-  -- the first cell of a chain takes its bit at the edge that the plan tells, which is the rise as yet
-  pub head_edge : (chain : ℕ) (cell : InstanceId) → cell_at chains chain zero ≡ Some cell → ((l.cell cell.0).falling ≡ falling_head (plan_of n config) chain) × (falling_head (plan_of n config) chain ≡ false)
+  -- the first cell of a chain takes its bit at the edge that the plan tells
+  pub head_edge : (chain : ℕ) (cell : InstanceId) → cell_at chains chain zero ≡ Some cell → (l.cell cell.0).falling ≡ falling_head (plan_of n config) chain
   head_edge chain cell stands =
       let s : IsPlanned Edt n config cell.0 = planned Edt n config chain zero cell ready stands in
       let has = has_chain chains chain zero cell stands in
       let head : falling_head (plan_of n config) chain ≡ s.falling = head_is (judgements n config) chains chain has.cells (clock_of_planned Edt n config cell.0 s) has.at (cell_clock Edt n config zero cell has.cells s has.here) in
-      (cell_edge Edt n config cell.0 s ∙ sym head, head ∙ s.rises)
+      cell_edge Edt n config cell.0 s ∙ sym head
 
   -- its scan input takes the phase sum, or what a lock-up holds of it
   entered : (falling : Bool) (chain : ℕ) (into : Source) (net : NetId) → into ≡ Net net.0 → IsSumEntry n config falling chain net → IsEntered l hw into (net_at (ring_parts n config).value.phases chain).0 falling
@@ -102,7 +102,7 @@ module _ (n : Netlist) (config : Config) (ready : IsReady n config) where
   phase chain cell stands =
       let s : IsPlanned Edt n config cell.0 = planned Edt n config chain zero cell ready stands in
       let it = entry_joined Edt n config chain cell s ready stands in
-      subst (λ (falling : Bool). HasPhase l config.ring hw ((chain_nets Edt n config).into chain zero) falling chain) (sym (head_edge chain cell stands).0)
+      subst (λ (falling : Bool). HasPhase l config.ring hw ((chain_nets Edt n config).into chain zero) falling chain) (sym (head_edge chain cell stands))
       (record {
         sum = (net_at (ring_parts n config).value.phases chain).0;
         sums = ring.phases chain (chain_less n config chain zero cell stands);

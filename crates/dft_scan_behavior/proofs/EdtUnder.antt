@@ -29,7 +29,7 @@ edt_under n config ports ready suits =
 pub edt_heads : (n : Netlist) (config : Config) (ports : Ports) → IsReady n config → SuitsEdt n config ports → HeadsAre (edt_logic n config ports) (plan_of n config).chains (falling_head (plan_of n config))
 edt_heads n config ports ready suits =
     heads_stay (edt_logic n config (ports_in Edt n config)) (edt_logic n config ports) (ports_in Edt n config) config (plan_of n config).chains (chain_nets Edt n config) (edt_hardware n config) (falling_head (plan_of n config))
-    (ports_widen (scanned Edt n config) (ports_in Edt n config) ports suits).logic (edt_has n config ready).ring (λ chain cell stands. (head_edge n config ready chain cell stands).0)
+    (ports_widen (scanned Edt n config) (ports_in Edt n config) ports suits).logic (edt_has n config ready).ring (λ chain cell stands. head_edge n config ready chain cell stands)
 
 pub edt_rank : (n : Netlist) (config : Config) (ports : Ports) → IsReady n config → (rank : ℕ → ℕ) × IsRanked (edt_logic n config ports) rank
 edt_rank n config ports ready = ranked (scanned Edt n config) ports (λ net. scanned_orderable Edt n config ready net)

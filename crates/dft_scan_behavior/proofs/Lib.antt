@@ -19,6 +19,7 @@ pub mod PlainShifts
 pub mod EdtUnder
 pub mod EdtActs
 pub mod Reaching
+pub mod ClockFree
 pub mod Captured
 pub mod FlopsListed
 pub mod FlopsPlaced

@@ -1,5 +1,5 @@
 -- What leads from a cell of a planned chain to the next one in the scanned netlist: a lock-up of their edge, or the cell's output.
-use Rattle.std.proofs.Common.{ℕ, zero, suc, ◌+◌, ◌≡◌, ◌<◌, Bool, true, false, List, [], ◌∷◌, ◌++◌, length, Option, None, Some, option_map, option_and_then, slice_get, slice_index_or, refl, sym, subst, ap, arith, ◌∙◌}
+use Rattle.std.proofs.Common.{ℕ, zero, suc, ◌+◌, ◌≡◌, ◌<◌, Bool, true, false, List, [], ◌∷◌, ◌++◌, length, Option, None, Some, option_map, option_and_then, slice_get, slice_index_or, sym, subst, ap, arith, ◌∙◌}
 use Rattle.std.specs.List.{range_with_len}
 use Rattle.std.proofs.lemmas.List.FromFn.{get_or-map-range_with_len}
 use Rattle.std.proofs.lemmas.Option.{none-some, same_Some, slice_get_within, get_or_from_slice_get}
@@ -16,11 +16,12 @@ use Rattle.dft_netlist.specs.Netlist.{Netlist}
 use Rattle.dft_netlist.specs.Connections.{input_net}
 use Rattle.dft_netlist.specs.Drivers.{Net, driver}
 use Rattle.dft_netlist.specs.Logic.{Cell, Ports, Lockup, logic_of}
-use Rattle.dft_netlist.proofs.Walks.{port_found}
+use Rattle.dft_netlist.proofs.ClockWalks.{clock_driven, clock_found}
 use Rattle.dft_config.specs.Config.{Config}
 use Rattle.dft_rules.specs.declared.judged.Judged.{Judged}
 use Rattle.dft_rules.specs.declared.judged.Judged.TheVariants.{Scanned}
 use Rattle.dft_rules.specs.Rules.{judged, judgements}
+use Rattle.dft_rules.proofs.ClockedFlops.{IsClocked}
 use Rattle.dft_stitch.specs.declared.places.LockupPlace.{LockupPlace}
 use Rattle.dft_stitch.specs.declared.places.CellClock.{CellClock}
 use Rattle.dft_stitch.specs.Chains.{clock_at, clock_in, clock_of, is_falling, plan_of}
@@ -36,7 +37,7 @@ use Rattle.dft_scan_frame.specs.Moves.{moved}
 use Rattle.dft_scan_frame.specs.Pins.{moved_or_none}
 use Rattle.dft_scan_frame.specs.Pins as pins
 use Rattle.dft_scan_frame.specs.Statements.{IsReady}
-use Rattle.dft_scan_frame.proofs.Kept.{root_among, port_driven, design_ports_few}
+use Rattle.dft_scan_frame.proofs.Kept.{design_ports_few}
 use Rattle.dft_scan_frame.proofs.Mergings.{moved_driver}
 use Rattle.dft_scan_hardware.specs.declared.style.Style.{Style}
 use Rattle.dft_scan_hardware.specs.Chained.{row_at}
@@ -49,7 +50,7 @@ use Rattle.dft_scan_equivalence.proofs.Driving.{driver_kept}
 use Rattle.dft_scan_equivalence.proofs.Matching.{longer}
 use Rattle.dft_scan_equivalence.proofs.Sparing.{spared}
 use Rattle.dft_scan_behavior.specs.Facts.{rows_in}
-use Rattle.dft_scan_behavior.proofs.Clocks.{IsClocked, net_is, same_clock, root_stays}
+use Rattle.dft_scan_behavior.proofs.Clocks.{net_is, same_clock, port_among, port_stays}
 use Rattle.dft_scan_behavior.proofs.Outputs.{IsShown, means}
 use Rattle.dft_scan_behavior.proofs.Planned.{IsPlanned, flop_is, cell_edge}
 use Rattle.dft_scan_behavior.proofs.Planned as planned
@@ -79,20 +80,20 @@ cell_clock style n config place cell cells s at = ap (option_and_then (clock_of 
 -- ---- clocks in the scanned netlist
 
 -- the port of a domain is a clock there
-pub clock_net : (style : Style) (n : Netlist) (config : Config) (i domain : ℕ) → IsReady n config → (c : IsClocked n config i domain) → IsClockNet (scanned style n config) (ports_in style n config) c.net
-clock_net style n config i domain ready c = record {
-  input = ap (driver (scanned style n config)) (sym (root_stays style n config c.source c.net ready c.root))
-      ∙ driver_kept style n config c.net ready (spared style n config ready) (design_ports_few n config c.net ready (root_among n config c.source c.net ready c.root))
-      ∙ ap (moved_driver (moved (gap_in style n config))) (port_driven n c.net (port_found n c.source c.net c.root) refl);
-  clock = planned.clock_in style n config i domain ready c;
+pub clock_net : (style : Style) (n : Netlist) (config : Config) (i domain : ℕ) (falling : Bool) → IsReady n config → (c : IsClocked n config i domain falling) → IsClockNet (scanned style n config) (ports_in style n config) c.net
+clock_net style n config i domain falling ready c = record {
+  input = ap (driver (scanned style n config)) (sym (port_stays style n config i domain falling ready c))
+      ∙ driver_kept style n config c.net ready (spared style n config ready) (design_ports_few n config c.net ready (port_among n config i domain falling ready c))
+      ∙ ap (moved_driver (moved (gap_in style n config))) (clock_driven n (clock_found n c.source (record { port = c.net; inverted = falling }) c.root));
+  clock = planned.clock_in style n config i domain falling ready c;
 }
 
 -- the net of the port of a domain
-pub domain_net : (style : Style) (n : Netlist) (config : Config) (i domain : ℕ) → IsReady n config → (c : IsClocked n config i domain) → pins.domain_in n (gap_in style n config) config domain ≡ c.net
-domain_net style n config i domain ready c =
+pub domain_net : (style : Style) (n : Netlist) (config : Config) (i domain : ℕ) (falling : Bool) → IsReady n config → (c : IsClocked n config i domain falling) → pins.domain_in n (gap_in style n config) config domain ≡ c.net
+domain_net style n config i domain falling ready c =
     ap (λ (name : Text). moved_or_none (gap_in style n config) (option_map (λ (net : NetId). net.0) (input_net n name))) (get_or_from_slice_get config.domains domain c.name [] c.named)
     ∙ ap (λ (o : Option NetId). moved_or_none (gap_in style n config) (option_map (λ (net : NetId). net.0) o)) (net_is c.net (input_net n c.name) c.is)
-    ∙ root_stays style n config c.source c.net ready c.root
+    ∙ port_stays style n config i domain falling ready c
 
 -- a lock-up that a recipe makes, with the cells that it had at hand
 abbrev pub LockupStands : Netlist → (number : ℕ) → List library_cells.Cell → (clock input output : NetId) → Type 0
@@ -151,9 +152,9 @@ module _ (style : Style) (n : Netlist) (config : Config) (ready : IsReady n conf
       let behind : l.after + 1 ≡ suc place = omega (arith, after_is) in
       let next_is : t.falling ≡ l.high =
       ap is_falling (sym (cell_clock style n config (suc place) (record { 0 = next }) out.cells t later) ∙ sym (ap (clock_at v out.cells) behind) ∙ sym (ap (λ (z : List InstanceId). clock_at v z (l.after + 1)) own)) ∙ placed.next_is in
-      let port : pins.domain_in n (gap_in style n config) config l.domain ≡ s.clock.net = ap (pins.domain_in n (gap_in style n config) config) domain_is ∙ domain_net style n config cell.0 s.domain ready s.clock in
-      let net_is : IsClockNet w q (pins.domain_in n (gap_in style n config) config l.domain) = subst (IsClockNet w q) (sym port) (clock_net style n config cell.0 s.domain ready s.clock) in
-      let live : pins.domain_in n (gap_in style n config) config l.domain < length w.nets = omega (arith, port, design_ports_few n config s.clock.net ready (root_among n config s.clock.source s.clock.net ready s.clock.root), longer style n config) in
+      let port : pins.domain_in n (gap_in style n config) config l.domain ≡ s.clock.net = ap (pins.domain_in n (gap_in style n config) config) domain_is ∙ domain_net style n config cell.0 s.domain s.falling ready s.clock in
+      let net_is : IsClockNet w q (pins.domain_in n (gap_in style n config) config l.domain) = subst (IsClockNet w q) (sym port) (clock_net style n config cell.0 s.domain s.falling ready s.clock) in
+      let live : pins.domain_in n (gap_in style n config) config l.domain < length w.nets = omega (arith, port, design_ports_few n config s.clock.net ready (port_among n config cell.0 s.domain s.falling ready s.clock), longer style n config) in
       let shows : IsClockedBy w q clock.0 (pins.domain_in n (gap_in style n config) config l.domain) l.high = made_clock style n config (record { 0 = pins.domain_in n (gap_in style n config) config l.domain }) clock l.high ready live net_is made in
       let input : (net_at (row_at (rows_in style n config).value chain) l.after).0 ≡ out.net.0 = ap (λ k. (net_at (row_at (rows_in style n config).value chain) k).0) after_is ∙ ap (λ (k : NetId). k.0) out_net in
       ByLockup {net = net.0} {lockup = number} {output = out.net.0} {high = l.high}
@@ -167,7 +168,7 @@ module _ (style : Style) (n : Netlist) (config : Config) (ready : IsReady n conf
   directly t same edge =
       let other : ((logic_of (scanned style n config) (ports_in style n config)).cell next).domain ≡ t.clock.net = ap (λ (c : Cell). c.domain) (flop_is style n config next t) ∙ t.on in
       subst (λ (k : NetId). Leads (logic_of (scanned style n config) (ports_in style n config)) cell.0 next (Net k.0)) (sym out_net)
-      (Directly {net = out.net.0} (means style n config cell s ready out.net out.joined) (its_domain ∙ same_clock n config cell.0 next s.domain t.domain s.clock t.clock same ∙ sym other)
+      (Directly {net = out.net.0} (means style n config cell s ready out.net out.joined) (its_domain ∙ same_clock n config cell.0 next s.domain t.domain s.falling t.falling s.clock t.clock same ∙ sym other)
       (cell_edge style n config cell.0 s ∙ edge ∙ sym (cell_edge style n config next t)))
 
   -- that of a falling cell leads to a rising one, whatever their domains

@@ -14,7 +14,7 @@ use Rattle.dft_netlist.specs.declared.instance.Signal.TheVariants as signal
 use Rattle.dft_netlist.specs.declared.instance.Instance.{Instance}
 use Rattle.dft_netlist.specs.Netlist.{Netlist}
 use Rattle.dft_netlist.specs.Drivers.{Source, Net, Shape, Flop, connections_from, inputs_of, driven_by, driver, kind_of, kind_at, pins_at, pins_of, shape_of}
-use Rattle.dft_netlist.specs.ClockRoots.{ClockRoot, port_root}
+use Rattle.dft_netlist.specs.ClockRoots.{ClockRoot}
 use Rattle.dft_netlist.specs.Logic.{Ports, Force, Scan, Cell, pin_of, or_loose, forcing, scan_of, modelled, modelled_of, flip_flop, logic_of}
 use Rattle.dft_netlist.proofs.StoredLemmas.{flop_cell}
 use Rattle.dft_config.specs.Config.{Config}
@@ -22,7 +22,7 @@ use Rattle.dft_rules.specs.declared.judged.Judged.TheVariants.{Scanned}
 use Rattle.dft_scan_frame.specs.ConfigPorts.{config_ports}
 use Rattle.dft_rules.specs.Refusals.{is_scanned}
 use Rattle.dft_rules.specs.Rules.{judged, may_be_scanned, scan_cell_in}
-use Rattle.dft_rules.proofs.Scannable.{scannable_flop}
+use Rattle.dft_rules.proofs.ClockedFlops.{IsClocked, clocked, clock_is, scanned_flop}
 use Rattle.dft_stitch.specs.Chains.{plan_of}
 use Rattle.dft_stitch.specs.Plans.{cell_at}
 use Rattle.dft_chains.specs.ScanOff.{Places, KeepsFlop}
@@ -32,7 +32,6 @@ use Rattle.dft_parts.proofs.Standing.{instance_drives}
 use Rattle.dft_scan_frame.specs.Moves.{at_net, moved_signal}
 use Rattle.dft_scan_frame.specs.Statements.{IsReady}
 use Rattle.dft_scan_frame.proofs.Contained.{AreMatched}
-use Rattle.dft_scan_frame.proofs.Kept.{root_among}
 use Rattle.dft_scan_frame.proofs.Standing.{IsScannedFlop, stands_scanned}
 use Rattle.dft_scan_hardware.specs.declared.style.Style.{Style}
 use Rattle.dft_scan_hardware.specs.Chained.{roles_of, scan_roles}
@@ -49,7 +48,7 @@ use Rattle.dft_scan_equivalence.proofs.Sparing.{spared}
 use Rattle.dft_scan_equivalence.proofs.Matching.{ports_alike, now_there, instance_matched}
 use Rattle.dft_scan_equivalence.proofs.Merging.{joined_at}
 use Rattle.dft_scan_behavior.specs.Facts.{taken_by}
-use Rattle.dft_scan_behavior.proofs.Clocks.{IsClocked, clocked, clock_is, domain_is, ActsBy, acts_pins, root_stays}
+use Rattle.dft_scan_behavior.proofs.Clocks.{ActsBy, acts_pins, port_among, port_stays}
 use Rattle.dft_scan_behavior.proofs.ScanShapes.{IsScanShape, scan_shape, pin_number, output_lists}
 
 -- the pins of a scan cell in the frame, and when all parts are made
@@ -66,7 +65,7 @@ pub record IsPlanned (style : Style) (n : Netlist) (config : Config) (i : ℕ) :
   pub domain : ℕ
   pub falling : Bool
   pub judgement : judged n config i ≡ Some (Scanned domain falling)
-  pub clock : IsClocked n config i domain
+  pub clock : IsClocked n config i domain falling
   pub id : CellId
   pub roles : (shape_of n.library (Library id)).roles ≡ scan_roles n (record { 0 = i })
   pub shape : IsScanShape (shape_of n.library instance.cell).roles (shape_of n.library (Library id)).kind (shape_of n.library (Library id)).roles
@@ -77,8 +76,6 @@ pub record IsPlanned (style : Style) (n : Netlist) (config : Config) (i : ℕ) :
   pub scan : flop.scan ≡ scan_of (pin_of ScanEnable i (pins_of (scanned style n config) i)) (pin_of ScanIn i (pins_of (scanned style n config) i))
   pub on : flop.domain ≡ clock.net
   pub edge : flop.falling ≡ falling
-  -- until scan rules pass falling flip-flops
-  pub rises : falling ≡ false
   pub acts : ActsByPort (ports_in style n config) flop.force
 
 -- ---- how it comes about
@@ -137,7 +134,7 @@ record IsModelled (style : Style) (n : Netlist) (config : Config) (i : ℕ) (net
   pub edge : flop.falling ≡ falling
   pub acts : ActsByPort (ports_in style n config) flop.force
 
-modelled_in : (style : Style) (n : Netlist) (config : Config) (i : ℕ) (x : Instance) (it : IsScannedFlop n config i) (clock : IsClocked n config i it.domain) → IsReady n config → slice_get n.instances i ≡ Some x → IsModelled style n config i clock.net it.falling
+modelled_in : (style : Style) (n : Netlist) (config : Config) (i : ℕ) (x : Instance) (it : IsScannedFlop n config i) (clock : IsClocked n config i it.domain it.falling) → IsReady n config → slice_get n.instances i ≡ Some x → IsModelled style n config i clock.net it.falling
 modelled_in style n config i x it clock ready at =
     let p : Ports = config_ports n config in
     let q : Ports = ports_in style n config in
@@ -145,17 +142,15 @@ modelled_in style n config i x it clock ready at =
     let force : ActsBy style n config (forcing n p (pin_of Reset i (pins_of n i)) (pin_of Preset i (pins_of n i))) = acts_pins style n config (pin_of Reset i (pins_of n i)) (pin_of Preset i (pins_of n i)) ready it.passed.is_held in
     let input : Source = or_loose i (pin_of Din i (pins_of n i)) in
     let scan : Option Scan = scan_of (pin_of ScanEnable i (pins_of n i)) (pin_of ScanIn i (pins_of n i)) in
-    let old : flip_flop n p i ≡ Some (record { domain = clock.net; falling = false; input = input; scan = scan; force = force.force }) =
-    ap (λ b. if b then modelled_of n p i (pins_of n i) else None) (scannable_flop (kind_at n i) it.kind)
-    ∙ ap (λ d. modelled d (forcing n p (pin_of Reset i (pins_of n i)) (pin_of Preset i (pins_of n i))) input scan) (domain_is n config i it.domain clock)
-    ∙ ap (λ f. modelled (Some (port_root clock.net)) f input scan) force.is in
-    let new = matched_new (places_in style n config) (flip_flop n p i) (flip_flop w q i) (record { domain = clock.net; falling = false; input = input; scan = scan; force = force.force }) old (instance_matched style n config ready (spared style n config ready) i x at) in
+    let old : flip_flop n p i ≡ Some (record { domain = clock.net; falling = it.falling; input = input; scan = scan; force = force.force }) =
+    scanned_flop n config i it.domain it.falling force.force it.kind clock force.is in
+    let new = matched_new (places_in style n config) (flip_flop n p i) (flip_flop w q i) (record { domain = clock.net; falling = it.falling; input = input; scan = scan; force = force.force }) old (instance_matched style n config ready (spared style n config ready) i x at) in
     record {
       flop = new.0;
       is = new.1;
       scan = modelled_scan _ _ _ _ new.0 (if_some (is_flip_flop (kind_at w i)) (modelled_of w q i (pins_of w i)) new.0 new.1);
-      on = new.2.domain ∙ root_stays style n config clock.source clock.net ready clock.root;
-      edge = new.2.falling ∙ sym it.passed.rises;
+      on = new.2.domain ∙ port_stays style n config i it.domain it.falling ready clock;
+      edge = new.2.falling;
       acts = acts_alike p q new.0.force (ports_alike style n config).resets (subst (ActsByPort p) (sym new.2.force) force.acts);
     }
 
@@ -166,7 +161,7 @@ planned style n config chain place cell ready stands =
     let it : IsScannedFlop n config i = stands_scanned n config chain place cell ready stands in
     let found = instance_by n i (slice_get n.instances i) refl it.kind in
     let x : Instance = found.0 in
-    let clock : IsClocked n config i it.domain = clocked n config i it.domain it.passed.is_domain in
+    let clock : IsClocked n config i it.domain it.falling = clocked n config i it.domain it.falling it.passed.is_clock in
     let in_place : StandsIn style n config i x = stands_in style n config i x ready found.1 (ap is_scanned it.judgement) in
     let its : IsModelled style n config i clock.net it.falling = modelled_in style n config i x it clock ready found.1 in
     let id : CellId = in_place.id in
@@ -196,7 +191,6 @@ planned style n config chain place cell ready stands =
       scan = its.scan;
       on = its.on;
       edge = its.edge;
-      rises = it.passed.rises;
       acts = its.acts;
     }
 
@@ -226,8 +220,8 @@ flop_is style n config i s = flop_cell (scanned style n config) (ports_in style 
 pub cell_edge : (style : Style) (n : Netlist) (config : Config) (i : ℕ) (s : IsPlanned style n config i) → ((logic_of (scanned style n config) (ports_in style n config)).cell i).falling ≡ s.falling
 cell_edge style n config i s = ap (λ (c : Cell). c.falling) (flop_is style n config i s) ∙ s.edge
 
-pub clock_in : (style : Style) (n : Netlist) (config : Config) (i domain : ℕ) → IsReady n config → (c : IsClocked n config i domain) → (ports_in style n config).is_clock c.net ≡ true
-clock_in style n config i domain ready c = (ports_alike style n config).clocks c.net (root_among n config c.source c.net ready c.root) ∙ clock_is n config i domain c
+pub clock_in : (style : Style) (n : Netlist) (config : Config) (i domain : ℕ) (falling : Bool) → IsReady n config → (c : IsClocked n config i domain falling) → (ports_in style n config).is_clock c.net ≡ true
+clock_in style n config i domain falling ready c = (ports_alike style n config).clocks c.net (port_among n config i domain falling ready c) ∙ clock_is n config i domain falling c
 
 pub scan_cell : (style : Style) (n : Netlist) (config : Config) (cell : InstanceId) (s : IsPlanned style n config cell.0) (net : NetId) → IsReady n config → slice_get (now_pins style n config cell.0 s.instance s.id) s.shape.input ≡ Some (signal.Net net) →
     IsScanCell (logic_of (scanned style n config) (ports_in style n config)) (ports_in style n config) (gap_in style n config).before (taken_by (scanned style n config) (Some cell)) cell.0
@@ -239,6 +233,6 @@ scan_cell style n config cell s net ready joined =
       scan = ap (λ (c : Cell). c.scan) same ∙ s.scan ∙ ap (λ o. scan_of o (pin_of ScanIn cell.0 (pins_of (scanned style n config) cell.0))) (enable_source style n config cell.0 s)
           ∙ ap (λ o. scan_of (Some (Net (gap_in style n config).before)) o) pin
           ∙ ap (λ o. Some (record { enable = Net (gap_in style n config).before; input = or_loose cell.0 o })) (sym pin);
-      domain = ap (λ (c : Cell). q.is_clock c.domain) same ∙ ap q.is_clock s.on ∙ clock_in style n config cell.0 s.domain ready s.clock;
+      domain = ap (λ (c : Cell). q.is_clock c.domain) same ∙ ap q.is_clock s.on ∙ clock_in style n config cell.0 s.domain s.falling ready s.clock;
       force = subst (λ (c : Cell). ActsByPort q c.force) (sym same) s.acts;
     }

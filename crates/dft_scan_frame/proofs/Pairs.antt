@@ -1,5 +1,5 @@
--- What a library keeps makes a flip-flop and its scan cell a pair; and a scanned flip-flop has a scan cell.
-use Rattle.std.proofs.Common.{ℕ, ◌≡◌, Bool, true, false, List, ◌∷◌, map, Option, None, Some, refl, sym, subst, ap, inl, inr, []}
+-- What a library keeps makes a flip-flop and its scan cell a pair.
+use Rattle.std.proofs.Common.{◌≡◌, Bool, true, false, List, ◌∷◌, map, Some, refl, sym, subst, ap, inl, inr, []}
 use Rattle.std.specs.Prelude.{if◌then◌else◌}
 use Rattle.std.proofs.lemmas.Option.{none-some, same_Some}
 use Rattle.dft_cells.specs.declared.kind.Kind.{Kind}
@@ -7,8 +7,6 @@ use Rattle.dft_cells.specs.declared.kind.Kind.TheVariants.{Buf, Inv, And, Nand, 
 use Rattle.dft_cells.specs.declared.kind.Role.{Role}
 use Rattle.dft_cells.specs.declared.cell.Pin.{Pin}
 use Rattle.dft_cells.specs.WellFormed.{HasRoles, role_of, scan_kind, is_scan_role, shared_pins}
-use Rattle.dft_rules.specs.declared.judged.Judged.TheVariants.{Scanned}
-use Rattle.dft_rules.specs.Rules.{judged_by}
 use Rattle.dft_scan_frame.proofs.ScanPairs.{ScanPair, Plain, PlainBoth, Resets, ResetsBoth, Sets, SetsBoth}
 
 -- the roles that are not there for scan alone
@@ -64,22 +62,3 @@ pair_of Sdffr scan old new fits roles is = absurd (none-some scan fits)
 pair_of Sdffs scan old new fits roles is = absurd (none-some scan fits)
 pair_of Lockup scan old new fits roles is = absurd (none-some scan fits)
 pair_of Opaque scan old new fits roles is = absurd (none-some scan fits)
-
--- a flip-flop that is scanned in a domain has it for its clock's and takes its bits at its rises, its set and reset are held, and it names a
--- scan cell
-pub record PassesRules (domain : Option ℕ) (held scans : Bool) (its : ℕ) (falling : Bool) : Type 0 where
-  pub is_domain : domain ≡ Some its
-  pub rises : falling ≡ false
-  pub is_held : held ≡ true
-  pub is_scan : scans ≡ true
-
--- the number and the edge in a judgement
-scanned_in : (a b : ℕ) (f g : Bool) → Some (Scanned a f) ≡ Some (Scanned b g) → (a ≡ b) × (g ≡ f)
-scanned_in a b f g is = ((let e : a ≡ b = cc in e), (let e : g ≡ f = cc in e))
-
-pub passes : (domain : Option ℕ) (held scans kept : Bool) (its : ℕ) (falling : Bool) → judged_by domain held scans kept ≡ Some (Scanned its falling) → PassesRules domain held scans its falling
-passes None held scans kept its falling is = absurd cc
-passes (Some d) false scans kept its falling is = absurd cc
-passes (Some d) true false kept its falling is = absurd cc
-passes (Some d) true true true its falling is = absurd cc
-passes (Some d) true true false its falling is = (let e = scanned_in d its false falling is in record { is_domain = ap Some e.0; rises = e.1; is_held = refl; is_scan = refl })

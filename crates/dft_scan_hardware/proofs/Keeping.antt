@@ -24,7 +24,8 @@ use Rattle.dft_config.specs.Config.{Config}
 use Rattle.dft_rules.specs.declared.judged.Judged.{Judged}
 use Rattle.dft_rules.specs.declared.judged.Judged.TheVariants.{Scanned, Unscanned}
 use Rattle.dft_rules.specs.Refusals.{is_scanned}
-use Rattle.dft_rules.specs.Rules.{judged, judged_by, may_be_scanned, domain_of, are_held_at, is_kept, scan_cell_in, scan_cell_of}
+use Rattle.dft_rules.specs.Rules.{judged, judged_by, may_be_scanned, clocked_by, are_held_at, is_kept, scan_cell_in, scan_cell_of}
+use Rattle.dft_rules.proofs.ClockedFlops.{passes}
 use Rattle.dft_parts.specs.Parts.{Part}
 use Rattle.dft_parts.specs.Recipes.{nets_in}
 use Rattle.dft_parts.specs.MadeNames.{made_net}
@@ -35,7 +36,7 @@ use Rattle.dft_scan_frame.specs.Keeping.{IsJoinedNow, IsScanCellFor}
 use Rattle.dft_scan_frame.specs.Moves.{Gap, moved_signal, moved_instance, at_net, map_from}
 use Rattle.dft_scan_frame.specs.Statements.{IsReady}
 use Rattle.dft_scan_frame.specs.Pins.{number_of}
-use Rattle.dft_scan_frame.proofs.Pairs.{passes, shared_roles}
+use Rattle.dft_scan_frame.proofs.Pairs.{shared_roles}
 use Rattle.dft_scan_frame.proofs.ScanPairs.{ScanPair}
 use Rattle.dft_scan_frame.proofs.SoundParts.{pair_shared}
 use Rattle.dft_scan_frame.proofs.WholeNames.{length_ports}
@@ -321,14 +322,14 @@ module _ (style : Style) (n : Netlist) (config : Config) (ready : IsReady n conf
   )
 
 -- a scanned flip-flop names a scan cell
-scans_by : (n : Netlist) (config : Config) (i : ℕ) (b : Bool) → is_scanned (if b then judged_by (domain_of n config i) (are_held_at n config i) (is_some (scan_cell_of n i)) (is_kept n config.keep i) else None) ≡ true → is_some (scan_cell_of n i) ≡ true
+scans_by : (n : Netlist) (config : Config) (i : ℕ) (b : Bool) → is_scanned (if b then judged_by (clocked_by n config i) (are_held_at n config i) (is_some (scan_cell_of n i)) (is_kept n config.keep i) else None) ≡ true → is_some (scan_cell_of n i) ≡ true
 scans_by n config i false e = absurd cc
-scans_by n config i true e = scanned_passes (judged_by (domain_of n config i) (are_held_at n config i) (is_some (scan_cell_of n i)) (is_kept n config.keep i)) refl e
+scans_by n config i true e = scanned_passes (judged_by (clocked_by n config i) (are_held_at n config i) (is_some (scan_cell_of n i)) (is_kept n config.keep i)) refl e
   where
-    scanned_passes : (o : Option Judged) → judged_by (domain_of n config i) (are_held_at n config i) (is_some (scan_cell_of n i)) (is_kept n config.keep i) ≡ o → is_scanned o ≡ true → is_some (scan_cell_of n i) ≡ true
+    scanned_passes : (o : Option Judged) → judged_by (clocked_by n config i) (are_held_at n config i) (is_some (scan_cell_of n i)) (is_kept n config.keep i) ≡ o → is_scanned o ≡ true → is_some (scan_cell_of n i) ≡ true
     scanned_passes None is f = absurd cc
     scanned_passes (Some (Unscanned rule)) is f = absurd cc
-    scanned_passes (Some (Scanned its falling)) is f = (passes (domain_of n config i) (are_held_at n config i) (is_some (scan_cell_of n i)) (is_kept n config.keep i) its falling is).is_scan
+    scanned_passes (Some (Scanned its falling)) is f = (passes (clocked_by n config i) (are_held_at n config i) (is_some (scan_cell_of n i)) (is_kept n config.keep i) its falling is).is_scan
 
 pub scans_of : (n : Netlist) (config : Config) (i : ℕ) → is_scanned (judged n config i) ≡ true → is_some (scan_cell_of n i) ≡ true
 scans_of n config i on = scans_by n config i (may_be_scanned (kind_at n i)) on

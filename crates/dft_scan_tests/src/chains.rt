@@ -1,6 +1,9 @@
 //! How designs are judged, and their chains.
 
-use crate::designs::{CLOCK_AS_DATA, LOCKED, ON_BOTH, ON_ONE, ONE_CHAIN, QUOTED, ROW, SCANNED};
+use crate::designs::{
+    CLOCK_AS_DATA, INVERSE_AS_DATA, INVERTED, LOCKED, ON_BOTH, ON_ONE, ONE_CHAIN, ONE_INVERTED,
+    QUOTED, ROW, SCANNED,
+};
 use crate::plans::{Told, line_for};
 use dft_netlist::InstanceId;
 use dft_stitch::Chains;
@@ -60,7 +63,7 @@ fn push_lockups(alloc: Global, line: &mut String, chains: &Chains) -> Result<(),
 }
 
 // A netlist, the configuration in two parts, and what is told of them.
-static LINES: [(&str, &str, &str, &str); 8] = [
+static LINES: [(&str, &str, &str, &str); 11] = [
     (
         ROW,
         ON_BOTH,
@@ -84,6 +87,19 @@ static LINES: [(&str, &str, &str, &str); 8] = [
     (LOCKED, ON_ONE, ONE_CHAIN, "G5 l"),
     (CLOCK_AS_DATA, ON_ONE, ONE_CHAIN, "G1 ca"),
     (QUOTED, ON_ONE, ONE_CHAIN, "G7 a\"b"),
+    (INVERSE_AS_DATA, ON_ONE, ONE_CHAIN, "G1 k"),
+    (
+        INVERTED,
+        ON_BOTH,
+        ONE_CHAIN,
+        "0.0 0.2 0.1 0.3 0 falls high lockup 0.1 on 0 cycles 4",
+    ),
+    (
+        ONE_INVERTED,
+        ON_BOTH,
+        ONE_CHAIN,
+        "0.1 0.2 0.0 0.3 0 falls lockup 0.1 on 0 cycles 4",
+    ),
 ];
 
 fn told_as(alloc: Global, netlist: &str, config: (&str, &str)) -> Result<String, AllocError> {

@@ -14,6 +14,21 @@ pub const GATED: &str =
 pub const ONE: &str =
     "module s (ca, d, q); input ca, d; output q; DFF f0 (.CK(ca), .D(d), .Q(n0)); DFF f1 (.CK(ca), .D(n0), .Q(n1)); DFF f2 (.CK(ca), .D(n1), .Q(n2)); DFF f3 (.CK(ca), .D(n2), .Q(q)); endmodule";
 
+pub const SINGLE: &str =
+    "module s (ca, d, q); input ca, d; output q; DFF f0 (.CK(ca), .D(d), .Q(q)); endmodule";
+
+/// The first, each clock through an inverter.
+pub const INVERTED: &str =
+    "module s (ca, cb, d, q); input ca, cb, d; output q; DFF f0 (.CK(na), .D(d), .Q(n0)); DFF f1 (.CK(nb), .D(n0), .Q(n1)); DFF f2 (.CK(na), .D(n1), .Q(n2)); DFF f3 (.CK(nb), .D(n2), .Q(q)); INV u (.A(ca), .Y(na)); not v (nb, cb); endmodule";
+
+/// The first, where the third flip-flop has the inverse of its clock.
+pub const ONE_INVERTED: &str =
+    "module s (ca, cb, d, q); input ca, cb, d; output q; DFF f0 (.CK(ca), .D(d), .Q(n0)); DFF f1 (.CK(cb), .D(n0), .Q(n1)); DFF f2 (.CK(na), .D(n1), .Q(n2)); DFF f3 (.CK(cb), .D(n2), .Q(q)); INV u (.A(ca), .Y(na)); endmodule";
+
+/// The inverse of a clock stands before a gate that is no inverter.
+pub const INVERSE_AS_DATA: &str =
+    "module s (ca, d, q); input ca, d; output q; not u (k, ca); nand g (n, k); DFF f (.CK(k), .D(n), .Q(q)); endmodule";
+
 pub const PAIR: &str =
     "module s (ca, d, q); input ca, d; output q; DFF f0 (.CK(ca), .D(d), .Q(n0)); DFF f1 (.CK(ca), .D(n0), .Q(q)); endmodule";
 

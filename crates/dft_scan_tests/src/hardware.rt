@@ -87,6 +87,70 @@ buf dft_i18 (edt_out0, dft_n18);
 endmodule
 ";
 
+// The same two on the inverses of their clocks.
+const FALLING_PAIR: &str =
+    "module s (ca, cb, d); input ca, cb, d; not u (ka, ca); not v (kb, cb); DFF f0 (.CK(ka), .D(d)); DFF f1 (.CK(kb), .D(d), .Q(n)); endmodule";
+
+// The phase sum drives the first scan input, and the lock-up is clocked by a `not` of its domain's port.
+const FALLING_MADE: &str =
+    "module s (ca, cb, d, scan_enable, edt_clock, edt_update, edt_in0, edt_mask0, edt_out0);
+input ca;
+input cb;
+input d;
+input scan_enable;
+input edt_clock;
+input edt_update;
+input edt_in0;
+input edt_mask0;
+output edt_out0;
+wire ka;
+wire kb;
+wire n;
+wire dft_n0;
+wire dft_n1;
+wire dft_n2;
+wire dft_n3;
+wire dft_n4;
+wire dft_n5;
+wire dft_n6;
+wire dft_n7;
+wire dft_n8;
+wire dft_n9;
+wire dft_n10;
+wire dft_n11;
+wire dft_n12;
+wire dft_n13;
+wire dft_n14;
+wire dft_n15;
+wire dft_n16;
+wire dft_n17;
+wire dft_n18;
+not u (ka, ca);
+not v (kb, cb);
+SDFF f0 (.CK(ka), .D(d), .SI(dft_n9), .SE(scan_enable), .Q(dft_n0));
+SDFF f1 (.CK(kb), .D(d), .SI(dft_n11), .SE(scan_enable), .Q(n));
+not dft_i0 (dft_n1, edt_update);
+xor dft_i1 (dft_n4, dft_n3, dft_n3);
+xor dft_i2 (dft_n5, dft_n4, dft_n2);
+and dft_i3 (dft_n6, dft_n5, dft_n1);
+DFF dft_i4 (.CK(edt_clock), .D(dft_n6), .Q(dft_n2));
+xor dft_i5 (dft_n7, dft_n2, edt_in0);
+and dft_i6 (dft_n8, dft_n7, dft_n1);
+DFF dft_i7 (.CK(edt_clock), .D(dft_n8), .Q(dft_n3));
+xor dft_i8 (dft_n9, dft_n2, dft_n3);
+not dft_i9 (dft_n10, ca);
+LOCKUP dft_i10 (.CK(dft_n10), .D(dft_n0), .Q(dft_n11));
+DFF dft_i11 (.CK(edt_clock), .D(edt_mask0), .Q(dft_n12));
+and dft_i12 (dft_n14, edt_update, dft_n12);
+and dft_i13 (dft_n15, dft_n1, dft_n13);
+or dft_i14 (dft_n16, dft_n14, dft_n15);
+DFF dft_i15 (.CK(edt_clock), .D(dft_n16), .Q(dft_n13));
+not dft_i16 (dft_n17, dft_n13);
+and dft_i17 (dft_n18, dft_n17, n);
+buf dft_i18 (edt_out0, dft_n18);
+endmodule
+";
+
 const PAIR_PLAIN: &str = "module s (ca, cb, d, scan_enable, scan_in0, scan_out0);
 input ca;
 input cb;
@@ -250,9 +314,10 @@ pub(crate) fn written(alloc: Global, design: &Design) -> Result<String, AllocErr
 }
 
 // A netlist, a configuration, and what is made of them in style Edt.
-static MADE: [(&str, &str, &str); 6] = [
+static MADE: [(&str, &str, &str); 7] = [
     (FIVE, FOUR_STAGES, FIVE_COMPILED),
     (PAIR, TWO_STAGES, PAIR_MADE),
+    (FALLING_PAIR, TWO_STAGES, FALLING_MADE),
     (THREE, ONE_SEGMENT, THREE_MADE),
     (NET_TAKEN, FOUR_STAGES, "G6 dft_n9"),
     (GATE_TAKEN, FOUR_STAGES, "G6 dft_i28"),

@@ -1,5 +1,6 @@
 //! Netlists with much hardware: the widest ring with the most channels, and a limit that is met in the last part that is made.
 
+use crate::designs::SINGLE;
 use crate::hardware::FOUR_STAGES;
 use crate::plans::{Told, line_for};
 use std::alloc::{AllocError, Global};
@@ -60,6 +61,32 @@ fn push_group(alloc: Global, text: &mut String) -> Result<(), AllocError> {
         text.push_str(&format!(in alloc; "{chain}, ")?)?;
     }
     text.push_str("]]\n")
+}
+
+// One chain behind 32 channels, whose loads have so many cycles before the first cell's.
+pub(crate) fn many_channels(alloc: Global, warm: u32) -> Result<String, AllocError> {
+    let mut text = format!(in alloc;
+        "version = 1\ndomains = ['ca']\nchains = 1\nwarm = {warm}\nwindow = 1\n[ring]\nstages = 32\nchannels = 32\ntaps = []\ninjectors = ["
+    )?;
+    for channel in 0..32u32 {
+        text.push_str(&format!(in alloc; "[{channel}, {channel}], ")?)?;
+    }
+    text.push_str("]\nphase = [[0]]\n[compactor]\nmask_inputs = 1\ngroups = [[0]]\n")?;
+    Ok(text)
+}
+
+fn told_of_channels(alloc: Global) -> Result<String, AllocError> {
+    let config = many_channels(alloc, 511)?;
+    line_for(alloc, SINGLE, config.as_str(), Told::Count)
+}
+
+// 512 cycles of 32 channels have 16,384 variables. The ring has a gate before all, and a gate and a flip-flop for each stage, and a sum for
+// each injector; the chain has a lock-up, its flip-flop, five instances of masks and two gates, and the output is a buffer.
+#[test]
+fn variables_keep_the_limit(rt: HostRuntime) -> Result<(), Fail> {
+    let told = told_of_channels(rt.alloc())?;
+    assert_eq!(rt; told.as_str(), "107 instances");
+    Ok(())
 }
 
 // The ring has a gate and a flip-flop for each stage, a sum for each tap and injector, and one gate before all; two sums, a lock-up,

@@ -10,6 +10,8 @@ mod designs;
 #[cfg(test)]
 mod edges;
 #[cfg(test)]
+mod falling;
+#[cfg(test)]
 mod hardware;
 #[cfg(test)]
 mod large;

@@ -2,13 +2,14 @@
 
 use crate::designs::{
     CLASHING, CLOCK_AS_DATA, GATED, LATE_CHAIN, LOCKED, ON_BOTH, ON_ONE, ONE, ONE_CHAIN, PAIR,
-    QUOTED, RESET, ROW, SCANNED, THREE_CHAINS,
+    QUOTED, RESET, ROW, SCANNED, SINGLE, THREE_CHAINS,
 };
+use crate::large::many_channels;
 use crate::replays::{LIBRARY, OWN_CELL, REPLAY, replays};
-use dft_files::{Failing, MemoryFiles};
+use dft_files::{Failing, Files, MemoryFiles, SaveError};
 use dft_test_support::{Unlike, holds, patterns, prints, ran, shelf};
 use dft_top::Status;
-use std::alloc::Global;
+use std::alloc::{AllocError, Global};
 use std::test::Fail;
 
 // Scans the netlist `n` under the configuration `c`.
@@ -29,7 +30,7 @@ const REPORT: &str =
     "edt report 1\ncells 4 chains 1\nchain 0 length 4\nscanned f0 ca chain 0 place 0\nscanned f2 ca chain 0 place 1\nscanned f1 cb chain 0 place 2\nscanned f3 cb chain 0 place 3\n";
 
 // A netlist, the configuration in two parts, the printed line, and the report, or a stroke where none is saved.
-static SCANS: [(&str, &str, &str, &str, &str); 19] = [
+static SCANS: [(&str, &str, &str, &str, &str); 21] = [
     (
         ROW,
         ON_BOTH,
@@ -94,6 +95,14 @@ static SCANS: [(&str, &str, &str, &str, &str); 19] = [
     ),
     (QUOTED, ON_ONE, ONE_CHAIN, "refused G7 a\"b\n", "-"),
     (ONE, ON_ONE, LATE_CHAIN, "refused N4 cycles 4096\n", "-"),
+    (PAIR, ON_ONE, LATE_CHAIN, "refused N4 cycles 4096\n", "-"),
+    (
+        SINGLE,
+        ON_ONE,
+        LATE_CHAIN,
+        "scanned cells 1 unscanned 0 chains 1 lockups 0\n",
+        SINGLE_REPORT,
+    ),
     ("module", "[", "", "refused C1\n", "-"),
     ("module", "", ONE_CHAIN, "refused C2 version\n", "-"),
     (
@@ -136,6 +145,49 @@ fn status_of(line: &str) -> Status {
     } else {
         Status::Refused
     }
+}
+
+// A configuration of so many bytes, blank behind its text.
+fn long_config(alloc: Global, length: usize) -> Result<Vec<u8>, AllocError> {
+    let mut config = String::from_str(alloc, ON_ONE)?;
+    config.push_str(ONE_CHAIN)?;
+    let mut text = vec![in alloc; b' '; length]?;
+    for (place, byte) in config.as_bytes().iter().enumerate() {
+        if place < text.len() {
+            text[place] = *byte;
+        }
+    }
+    Ok(text)
+}
+
+// Whether a scan under it prints this line, and has this report.
+fn long_is_told(alloc: Global, length: usize, line: &str, report: &str) -> Result<(), Unlike> {
+    let mut files = shelf(alloc, &[("n", SINGLE, "")], None)?;
+    let text = long_config(alloc, length)?;
+    if let Err(SaveError::Memory(error)) = files.save(alloc, "c", &text) {
+        return Err(error.into());
+    }
+    tells(alloc, &mut files, SCAN, line, report)
+}
+
+const SINGLE_REPORT: &str =
+    "edt report 1\ncells 1 chains 1\nchain 0 length 1\nscanned f0 ca chain 0 place 0\n";
+
+#[test]
+fn a_configuration_has_no_more_bytes_than_its_limit(rt: HostRuntime) -> Result<(), Fail> {
+    let done = "scanned cells 1 unscanned 0 chains 1 lockups 0\n";
+    long_is_told(rt.alloc(), 67_108_864, done, SINGLE_REPORT)?;
+    long_is_told(rt.alloc(), 67_108_865, "refused F1 config\n", "-")?;
+    Ok(())
+}
+
+// One cycle more than has 16,384 variables.
+#[test]
+fn a_load_has_no_more_variables_than_its_limit(rt: HostRuntime) -> Result<(), Fail> {
+    let config = many_channels(rt.alloc(), 512)?;
+    let line = "refused N4 variables 16384\n";
+    is_told(rt.alloc(), SINGLE, (config.as_str(), ""), line, "-")?;
+    Ok(())
 }
 
 #[test]

@@ -1,28 +1,23 @@
 -- Each scanned cell stands at one place.
-use Rattle.std.proofs.Common.{◌≡◌, ℕ, zero, suc, ◌+◌, ◌*◌, ◌<◌, ◌≤◌, ◌==◌, Bool, true, false, cond, List, [], ◌∷◌, ◌++◌, length, get_or, flat_map, Option, None, Some, option_and_then, slice_get, refl, sym, ◌∙◌, ap, subst, arith, ◌⊎◌, inl, inr}
-use Rattle.std.specs.Prelude.{nat_lt, is_some}
-use Rattle.std.specs.List.{filter_map, cons_option, position_or_len, range_with_len}
+use Rattle.std.proofs.Common.{◌≡◌, ℕ, zero, suc, ◌+◌, ◌*◌, ◌<◌, ◌≤◌, ◌==◌, Bool, true, false, cond, List, [], ◌∷◌, ◌++◌, length, get_or, flat_map, Option, None, Some, slice_get, refl, sym, ◌∙◌, ap, subst, arith, ◌⊎◌, inl, inr}
+use Rattle.std.specs.Prelude.{is_some}
+use Rattle.std.specs.List.{filter_map, cons_option, range_with_len}
 use Rattle.std.proofs.lemmas.Bool.{cases_eq, eqb-true}
-use Rattle.std.proofs.lemmas.Bool.Decides.{nat_tests}
 use Rattle.std.proofs.lemmas.List.{get_or_past}
 use Rattle.std.proofs.lemmas.Option.{same_Some, slice_get_within, slice_get_past}
 use Rattle.std.proofs.lemmas.List.FromFn.{get_or-map-range_with_len, length-map-range_with_len}
-use Rattle.dft_base.specs.Lexing.{Text}
 use Rattle.dft_base.proofs.NumberLemmas.{same_number}
 use Rattle.dft_base.proofs.ListLemmas.{get_left, get_right}
-use Rattle.dft_cells.specs.declared.kind.Role.TheVariants.{Clock}
 use Rattle.dft_netlist.specs.declared.ids.InstanceId.{InstanceId}
 use Rattle.dft_netlist.specs.declared.instance.Instance.{Instance}
 use Rattle.dft_netlist.specs.Netlist.{Netlist}
-use Rattle.dft_netlist.specs.Drivers.{Source, pins_of, kind_of, kind_at}
-use Rattle.dft_netlist.specs.Logic.{pin_of}
-use Rattle.dft_netlist.specs.Traces.{Root, Port, Constant, Other, root_of}
+use Rattle.dft_netlist.specs.Drivers.{kind_of, kind_at}
 use Rattle.dft_netlist.proofs.LiveLemmas.{le_or_lt}
 use Rattle.dft_config.specs.Config.{Config}
 use Rattle.dft_rules.specs.declared.judged.Judged.{Judged}
 use Rattle.dft_rules.specs.declared.judged.Judged.TheVariants.{Scanned, Unscanned}
-use Rattle.dft_netlist.specs.Connections.{input_net}
-use Rattle.dft_rules.specs.Rules.{judged, judged_by, judgements, place_of_root, place_of_source, may_be_scanned, is_net, domain_of as clock_domain, are_held_at, scan_cell_of, is_kept}
+use Rattle.dft_rules.specs.Rules.{judged, judged_by, judgements, may_be_scanned, clocked_by, are_held_at, scan_cell_of, is_kept}
+use Rattle.dft_rules.proofs.ClockedFlops.{IsClocked, clocked, verdict_passes}
 use Rattle.dft_stitch.specs.declared.places.CellClock.{CellClock}
 use Rattle.dft_stitch.specs.Chains.{cell_in, cells_in, cells_of, chains_of, clock_of, clock_in, group_of, if_group}
 use Rattle.dft_stitch.specs.Laws.{CellsAreScanned, CellsStandOnce}
@@ -220,36 +215,15 @@ group_within domains domain false less = omega arith
 
 -- ---- a scanned flip-flop has a domain of the configuration
 
-pub scanned_in : (t : Bool) (domain : Option ℕ) (held scans kept : Bool) (d : ℕ) (f : Bool) → cond t (judged_by domain held scans kept) None ≡ Some (Scanned d f) → domain ≡ Some d
-scanned_in false domain held scans kept d f h = absurd (let e : ⊥ = cc in e)
-scanned_in true None held scans kept d f h = absurd (let e : ⊥ = cc in e)
-scanned_in true (Some other) false scans kept d f h = absurd (let e : ⊥ = cc in e)
-scanned_in true (Some other) true false kept d f h = absurd (let e : ⊥ = cc in e)
-scanned_in true (Some other) true true true d f h = absurd (let e : ⊥ = cc in e)
-scanned_in true (Some other) true true false d f h = cc
-
-pub within_names : (t : Bool) (p count d : ℕ) → nat_lt p count ≡ t → cond t (Some p) None ≡ Some d → d < count
-within_names true p count d is h = let e : p ≡ d = cc in grind (arith, nat_tests)
-within_names false p count d is h = absurd (let f : ⊥ = cc in f)
-
-pub root_within_names : (n : Netlist) (names : List Text) (root : Root) (d : ℕ) → place_of_root n names root ≡ Some d → d < length names
-root_within_names n names (Port net) d h = within_names (nat_lt (position_or_len (λ name. is_net net (input_net n name)) names) (length names)) (position_or_len (λ name. is_net net (input_net n name)) names) (length names) d refl h
-root_within_names n names (Constant bit) d h = absurd (let f : ⊥ = cc in f)
-root_within_names n names Other d h = absurd (let f : ⊥ = cc in f)
-
-pub source_within_names : (n : Netlist) (names : List Text) (o : Option Source) (d : ℕ) → option_and_then (place_of_source n names) o ≡ Some d → d < length names
-source_within_names n names None d h = absurd (let f : ⊥ = cc in f)
-source_within_names n names (Some source) d h = root_within_names n names (root_of n source) d h
-
 pub domain_within : (n : Netlist) (config : Config) (i d : ℕ) (f : Bool) → judged n config i ≡ Some (Scanned d f) → d < length config.domains
 domain_within n config i d f h =
-    source_within_names n config.domains (pin_of Clock i (pins_of n i)) d
-    (scanned_in (may_be_scanned (kind_at n i)) (clock_domain n config i) (are_held_at n config i) (is_some (scan_cell_of n i)) (is_kept n config.keep i) d f h)
+    let clock : IsClocked n config i d f = clocked n config i d f (verdict_passes n config i d f h).passed.is_clock in
+    slice_get_within config.domains d clock.name clock.named
 
 no_instance : (n : Netlist) (config : Config) (i d : ℕ) (f : Bool) → slice_get n.instances i ≡ None → judged n config i ≡ Some (Scanned d f) → ⊥
 no_instance n config i d f none h =
     let opaque : may_be_scanned (kind_at n i) ≡ false = ap (λ (o : Option Instance). may_be_scanned (kind_of n.library o)) none in
-    let not : judged n config i ≡ None = ap (λ (t : Bool). cond t (judged_by (clock_domain n config i) (are_held_at n config i) (is_some (scan_cell_of n i)) (is_kept n config.keep i)) None) opaque in
+    let not : judged n config i ≡ None = ap (λ (t : Bool). cond t (judged_by (clocked_by n config i) (are_held_at n config i) (is_some (scan_cell_of n i)) (is_kept n config.keep i)) None) opaque in
     let e : ⊥ = cc in e
 
 instance_there : (n : Netlist) (config : Config) (i d : ℕ) (f : Bool) → judged n config i ≡ Some (Scanned d f) → i < length n.instances

@@ -1,8 +1,10 @@
 -- The chains of a netlist with two clocks, worked by hand.
 use Rattle.std.proofs.Common.{◌≡◌, ℕ, Bool, true, false, List, [], ◌∷◌, Option, Some, None, refl}
+use Rattle.dft_cells.specs.declared.kind.Kind.TheVariants.{Inv}
 use Rattle.dft_netlist.specs.declared.ids.InstanceId.{InstanceId}
 use Rattle.dft_rules.specs.declared.judged.Judged.{Judged}
 use Rattle.dft_rules.specs.declared.judged.Judged.TheVariants.{Scanned}
+use Rattle.dft_rules.proofs.WorkedEdges.{turned}
 use Rattle.dft_rules.proofs.WorkedRules.{example, example_config, two_clocks}
 use Rattle.dft_stitch.specs.declared.places.LockupPlace.{LockupPlace}
 use Rattle.dft_stitch.specs.Chains.{plan_for, plan_of, scanned_cells}
@@ -42,6 +44,16 @@ behind_a_gate = refl
 
 within_limits : refusal (example 1) (example_config two_clocks [] 1) ≡ None
 within_limits = refl
+
+-- ---- both edges
+
+-- each clock through an inverter: the order is that of the domains, and the lock-up on `ca` is high
+inverted_chain : plan_of (turned Inv 8 9 8 9) (example_config two_clocks [] 1) ≡ record { chains = (cell 0 ∷ cell 2 ∷ cell 1 ∷ cell 3 ∷ []) ∷ []; heads = true ∷ []; lockups = high 0 1 0 ∷ []; cycles = 4 }
+inverted_chain = refl
+
+-- one flip-flop on the inverse of `ca`: it is the first, and between it and the rising cell behind it stands no lock-up
+one_inverted : plan_of (turned Inv 0 1 8 1) (example_config two_clocks [] 1) ≡ record { chains = (cell 2 ∷ cell 0 ∷ cell 1 ∷ cell 3 ∷ []) ∷ []; heads = true ∷ []; lockups = low 0 1 0 ∷ []; cycles = 4 }
+one_inverted = refl
 
 -- ---- both edges, over verdicts written by hand
 

@@ -77,8 +77,8 @@ fn group_of(domains: u8, clock: CellClock) -> u16
     }
 }
 
-// The clock of a cell, where it is scanned.
-pub(crate) fn clock_of(verdicts: &Verdicts, cell: InstanceId) -> Option<CellClock>
+/// The clock of a cell, where it is scanned.
+pub fn clock_of(verdicts: &Verdicts, cell: InstanceId) -> Option<CellClock>
     ensures { result ≡ spec.clock_of verdicts.now cell }
 {
     match verdicts.of(cell) {

@@ -16,7 +16,7 @@ mod table;
 
 pub use cells::Cells;
 pub use chains::Chains;
-pub use cutting::domain_of;
+pub use cutting::{clock_of, domain_of};
 pub use error::{Counted, StitchError};
 pub use laws::{
     cells_are_scanned, cells_stand_once, chains_are_even, chains_fit_loads, chains_hold_cells,

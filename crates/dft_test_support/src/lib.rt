@@ -11,6 +11,6 @@ pub use pattern_texts::patterns;
 pub use runs::{Ended, prints, ran};
 pub use shelves::{holds, shelf};
 pub use small_case::{
-    COLD, COLD_HEAD, FIVE, FIVE_COMPILED, PAIR, PARTED, PARTED_TOLD, WARM, WARM_HEAD,
+    COLD, COLD_HEAD, FIRST_FALLS, FIVE, FIVE_COMPILED, PAIR, PARTED, PARTED_TOLD, WARM, WARM_HEAD,
 };
 pub use unlike::Unlike;

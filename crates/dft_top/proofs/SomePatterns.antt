@@ -1,22 +1,18 @@
 -- A placement of cubes has patterns: channel bits that the fill rule chooses, and what the design captures from them.
-use Rattle.std.proofs.Common.{ℕ, zero, suc, ◌+◌, ◌≡◌, ◌∙◌, ◌⊎◌, inl, inr, Bool, List, [], ◌∷◌, map, None, Some, refl, sym, subst, arith}
+use Rattle.std.proofs.Common.{ℕ, zero, suc, ◌+◌, ◌≡◌, ◌∙◌, ◌⊎◌, inl, inr, List, [], ◌∷◌, map, None, Some, refl, sym, subst, arith}
 use Rattle.std.specs.Prelude.{slice_get}
 use Rattle.std.proofs.lemmas.Option.{none-some, same_Some}
 use Rattle.dft_base.specs.Solutions.{bit_at}
-use Rattle.dft_abstract.proofs.Views.{strobe_exists}
 use Rattle.dft_netlist.specs.Drivers.{IsOrdered}
 use Rattle.dft_netlist.specs.Netlist.{Netlist}
-use Rattle.dft_netlist.specs.declared.ids.InstanceId.{InstanceId}
-use Rattle.dft_netlist.proofs.Ranks.{order_is_rank}
 use Rattle.dft_config.specs.Config.{Config}
 use Rattle.dft_equations.specs.LoadRows.{LoadRows}
 use Rattle.dft_stitch.specs.Chains.{plan_of}
 use Rattle.dft_stitch.specs.Plans.{Plan, falling_head}
 use Rattle.dft_cubes.specs.declared.cube.Cube.{Cube}
 use Rattle.dft_cubes.specs.declared.cube.Merged.{Merged}
-use Rattle.dft_expect.specs.declared.response.Response.{Response}
-use Rattle.dft_expect.specs.Captures.{IsCapture, capture_vector, captured_value, config_ports, original, output_bits}
-use Rattle.dft_expect.specs.Loaded.{all_cells, loaded_of, loaded_values, table_of}
+use Rattle.dft_expect.specs.Loaded.{loaded_of, table_of}
+use Rattle.dft_expect.proofs.CaptureLemmas.{some_capture}
 use Rattle.dft_expect.specs.Masks.{always_of, by_chain, masks_of}
 use Rattle.dft_merge.specs.declared.placed.Placed.{Placed}
 use Rattle.dft_merge.specs.declared.placed.Placed.TheVariants.{Into, Skipped, Unsolvable}
@@ -27,7 +23,7 @@ use Rattle.dft_merge.specs.Slots.{AreLoadable, IsLoadable}
 use Rattle.dft_merge.proofs.EquationLemmas.{solves_loads}
 use Rattle.dft_merge.proofs.SlotLemmas.{loadable_joined, loadable_push, loadable_set}
 use Rattle.dft_vectors.specs.PatternData.{PatternData}
-use Rattle.dft_encode.specs.Compiled.{ArePatterns, IsPattern, Placing, merged_of}
+use Rattle.dft_encode.specs.Compiled.{IsPattern, merged_of}
 use Rattle.dft_top.specs.Laws.{PlacementsHavePatterns}
 use Rattle.dft_top.proofs.SomeChoice.{some_choice}
 
@@ -53,21 +49,12 @@ all_loadable n row window old new (cube ∷ cubes) (p ∷ placed) all places = a
 
 -- ---- a pattern
 
-capture_some : (n : Netlist) (rank : ℕ → ℕ) (config : Config) (chains : List (List InstanceId)) (merged : Merged) (loaded : List Bool) → IsOrdered n rank → (r : Response) × IsCapture n config chains merged loaded r
-capture_some n rank config chains merged loaded ordered =
-    let found = strobe_exists (original n config) rank (capture_vector n config merged) (loaded_values chains loaded) (order_is_rank n (config_ports n config) rank ordered) in
-    let r : Response = record {
-      cells = map (λ cell. captured_value n config chains merged loaded found.0 cell.0) (all_cells chains);
-      outputs = map (λ net. found.0 net.0) (output_bits n.ports);
-    } in
-    (r, record { values = found.0; settled = found.1; cells = refl; outputs = refl })
-
 pattern_some : (n : Netlist) (rank : ℕ → ℕ) (config : Config) (plan : Plan) (rows : LoadRows) (number : ℕ) (merged : Merged) → IsOrdered n rank → IsLoadable rows.columns (cell_row plan.chains rows) merged →
     (p : PatternData) × (p.merged ≡ merged) × IsPattern n config plan rows number p
 pattern_some n rank config plan rows number merged ordered loadable =
     let row = cell_row plan.chains rows in
     let chosen = some_choice rows.columns (equations_of row merged.cells) (fill_of config.fill number rows.columns) loadable.solvable in
-    let captured = capture_some n rank config plan.chains merged (loaded_of config.ring (table_of config.ring (bit_at chosen.bits)) plan.cycles (falling_head plan) plan.chains) ordered in
+    let captured = some_capture n rank config plan.chains merged (loaded_of config.ring (table_of config.ring (bit_at chosen.bits)) plan.cycles (falling_head plan) plan.chains) ordered in
     let p : PatternData = record { merged = merged; bits = chosen.bits; masks = masks_of (always_of config) (by_chain plan.chains captured.0.cells); response = captured.0 } in
     (p, refl, record { bits = chosen.is; loads = solves_loads rows.columns row (bit_at chosen.bits) merged.cells chosen.solves; captured = captured.1; masks = refl })
 

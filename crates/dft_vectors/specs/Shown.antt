@@ -6,6 +6,7 @@ use Rattle.dft_vectors.specs.declared.layout.Layout.{Layout}
 use Rattle.dft_vectors.specs.declared.listing.VectorList.TheInside.{Inside}
 use Rattle.dft_config.specs.Config.{Config}
 use Rattle.dft_config.specs.Ring.{Table}
+use Rattle.dft_stitch.specs.Chains.{plan_of}
 use Rattle.dft_stitch.specs.Plans.{Plan, falling_head}
 use Rattle.dft_expect.specs.Expected.{expected_of}
 use Rattle.dft_expect.specs.Masks.{by_chain}
@@ -15,16 +16,20 @@ use Rattle.dft_vectors.specs.OwnPorts.{expect, ignored}
 use Rattle.dft_vectors.specs.Segments.{segments_of}
 use Rattle.dft_vectors.specs.Tables.{AreOwn}
 
+-- the chains of the planned design
+abbrev pub plan_in : Layout → Plan
+plan_in l = plan_of l.planned.now.design l.planned.now.config
+
 -- what vectors are made from was looked up of this design and configuration
 pub record IsLayout (l : Layout) : Type 0 where
-  pub range : IsInRange l.config.now
-  pub own : AreOwn l.design.now l.config.now l.own
-  pub segments : l.segments.items ≡ segments_of l.config.now
-  pub chains : length l.chains.now.chains ≡ l.config.now.chains
-  pub cycles : l.chains.now.cycles ≤ 4096
+  pub range : IsInRange l.planned.now.config
+  pub own : AreOwn l.planned.now.design l.planned.now.config l.own
+  pub segments : l.segments.items ≡ segments_of l.planned.now.config
+  pub chains : length (plan_in l).chains ≡ l.planned.now.config.chains
+  pub cycles : (plan_in l).cycles ≤ 4096
 
 abbrev pub listing_of : Inside → Listing
-listing_of l = record { design = l.layout.design.now; config = l.layout.config.now; plan = l.layout.chains.now; vectors = l.vectors.items; count = l.count }
+listing_of l = record { design = l.layout.planned.now.design; config = l.layout.planned.now.config; plan = plan_in l.layout; vectors = l.vectors.items; count = l.count }
 
 pub record IsVectorList (l : Inside) : Type 0 where
   pub layout : IsLayout l.layout

@@ -5,6 +5,7 @@ ghost use Rattle.dft_vectors.specs.Listing.{Lists};
 ghost use Rattle.dft_vectors.specs.ListSteps.{begun_by, ended_by};
 ghost use Rattle.dft_base.specs.Packed.{packed_bit};
 ghost use Rattle.dft_lanes.specs.Rows.{words_for};
+ghost use Rattle.dft_stitch.specs.Chains.{plan_of};
 ghost use Rattle.dft_expect.specs.Loaded.{table_of};
 ghost use Rattle.dft_vectors.specs.PatternData.{Fits, PatternData, columns_of, data_of, data_if_any};
 ghost use Rattle.dft_vectors.specs.VectorList as spec;
@@ -14,14 +15,13 @@ use crate::loads::{add_load, no_bits};
 use crate::notes::notes_of;
 use crate::pattern::Pattern;
 use crate::signals::signals_of;
-use dft_config::Config;
 use dft_netlist::Design;
 use dft_patterns::{Acts, PatternSet};
-use dft_stitch::Chains;
+use dft_stitch::Planned;
 use std::alloc::{AllocError, Global};
 use std::marker::Model;
 
-/// The vectors of patterns of a design behind compression hardware (Rajski and others, 2004), pattern after pattern. A clause sees
+/// The vectors of patterns of a planned design behind compression hardware (Rajski and others, 2004), pattern after pattern. A clause sees
 /// the design, the configuration, the chains, the vectors so far and how many patterns they are of.
 #[derive(Drop)]
 pub struct VectorList<'a> {
@@ -44,18 +44,12 @@ impl<'a> Model for VectorList<'a> {
 
 impl<'a> VectorList<'a> {
     /// No vector yet.
-    pub fn new(
-        alloc: Global,
-        design: &'a Design,
-        config: &'a Config,
-        chains: &'a Chains,
-    ) -> Result<VectorList<'a>, AllocError>
-        requires chains { length chains.now.chains ≡ config.now.chains }
-        requires cycles { chains.now.cycles ≤ 4096 }
-        ensures { IfOk result (λ list. list ≡ record { design = design.entry.now; config = config.entry.now; plan = chains.entry.now; vectors = []; count = 0 }) }
+    pub fn new(alloc: Global, planned: &'a Planned<'a>) -> Result<VectorList<'a>, AllocError>
+        ensures { IfOk result (λ list. list ≡ record { design = planned.entry.now.design; config = planned.entry.now.config; plan = plan_of planned.entry.now.design planned.entry.now.config; vectors = []; count = 0 }) }
     {
+        let layout = look_up(alloc, planned)?;
         Ok(VectorList {
-            layout: look_up(alloc, design, config, chains)?,
+            layout,
             vectors: Vec::new(alloc),
             count: 0,
         })
@@ -162,7 +156,7 @@ impl<'a> VectorList<'a> {
         self.unload(last)?;
         let alloc = self.layout.alloc;
         let signals = signals_of(alloc, written)?;
-        let notes = notes_of(alloc, self.layout.chains.cycles(), self.count)?;
+        let notes = notes_of(alloc, self.layout.planned.chains().cycles(), self.count)?;
         Ok(PatternSet::noted(signals, self.vectors, notes))
     }
 }

@@ -7,7 +7,7 @@ ghost use Rattle.dft_lanes.specs.Rows.{words_for};
 ghost use Rattle.dft_expect.specs.Loaded.{table_of};
 ghost use Rattle.dft_vectors.specs.OwnPorts as own;
 ghost use Rattle.dft_vectors.specs.PatternData.{Fits, columns_of, data_of, data_if_any};
-ghost use Rattle.dft_vectors.specs.Shown.{IsLayout, shown_at};
+ghost use Rattle.dft_vectors.specs.Shown.{IsLayout, plan_in, shown_at};
 ghost use Rattle.dft_vectors.specs.VectorList as spec;
 
 use crate::acts::{push_expected, push_ignored};
@@ -45,13 +45,13 @@ fn push_inputs(
     cycle: usize,
 ) -> Result<(), AllocError>
     requires layout { IsLayout layout.now }
-    requires cycle { cycle < layout.now.chains.now.cycles }
-    requires bits { layout.now.chains.now.cycles * layout.now.config.now.ring.channels ≤ 64 * length bits.now }
+    requires cycle { cycle < (plan_in layout.now).cycles }
+    requires bits { (plan_in layout.now).cycles * layout.now.planned.now.config.ring.channels ≤ 64 * length bits.now }
     ensures { OnOk result (acts.new.items ≡ acts.old.items
-        ++ spec.shift_inputs layout.now.design.now layout.now.config.now layout.now.chains.now (table_of layout.now.config.now.ring (packed_bit bits.now)) masks.now cycle) }
+        ++ spec.shift_inputs layout.now.planned.now.design layout.now.planned.now.config (plan_in layout.now) (table_of layout.now.planned.now.config.ring (packed_bit bits.now)) masks.now cycle) }
 {
-    let channels = layout.config.ring().channels;
-    let place = usize::from(layout.chains.cycles()) - (cycle + 1);
+    let channels = layout.planned.config().ring().channels;
+    let place = usize::from(layout.planned.chains().cycles()) - (cycle + 1);
     acts.extend_from_slice(&layout.own.pulsing)?;
     push_controls(acts, true, false)?;
     push_channels(acts, channels, bits, cycle * usize::from(channels))?;
@@ -69,14 +69,14 @@ fn push_shift(
     cycle: usize,
 ) -> Result<(), AllocError>
     requires layout { IsLayout layout.now }
-    requires cycle { cycle < layout.now.chains.now.cycles }
-    requires bits { layout.now.chains.now.cycles * layout.now.config.now.ring.channels ≤ 64 * length bits.now }
-    requires expected { IfSome expected (λ shown. layout.now.chains.now.cycles * length layout.now.config.now.compactor.groups ≤ length shown.now) }
+    requires cycle { cycle < (plan_in layout.now).cycles }
+    requires bits { (plan_in layout.now).cycles * layout.now.planned.now.config.ring.channels ≤ 64 * length bits.now }
+    requires expected { IfSome expected (λ shown. (plan_in layout.now).cycles * length layout.now.planned.now.config.compactor.groups ≤ length shown.now) }
     ensures { OnOk result (acts.new.items ≡ acts.old.items
-        ++ spec.shift_with layout.now.design.now layout.now.config.now layout.now.chains.now (table_of layout.now.config.now.ring (packed_bit bits.now)) masks.now cycle
-        (shown_at (length layout.now.config.now.compactor.groups) (option_map (λ shown. shown.now) expected.entry) cycle)) }
+        ++ spec.shift_with layout.now.planned.now.design layout.now.planned.now.config (plan_in layout.now) (table_of layout.now.planned.now.config.ring (packed_bit bits.now)) masks.now cycle
+        (shown_at (length layout.now.planned.now.config.compactor.groups) (option_map (λ shown. shown.now) expected.entry) cycle)) }
 {
-    let width = layout.config.compactor().groups.as_slice().len();
+    let width = layout.planned.config().compactor().groups.as_slice().len();
     push_inputs(acts, layout, bits, masks, cycle)?;
     push_ignored(acts, layout.own.outputs)?;
     push_shown(acts, width, expected, cycle)
@@ -91,14 +91,14 @@ fn add_shifts(
     expected: Option<&[bool]>,
 ) -> Result<(), AllocError>
     requires layout { IsLayout layout.now }
-    requires bits { layout.now.chains.now.cycles * layout.now.config.now.ring.channels ≤ 64 * length bits.now }
-    requires expected { IfSome expected (λ shown. layout.now.chains.now.cycles * length layout.now.config.now.compactor.groups ≤ length shown.now) }
+    requires bits { (plan_in layout.now).cycles * layout.now.planned.now.config.ring.channels ≤ 64 * length bits.now }
+    requires expected { IfSome expected (λ shown. (plan_in layout.now).cycles * length layout.now.planned.now.config.compactor.groups ≤ length shown.now) }
     ensures { OnOk result (vectors.new.items ≡ vectors.old.items
-        ++ map (λ cycle. spec.shift_with layout.now.design.now layout.now.config.now layout.now.chains.now (table_of layout.now.config.now.ring (packed_bit bits.now)) masks.now cycle
-        (shown_at (length layout.now.config.now.compactor.groups) (option_map (λ shown. shown.now) expected.entry) cycle)) (range_with_len 0 layout.now.chains.now.cycles)) }
+        ++ map (λ cycle. spec.shift_with layout.now.planned.now.design layout.now.planned.now.config (plan_in layout.now) (table_of layout.now.planned.now.config.ring (packed_bit bits.now)) masks.now cycle
+        (shown_at (length layout.now.planned.now.config.compactor.groups) (option_map (λ shown. shown.now) expected.entry) cycle)) (range_with_len 0 (plan_in layout.now).cycles)) }
 {
     let mut acts = Vec::new(layout.alloc);
-    for cycle in 0..usize::from(layout.chains.cycles()) {
+    for cycle in 0..usize::from(layout.planned.chains().cycles()) {
         acts.clear();
         push_shift(&mut acts, layout, bits, masks, expected, cycle)?;
         vectors.push(Acts::copied(layout.alloc, &acts)?)?;
@@ -114,8 +114,8 @@ fn add_first(
     masks: &[bool],
 ) -> Result<(), AllocError>
     requires layout { IsLayout layout.now }
-    requires bits { layout.now.chains.now.cycles * layout.now.config.now.ring.channels ≤ 64 * length bits.now }
-    ensures { OnOk result (vectors.new.items ≡ vectors.old.items ++ spec.load_vectors layout.now.design.now layout.now.config.now layout.now.chains.now (table_of layout.now.config.now.ring (packed_bit bits.now)) masks.now None) }
+    requires bits { (plan_in layout.now).cycles * layout.now.planned.now.config.ring.channels ≤ 64 * length bits.now }
+    ensures { OnOk result (vectors.new.items ≡ vectors.old.items ++ spec.load_vectors layout.now.planned.now.design layout.now.planned.now.config (plan_in layout.now) (table_of layout.now.planned.now.config.ring (packed_bit bits.now)) masks.now None) }
 {
     add_shifts(vectors, layout, bits, masks, None)?;
     Ok(())
@@ -130,14 +130,14 @@ fn add_next(
     masks: &[bool],
 ) -> Result<(), AllocError>
     requires layout { IsLayout layout.now }
-    requires before { Fits layout.now.config.now layout.now.chains.now before }
-    requires bits { layout.now.chains.now.cycles * layout.now.config.now.ring.channels ≤ 64 * length bits.now }
-    ensures { OnOk result (vectors.new.items ≡ vectors.old.items ++ spec.load_vectors layout.now.design.now layout.now.config.now layout.now.chains.now (table_of layout.now.config.now.ring (packed_bit bits.now)) masks.now (Some (data_of layout.now.config.now layout.now.chains.now before.entry))) }
+    requires before { Fits layout.now.planned.now.config (plan_in layout.now) before }
+    requires bits { (plan_in layout.now).cycles * layout.now.planned.now.config.ring.channels ≤ 64 * length bits.now }
+    ensures { OnOk result (vectors.new.items ≡ vectors.old.items ++ spec.load_vectors layout.now.planned.now.design layout.now.planned.now.config (plan_in layout.now) (table_of layout.now.planned.now.config.ring (packed_bit bits.now)) masks.now (Some (data_of layout.now.planned.now.config (plan_in layout.now) before.entry))) }
 {
     let shown = expected(
         layout.alloc,
-        layout.config,
-        layout.chains,
+        layout.planned.config(),
+        layout.planned.chains(),
         before.response,
         before.masks,
         bits,
@@ -155,10 +155,10 @@ pub(crate) fn add_load(
     masks: &[bool],
 ) -> Result<(), AllocError>
     requires layout { IsLayout layout.now }
-    requires before { IfSome before (Fits layout.now.config.now layout.now.chains.now) }
-    requires bits { layout.now.chains.now.cycles * layout.now.config.now.ring.channels ≤ 64 * length bits.now }
+    requires before { IfSome before (Fits layout.now.planned.now.config (plan_in layout.now)) }
+    requires bits { (plan_in layout.now).cycles * layout.now.planned.now.config.ring.channels ≤ 64 * length bits.now }
     ensures { OnOk result (vectors.new.items ≡ vectors.old.items
-        ++ spec.load_vectors layout.now.design.now layout.now.config.now layout.now.chains.now (table_of layout.now.config.now.ring (packed_bit bits.now)) masks.now (data_if_any layout.now.config.now layout.now.chains.now before.entry)) }
+        ++ spec.load_vectors layout.now.planned.now.design layout.now.planned.now.config (plan_in layout.now) (table_of layout.now.planned.now.config.ring (packed_bit bits.now)) masks.now (data_if_any layout.now.planned.now.config (plan_in layout.now) before.entry)) }
 {
     match before {
         None => add_first(vectors, layout, bits, masks),
@@ -168,8 +168,9 @@ pub(crate) fn add_load(
 
 // The packed bits of a load in which no channel bit is 1.
 pub(crate) fn no_bits(layout: &Layout<'_>) -> Result<Vec<u64>, AllocError>
-    ensures { IfOk result (λ bits. bits.items ≡ replicate (words_for (columns_of layout.now.config.now layout.now.chains.now)) 0) }
+    ensures { IfOk result (λ bits. bits.items ≡ replicate (words_for (columns_of layout.now.planned.now.config (plan_in layout.now))) 0) }
 {
-    let columns = usize::from(layout.chains.cycles()) * usize::from(layout.config.ring().channels);
+    let columns = usize::from(layout.planned.chains().cycles())
+        * usize::from(layout.planned.config().ring().channels);
     vec![in layout.alloc; 0; (columns + 63) / 64]
 }

@@ -6,22 +6,24 @@ use Rattle.dft_cycle.proofs.rounds.find_least.Goals as goal
 
 pub loop-init : goal.loop-init
 loop-init c = record {
-  reached = reach_start (logic_at c.args.phase.circuit.now) (pulse_at c.args.phase.pulse) c.args.poss.now c.args.phase.pulse.old.now c.requires.poss refl;
+  reached = reach_start (logic_at c.args.phase.circuit.now) (pulse_at c.args.phase.pulse) c.args.search.now.poss.items c.args.phase.pulse.old.now c.requires.begins refl;
+  search = c.requires.search;
   ready = c.requires.ready;
   clear = c.requires.clear;
 }
 
 pub loop-preserved : goal.loop-preserved
 loop-preserved c = record {
-  reached = reach_more (logic_at c.args.phase.circuit.now) (pulse_at c.args.phase.pulse) c.loop.poss c.turn.new.poss c.loop.invariant.reached c.turn.ensures.above c.turn.ensures.below;
+  reached = reach_more (logic_at c.args.phase.circuit.now) (pulse_at c.args.phase.pulse) c.loop.search.poss.items c.turn.new.search.poss.items c.loop.invariant.reached c.turn.ensures.above c.turn.ensures.below;
+  search = c.turn.ensures.search;
   ready = c.turn.ensures.ready;
   clear = c.turn.ensures.clear;
 }
 
 pub returns-clause-least : goal.returns-clause-least
 returns-clause-least c = λ view views.
-    (let reached = reach_more (logic_at c.args.phase.circuit.now) (pulse_at c.args.phase.pulse) c.loop.poss c.turn.new.poss c.loop.invariant.reached c.turn.ensures.above c.turn.ensures.below in
-    reach_least (logic_at c.args.phase.circuit.now) (pulse_at c.args.phase.pulse) c.turn.new.poss c.turn.new.next view reached views (c.turn.ensures.done c.loop-test.false view views))
+    (let reached = reach_more (logic_at c.args.phase.circuit.now) (pulse_at c.args.phase.pulse) c.loop.search.poss.items c.turn.new.search.poss.items c.loop.invariant.reached c.turn.ensures.above c.turn.ensures.below in
+    reach_least (logic_at c.args.phase.circuit.now) (pulse_at c.args.phase.pulse) c.turn.new.search.poss.items c.turn.new.search.next.items view reached views (c.turn.ensures.done c.loop-test.false view views))
 
 pub returns-clause-next : goal.returns-clause-next
 returns-clause-next c = λ view views. c.turn.ensures.done c.loop-test.false view views

@@ -12,15 +12,15 @@ use Rattle.dft_cycle.proofs.rounds.next_values.Goals.{then-flag_at, else-flag_at
 pub loop-clock-preserved : goal.loop-clock-preserved
 unfolding logic_at
 loop-clock-preserved c =
-    let x = c.args.phase.circuit.now in
-    let p = pulse_at c.args.phase.pulse in
-    let clocks = c.args.phase.clocks.now in
+    let x = c.args.views.phase.circuit.now in
+    let p = pulse_at c.args.views.phase.pulse in
+    let clocks = c.args.views.phase.clocks.now in
     let j : ℕ = c.loop-clock.clock-index in
     let clock : NetId = get_or clocks j (record { 0 = 0 }) in
     let live : clock.0 < length x.ops.items = c.requires.live j clock (slice_get-get_or clocks j (record { 0 = 0 }) c.loop-clock-test.true) in
     elim c.if-flag_at.branch [
       | then-flag_at w ↦ record {
-        next = λ view views right. rw w.next-is (next_more x p (value_at c.args.poss.now) view clocks c.args.held.now c.loop-clock.next w.take_next.new.next w.enter.new.values j clock.0 _ c.requires.circuit views
+        next = λ view views right. rw w.next-is (next_more x p (value_at c.args.views.poss.now) view clocks c.args.views.held.now c.loop-clock.next w.take_next.new.next w.enter.new.values j clock.0 _ c.requires.circuit views
             (record { ports = λ k. refl; clocks = λ e. refl; flops = λ k. refl; lockups = λ k e high source. refl }) w.enter.ensures.given right w.take_next.ensures refl (c.loop-clock.invariant.next view views right));
         given = rw (w.values-is, w.last-is) w.enter.ensures.given;
         clear = rw w.marked-is w.enter.ensures.clear;
@@ -35,4 +35,4 @@ loop-clock-preserved c =
     ]
 
 pub returns-clause-ready : goal.returns-clause-ready
-returns-clause-ready c = ready_in c.args.phase.circuit.now (pulse_at c.args.phase.pulse) c.args.poss.now c.args.held.now c.loop-clock.values c.loop-clock.last.0 c.loop-clock.invariant.given
+returns-clause-ready c = ready_in c.args.views.phase.circuit.now (pulse_at c.args.views.phase.pulse) c.args.views.poss.now c.args.views.held.now c.loop-clock.values c.loop-clock.last.0 c.loop-clock.invariant.given

@@ -5,10 +5,9 @@ use Rattle.std.proofs.lemmas.Option.{slice_get_cases, slice_get_within}
 use Rattle.std.proofs.lemmas.Result.{IfOk-weaker}
 use Rattle.dft_netlist.specs.declared.ids.InstanceId.{InstanceId}
 use Rattle.dft_stitch.specs.Chains.{plan_of}
-use Rattle.dft_stitch.specs.Plans.{Plan}
-use Rattle.dft_expect.specs.Captures.{captured_value}
+use Rattle.dft_expect.specs.Captures.{capture_vectors, last_state, original}
 use Rattle.dft_expect.specs.Capturing.{AreCaptures, Captures, Capturing, cells_in}
-use Rattle.dft_expect.specs.Loaded.{all_cells}
+use Rattle.dft_expect.specs.Loaded.{loaded_values}
 use Rattle.dft_expect.specs.declared.pattern.Pattern.{Pattern}
 use Rattle.dft_expect.specs.declared.response.Response.{Response}
 use Rattle.dft_pattern_tests.proofs.captures.responses_of.Goals as goal
@@ -16,7 +15,7 @@ use Rattle.dft_pattern_tests.proofs.captures.responses_of.Goals as goal
 one_whole : (c : Capturing) (pattern : Pattern) (r : Response) → Captures c.design c.config pattern r → length r.cells ≡ length (cells_in c.design c.config)
 one_whole c pattern r captured =
     ap (λ xs. length xs) captured.cells
-    ∙ length-map (cells_in c.design c.config) (λ (cell : InstanceId). captured_value c.design c.config (plan_of c.design c.config).chains pattern.merged.now pattern.loaded.now captured.values cell.0)
+    ∙ length-map (cells_in c.design c.config) (λ (cell : InstanceId). last_state (original c.design c.config) (plan_of c.design c.config).chains (capture_vectors c.design c.config pattern.merged.now) (loaded_values (plan_of c.design c.config).chains pattern.loaded.now) captured.settled cell.0)
 
 each_whole : (c : Capturing) (patterns : List Pattern) (responses : List Response) → AreCaptures c patterns responses → (place : ℕ) (r : Response) → slice_get responses place ≡ Some r → length r.cells ≡ length (cells_in c.design c.config)
 each_whole c patterns responses are place r at = elim ((slice_get_cases patterns place).1) [
@@ -26,10 +25,9 @@ each_whole c patterns responses are place r at = elim ((slice_get_cases patterns
 
 pub returns : goal.returns
 returns c =
-    let plan : c.args.job.now.chains.now ≡ plan_of c.args.job.now.design.now c.args.job.now.config.now = c.requires.chains in
-    let capturing : c.in_ok-capturer.capturer ≡ record { design = c.args.job.now.design.now; config = c.args.job.now.config.now } = c.in_ok-capturer.ensures in
+    let planned = c.args.job.now.planned.now in
+    let capturing : c.in_ok-capturer.capturer ≡ record { design = planned.design; config = planned.config } = c.in_ok-capturer.ensures in
     IfOk-weaker c.capture_all.result _ _
     (λ found are place r at. each_whole c.in_ok-capturer.capturer c.args.patterns.now found.items are place r at
-    ∙ ap (λ (x : Capturing). length (cells_in x.design x.config)) capturing
-    ∙ sym (ap (λ (p : Plan). length (all_cells p.chains)) plan))
+    ∙ ap (λ (x : Capturing). length (cells_in x.design x.config)) capturing)
     c.capture_all.ensures.captures

@@ -39,10 +39,10 @@ invariant_of-self c =
     let i = c.self.invariant in
     let d = c.self.inside in
     let old : c.deref-4.result.now ≡ d.cells.items = c.deref-4.ensures.value in
-    let nexts : c.deref_mut-4.result.now ≡ d.next.items = c.deref_mut-4.ensures.value in
+    let nexts : c.deref_mut-4.result.now ≡ d.search.next.items = c.deref_mut-4.ensures.value in
     let p : Pulse = record { rising = c.args.rising; ports = value_at c.deref-2.result.now; pulsed = flag_at c.deref-3.result.now; old = value_at c.deref-4.result.now } in
     let copied : c.copy_from_slice.new.self ≡ c.take-taken.new.next =
-    c.copy_from_slice.ensures.after ∙ c.deref-then-taken.ensures.value ∙ filled d.next c.take-taken.new.next c.deref_mut-4.result.now c.take-taken.auto.next nexts in
+    c.copy_from_slice.ensures.after ∙ c.deref-then-taken.ensures.value ∙ filled d.search.next c.take-taken.new.next c.deref_mut-4.result.now c.take-taken.auto.next nexts in
     let cells : (with_items d.cells c.copy_from_slice.new.self).items ≡ c.take-taken.new.next =
     filled d.cells c.copy_from_slice.new.self c.as_mut_slice.result.now c.copy_from_slice.ensures.len c.as_mut_slice.ensures.value ∙ copied in
     record {
@@ -57,9 +57,7 @@ invariant_of-self c =
       shown = i.shown;
       values = i.values;
       cells = refilled d.cells c.copy_from_slice.new.self ∙ i.cells;
-      poss = i.poss;
-      next = refilled d.next c.take-taken.new.next ∙ i.next;
-      held = i.held;
+      search = record { poss = i.search.poss; held = i.search.held; next = refilled d.search.next c.take-taken.new.next ∙ i.search.next };
       marked = refilled d.marked c.take-taken.new.marked ∙ i.marked;
       clear = clear_kept d.marked c.take-taken.new.marked c.deref_mut-3.result.now c.take-taken.auto.marked c.deref_mut-3.ensures.value c.take-taken.ensures.clear;
       ready = i.ready;
@@ -67,7 +65,7 @@ invariant_of-self c =
       plans = subst (λ (l : List NetId). ArePlans d.circuit l c.take-taken.new.self) c.deref-5.ensures.value c.take-taken.ensures.plans;
       looks = i.looks;
       loose = subst (λ (l : List Tri). LooseAreUnknown d.circuit (value_at l)) (sym cells)
-          (passed_loose d.circuit p d.cells.items c.take-taken.new.next true (c.take-taken.auto.next ∙ ap length nexts ∙ i.next) (λ k. ap (λ (l : List Tri). value_at l k) old) i.loose
+          (passed_loose d.circuit p d.cells.items c.take-taken.new.next true (c.take-taken.auto.next ∙ ap length nexts ∙ i.search.next) (λ k. ap (λ (l : List Tri). value_at l k) old) i.loose
           (λ yes. c.take-taken.ensures.passed c.if-taken.true) (λ no. absurd cc));
       flags = flags_one d.clocks.items c.args.pulsed.now d.pulsed c.mark.new.flags c.deref.result.now c.deref_mut.result.now c.mark.auto.flags c.deref_mut.ensures.value c.deref.ensures.value c.mark.ensures;
     }
@@ -89,9 +87,7 @@ invariant_of-self-else-taken c =
       shown = i.shown;
       values = i.values;
       cells = i.cells;
-      poss = i.poss;
-      next = refilled d.next c.take-taken.new.next ∙ i.next;
-      held = i.held;
+      search = record { poss = i.search.poss; held = i.search.held; next = refilled d.search.next c.take-taken.new.next ∙ i.search.next };
       marked = refilled d.marked c.take-taken.new.marked ∙ i.marked;
       clear = clear_kept d.marked c.take-taken.new.marked c.deref_mut-3.result.now c.take-taken.auto.marked c.deref_mut-3.ensures.value c.take-taken.ensures.clear;
       ready = i.ready;
@@ -107,10 +103,10 @@ returns-then-taken c =
     let i = c.self.invariant in
     let d = c.self.inside in
     let old : c.deref-4.result.now ≡ d.cells.items = c.deref-4.ensures.value in
-    let nexts : c.deref_mut-4.result.now ≡ d.next.items = c.deref_mut-4.ensures.value in
+    let nexts : c.deref_mut-4.result.now ≡ d.search.next.items = c.deref_mut-4.ensures.value in
     let p : Pulse = record { rising = c.args.rising; ports = value_at c.deref-2.result.now; pulsed = flag_at c.deref-3.result.now; old = value_at c.deref-4.result.now } in
     let copied : c.copy_from_slice.new.self ≡ c.take-taken.new.next =
-    c.copy_from_slice.ensures.after ∙ c.deref-then-taken.ensures.value ∙ filled d.next c.take-taken.new.next c.deref_mut-4.result.now c.take-taken.auto.next nexts in
+    c.copy_from_slice.ensures.after ∙ c.deref-then-taken.ensures.value ∙ filled d.search.next c.take-taken.new.next c.deref_mut-4.result.now c.take-taken.auto.next nexts in
     let cells : (with_items d.cells c.copy_from_slice.new.self).items ≡ c.take-taken.new.next =
     filled d.cells c.copy_from_slice.new.self c.as_mut_slice.result.now c.copy_from_slice.ensures.len c.as_mut_slice.ensures.value ∙ copied in
     let after : Machine = record { netlist = d.design.now; clocks = d.clocks.items; inputs = d.inputs.items; cells = (with_items d.cells c.copy_from_slice.new.self).items; shown = d.shown.items } in
@@ -125,4 +121,4 @@ returns-then-taken c =
     (λ k. ap (λ (l : List Tri). value_at l k) ports)
     (λ e. ap (λ (l : List Bool). flag_at l e) marked ∙ c.mark.ensures e ∙ ap (λ (l : List NetId). pulses l c.args.pulsed.now e) clocks)
     (λ k. ap (λ (l : List Tri). value_at l k) old)
-    i.cells (c.take-taken.auto.next ∙ ap length nexts ∙ i.next ∙ sym i.cells) (c.take-taken.ensures.passed c.if-taken.true))
+    i.cells (c.take-taken.auto.next ∙ ap length nexts ∙ i.search.next ∙ sym i.cells) (c.take-taken.ensures.passed c.if-taken.true))

@@ -45,10 +45,8 @@ unfolding logic logic_at
 invariant_of-self c =
     let i = c.self.invariant in
     let d = c.self.inside in
-    let poss = with_items d.poss c.copy_from_slice.new.self in
     let cells = with_items d.cells c.take.new.cells in
-    let nexts : c.deref_mut-6.result.now ≡ d.next.items = c.deref_mut-6.ensures.value in
-    let before : c.deref_mut-7.result.now ≡ d.cells.items = c.deref_mut-7.ensures.value in
+    let before : c.deref_mut-4.result.now ≡ d.cells.items = c.deref_mut-4.ensures.value in
     let p : Pulse = record { rising = c.args.rising; ports = value_at c.deref-3.result.now; pulsed = flag_at c.deref-4.result.now; old = value_at c.deref-5.result.now } in
     record {
       circuit = i.circuit;
@@ -62,19 +60,17 @@ invariant_of-self c =
       shown = i.shown;
       values = refilled d.values c.find_least.new.values ∙ i.values;
       cells = refilled d.cells c.take.new.cells ∙ i.cells;
-      poss = refilled poss c.find_least.new.poss ∙ refilled d.poss c.copy_from_slice.new.self ∙ i.poss;
-      next = refilled d.next c.find_least.new.next ∙ i.next;
-      held = refilled d.held c.find_least.new.held ∙ i.held;
+      search = c.find_least.ensures.search;
       marked = refilled d.marked c.find_least.new.marked ∙ i.marked;
-      clear = clear_kept d.marked c.find_least.new.marked c.deref_mut-5.result.now c.find_least.auto.marked c.deref_mut-5.ensures.value c.find_least.ensures.clear;
-      ready = ready_kept d.circuit d.values c.find_least.new.values c.deref_mut-4.result.now c.find_least.auto.values c.deref_mut-4.ensures.value c.find_least.ensures.ready;
+      clear = clear_kept d.marked c.find_least.new.marked c.deref_mut-3.result.now c.find_least.auto.marked c.deref_mut-3.ensures.value c.find_least.ensures.clear;
+      ready = ready_kept d.circuit d.values c.find_least.new.values c.deref_mut-2.result.now c.find_least.auto.values c.deref_mut-2.ensures.value c.find_least.ensures.ready;
       quick = i.quick;
       plans = i.plans;
       looks = i.looks;
-      loose = pulsed_loose d.circuit p c.find_least.new.poss c.find_least.new.next d.cells.items cells.items i.circuit (refilled d.cells c.take.new.cells ∙ i.cells) i.loose c.find_least.ensures.next
-          (taken_read c.args.rising d.circuit.flops.items c.deref-7.result.now c.deref-4.result.now c.deref-8.result.now c.find_least.new.next c.deref-9.result.now d.cells.items c.deref_mut-7.result.now cells.items c.take.new.cells
-          c.deref-7.ensures.value (c.deref-8.ensures.value ∙ sym c.deref-4.ensures.value) (c.deref-9.ensures.value ∙ filled d.next c.find_least.new.next c.deref_mut-6.result.now c.find_least.auto.next nexts) before
-          (filled d.cells c.take.new.cells c.deref_mut-7.result.now c.take.auto.cells before) c.take.ensures);
+      loose = pulsed_loose d.circuit p c.find_least.new.search.poss.items c.find_least.new.search.next.items d.cells.items cells.items i.circuit (refilled d.cells c.take.new.cells ∙ i.cells) i.loose c.find_least.ensures.next
+          (taken_read c.args.rising d.circuit.flops.items c.deref-7.result.now c.deref-4.result.now c.deref-8.result.now c.find_least.new.search.next.items c.deref-9.result.now d.cells.items c.deref_mut-4.result.now cells.items c.take.new.cells
+          c.deref-7.ensures.value (c.deref-8.ensures.value ∙ sym c.deref-4.ensures.value) c.deref-9.ensures.value before
+          (filled d.cells c.take.new.cells c.deref_mut-4.result.now c.take.auto.cells before) c.take.ensures);
       flags = flags_one d.clocks.items c.args.pulsed.now d.pulsed c.mark.new.flags c.deref.result.now c.deref_mut.result.now c.mark.auto.flags c.deref_mut.ensures.value c.deref.ensures.value c.mark.ensures;
     }
 
@@ -93,17 +89,16 @@ returns c =
     let marked : c.deref-4.result.now ≡ c.mark.new.flags = read ∙ filled d.pulsed c.mark.new.flags c.deref_mut.result.now c.mark.auto.flags flags in
     let ports : c.deref-3.result.now ≡ d.inputs.items = c.deref-3.ensures.value in
     let old : c.deref-5.result.now ≡ d.cells.items = c.deref-5.ensures.value in
-    let nexts : c.deref_mut-6.result.now ≡ d.next.items = c.deref_mut-6.ensures.value in
-    let next : c.deref-9.result.now ≡ (with_items d.next c.find_least.new.next).items = c.deref-9.ensures.value in
+    let size = c.find_least.ensures.search.next in
     let flops : c.deref-7.result.now ≡ d.circuit.flops.items = c.deref-7.ensures.value in
-    let before : c.deref_mut-7.result.now ≡ d.cells.items = c.deref_mut-7.ensures.value in
+    let before : c.deref_mut-4.result.now ≡ d.cells.items = c.deref_mut-4.ensures.value in
     let p : Pulse = record { rising = c.args.rising; ports = value_at c.deref-3.result.now; pulsed = flag_at c.deref-4.result.now; old = value_at c.deref-5.result.now } in
     subst P c.self.view_is
-    (phase_done (machine_of d) after d.circuit c.args.rising c.args.pulsed.now p c.find_least.new.poss c.find_least.new.next i.circuit i.compiled refl refl refl refl refl
+    (phase_done (machine_of d) after d.circuit c.args.rising c.args.pulsed.now p c.find_least.new.search.poss.items c.find_least.new.search.next.items i.circuit i.compiled refl refl refl refl refl
     (λ k. ap (λ (l : List Tri). value_at l k) ports)
     (λ e. ap (λ (l : List Bool). flag_at l e) marked ∙ c.mark.ensures e ∙ ap (λ (l : List NetId). pulses l c.args.pulsed.now e) clocks)
     (λ k. ap (λ (l : List Tri). value_at l k) old)
-    i.cells (refilled d.cells c.take.new.cells) (c.find_least.auto.next ∙ ap length nexts ∙ i.next) c.find_least.ensures.least c.find_least.ensures.next
-    (taken_read c.args.rising d.circuit.flops.items c.deref-7.result.now c.deref-4.result.now c.deref-8.result.now c.find_least.new.next c.deref-9.result.now d.cells.items c.deref_mut-7.result.now cells.items c.take.new.cells
-    flops (again ∙ sym read) (next ∙ filled d.next c.find_least.new.next c.deref_mut-6.result.now c.find_least.auto.next nexts) before
-    (filled d.cells c.take.new.cells c.deref_mut-7.result.now c.take.auto.cells before) c.take.ensures))
+    i.cells (refilled d.cells c.take.new.cells) size c.find_least.ensures.least c.find_least.ensures.next
+    (taken_read c.args.rising d.circuit.flops.items c.deref-7.result.now c.deref-4.result.now c.deref-8.result.now c.find_least.new.search.next.items c.deref-9.result.now d.cells.items c.deref_mut-4.result.now cells.items c.take.new.cells
+    flops (again ∙ sym read) c.deref-9.ensures.value before
+    (filled d.cells c.take.new.cells c.deref_mut-4.result.now c.take.auto.cells before) c.take.ensures))

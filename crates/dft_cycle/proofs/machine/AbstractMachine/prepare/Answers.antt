@@ -49,9 +49,11 @@ invariant_of-result c =
       shown = ap length c.in_ok-shown.ensures ∙ length-replicate _ _ ∙ count ∙ sym nets;
       values = refilled c.in_ok-values.values c.settle.new.values ∙ ap length c.in_ok-values.ensures ∙ length-replicate _ _ ∙ count ∙ sym nets;
       cells = ap length c.in_ok-bits.ensures ∙ length-replicate _ _ ∙ cells;
-      poss = ap length c.in_ok-poss.ensures ∙ length-replicate _ _ ∙ cells;
-      next = ap length c.in_ok-next.ensures ∙ length-replicate _ _ ∙ cells;
-      held = ap length c.in_ok-held.ensures ∙ length-replicate _ _ ∙ cells;
+      search = record {
+        poss = ap length c.in_ok-poss.ensures ∙ length-replicate _ _ ∙ cells;
+        held = ap length c.in_ok-held.ensures ∙ length-replicate _ _ ∙ cells;
+        next = ap length c.in_ok-next.ensures ∙ length-replicate _ _ ∙ cells;
+      };
       marked = refilled c.in_ok-marked.marked c.prepare-2.new.marked ∙ ap length c.in_ok-marked.ensures ∙ length-replicate _ _ ∙ count ∙ sym nets;
       clear = clear_kept c.in_ok-marked.marked c.prepare-2.new.marked c.deref_mut-2.result.now c.prepare-2.auto.marked c.deref_mut-2.ensures.value c.in_ok-plans.ensures.clear;
       ready = ready_kept x c.in_ok-values.values c.settle.new.values c.deref_mut-3.result.now c.settle.auto.values c.deref_mut-3.ensures.value (ready_view x c.strobe_view.result c.settle.new.values c.settle.ensures);

@@ -1,5 +1,5 @@
 -- The quiet inputs, the added ones, the design's outputs and the compactor's.
-use Rattle.std.proofs.Common.{map, false, None, refl, ap, ◌∙◌}
+use Rattle.std.proofs.Common.{map, false, None, refl, ap, ◌∙◌, ◌≡◌}
 use Rattle.dft_expect.specs.Captures.{port_value}
 use Rattle.dft_vectors.specs.declared.own.OwnInput.{OwnInput}
 use Rattle.dft_vectors.specs.OwnPorts.{driven, ignored}
@@ -11,5 +11,5 @@ pub returns : goal.returns
 returns c =
     let l = c.args.self.now in
     four_more c.args.acts.now.items c.push_quiet.new.acts.items c.push_clearing.new.acts.items c.push_ignored.new.acts.items c.push_unseen.new.acts.items _ _ _ _ _ _ _ _
-    c.in_ok-push_quiet.ensures c.in_ok-push_clearing.ensures c.in_ok-push_ignored.ensures c.in_ok-push_unseen.ensures
-    (ap (map (λ (input : OwnInput). driven false (port_value input.is_reset None))) c.deref.ensures.value ∙ quiet_inputs l.design.now l.config.now l.own.inputs.items c.requires.own.inputs) refl (ap ignored c.requires.own.outputs) refl
+    c.in_ok-push_quiet.ensures (rw c.config.ensures at c.in_ok-push_clearing.ensures) c.in_ok-push_ignored.ensures c.in_ok-push_unseen.ensures
+    (ap (map (λ (input : OwnInput). driven false (port_value input.is_reset None))) c.deref.ensures.value ∙ quiet_inputs l.planned.now.design l.planned.now.config l.own.inputs.items c.requires.own.inputs) refl (ap ignored c.requires.own.outputs) refl

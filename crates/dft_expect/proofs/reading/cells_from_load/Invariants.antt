@@ -1,0 +1,10 @@
+-- The cells so far.
+use Rattle.std.proofs.Common.{◌≡◌, map, slice_get}
+use Rattle.std.specs.List.{range_with_len}
+use Rattle.dft_evaluator.specs.Evaluations.{value_at}
+use Rattle.dft_expect.specs.Loaded.{or_unknown}
+use Rattle.dft_expect.specs.Reads.{read_at, read_value}
+use Rattle.dft_expect.proofs.reading.cells_from_load.Given as goal
+
+abbrev pub invariant-loop-number : goal.invariant-loop-number
+invariant-loop-number l = l.cells.items ≡ map (λ number. read_value (value_at l.reading.evaluator.now l.pattern) l.edge.clock l.edge.rising (or_unknown (slice_get l.loaded number)) (read_at l.reading.reads.now number)) (range_with_len 0 l.number)
