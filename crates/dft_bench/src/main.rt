@@ -1,15 +1,18 @@
 //! Times parts of the tool that no command reaches alone. Its words name what is timed, each with sizes behind it:
-//! `equations` with cells a chain, `systems` with columns, `sweeps` with gates, `writing` with vectors. With no words it
-//! times each once, small. The times go to standard error. It promises nothing.
+//! `equations` with cells a chain, `systems` with columns, `sweeps` and `reading` with gates, `writing` with vectors. With
+//! no words it times each once, small. The times go to standard error. It promises nothing.
 #![tactic(auto)]
 
 mod linear_systems;
 mod load_equations;
+mod netlist_reading;
+mod netlists;
 mod pattern_writing;
 mod sweeps;
 
 use linear_systems::time_systems;
 use load_equations::time_equations;
+use netlist_reading::time_reading;
 use pattern_writing::time_writing;
 use std::alloc::Global;
 use std::rt::Clock;
@@ -22,6 +25,7 @@ enum Timed {
     Equations,
     Systems,
     Sweeps,
+    Reading,
     Writing,
 }
 
@@ -48,6 +52,7 @@ fn named(word: &str) -> Option<Timed> {
         "equations" => Some(Timed::Equations),
         "systems" => Some(Timed::Systems),
         "sweeps" => Some(Timed::Sweeps),
+        "reading" => Some(Timed::Reading),
         "writing" => Some(Timed::Writing),
         _ => None,
     }
@@ -58,6 +63,7 @@ fn time_all(rt: &(impl Clock + Eprint), alloc: Global) -> io::Result<()> {
     time_equations(rt, alloc, 64)?;
     time_systems(rt, alloc, 256)?;
     time_sweeps(rt, alloc, 1000)?;
+    time_reading(rt, alloc, 1000)?;
     time_writing(rt, alloc, 1000)
 }
 
@@ -72,7 +78,8 @@ fn time_at(
         (Some(Timed::Equations), Some(size)) => time_equations(rt, alloc, size),
         (Some(Timed::Systems), Some(size)) => time_systems(rt, alloc, size),
         (Some(Timed::Sweeps), Some(size)) => time_sweeps(rt, alloc, size),
+        (Some(Timed::Reading), Some(size)) => time_reading(rt, alloc, size),
         (Some(Timed::Writing), Some(size)) => time_writing(rt, alloc, size),
-        _ => eprintln!(rt; "{word}: equations, systems, sweeps or writing, and sizes"),
+        _ => eprintln!(rt; "{word}: equations, systems, sweeps, reading or writing, and sizes"),
     }
 }

@@ -135,7 +135,7 @@ begun_said name library = record {
   few_instances = omega arith;
 }
 
-heading_said : (library : List Cell) (ts : List Token) → Yields (IsSaid 0 []) (heading library ts)
+pub heading_said : (library : List Cell) (ts : List Token) → Yields (IsSaid 0 []) (heading library ts)
 unfolding heading
 heading_said library ts =
     passed (IsSaid 0 []) (expect kind.Module ts) _ (λ w us.
@@ -182,7 +182,7 @@ wire_item_said d h ts = declaration_said Wires d h (next ts)
 -- ---- expressions
 
 -- the draft of a pair is such a draft
-abbrev SaidFirst : {B : Type 0} → (room : ℕ) (more : List Text) → Draft × B → Type 0
+abbrev pub SaidFirst : {B : Type 0} → (room : ℕ) (more : List Text) → Draft × B → Type 0
 SaidFirst room more p = IsSaid room more p.0
 
 fitting_said : (room : ℕ) (more : List Text) (place : ℕ) (d : Draft) (bits : Option (List Signal)) → IsSaid room more d → Gives (SaidFirst room more) (fitting place d bits)
@@ -246,7 +246,7 @@ concatenations_said room more (suc n) at d so_far h ts =
     either (SaidFirst room more) (is_read so_far) _ _ h
     (behind (SaidFirst room more) (SaidFirst room more) (turn at d so_far ts) _ (turn_by room more so_far.awaits at d so_far h ts) (λ p m us. concatenations_said room more n at p.0 p.1 m us))
 
-expression_said : (room : ℕ) (more : List Text) (at : Site) (d : Draft) → IsSaid room more d → (ts : List Token) → Yields (SaidFirst room more) (expression at d ts)
+pub expression_said : (room : ℕ) (more : List Text) (at : Site) (d : Draft) → IsSaid room more d → (ts : List Token) → Yields (SaidFirst room more) (expression at d ts)
 unfolding expression
 expression_said room more at d h ts =
     behind (SaidFirst room more) (SaidFirst room more) (concatenations_from (suc (left ts)) at d unread ts) _ (concatenations_said room more (suc (left ts)) at d unread h ts) (λ p m us.
@@ -475,7 +475,7 @@ item_of_said kind.Illegal d h ts = gate_or_cell_said (gate_kind kind.Illegal) d 
 item_of_said kind.Unclosed d h ts = gate_or_cell_said (gate_kind kind.Unclosed) d h ts
 item_of_said kind.End d h ts = gate_or_cell_said (gate_kind kind.End) d h ts
 
-item_said : (d : Draft) → IsSaid 0 [] d → (ts : List Token) → Yields (IsSaid 0 []) (item d ts)
+pub item_said : (d : Draft) → IsSaid 0 [] d → (ts : List Token) → Yields (IsSaid 0 []) (item d ts)
 unfolding item
 item_said d h ts = item_of_said (kind_of ts) d h ts
 
@@ -495,7 +495,7 @@ declared_end : (place : ℕ) (d : Draft) (o : Option Text) → IsSaid 0 [] d →
 declared_end place d None h ts = h
 declared_end place d (Some word) h ts = tt
 
-module_end_said : (d : Draft) → IsSaid 0 [] d → (ts : List Token) → Yields (IsSaid 0 []) (module_end d ts)
+pub module_end_said : (d : Draft) → IsSaid 0 [] d → (ts : List Token) → Yields (IsSaid 0 []) (module_end d ts)
 unfolding module_end
 module_end_said d h ts = passed (IsSaid 0 []) (expect kind.Endmodule ts) _ (λ w us. declared_end (left ts) d (first_undeclared d.ports) h us)
 

@@ -10,3 +10,11 @@ pub mod CountLemmas
 pub mod OtherNetLemmas
 pub mod SaidLemmas
 pub mod GrammarLemmas
+pub mod PassingLemmas
+pub mod SaidPartLemmas
+pub mod ModulesLemmas
+pub mod KeepLemmas
+pub mod KeptGrammarLemmas
+pub mod SaidModuleLemmas
+pub mod SoundModuleLemmas
+pub mod KeptModuleLemmas

@@ -27,6 +27,7 @@ use Rattle.dft_netlist_text.specs.Steps.{fault}
 use Rattle.dft_netlist_text.specs.Modules.{Draft, HeaderPort, TakenName, meaning_of, is_taken, with_name, net_count, names_of_bits, first_taken, free_bits, with_bits, next_shape, with_nets, declare_nets, declared_at, port_place, announce, with_declared, declare_found, declare_port, declare_new_port, same_range, repeat_port, declare_wire_as, declare_wire, room_for_instance, name_instance, with_instance}
 use Rattle.dft_netlist_text.specs.NetlistText.{nets_of_port, nets_of_ports, other_nets, names_of_others}
 use Rattle.dft_netlist_text.proofs.ParserLemmas.{Gives}
+use Rattle.dft_modules.specs.SubInstances.{name_sub}
 use Rattle.dft_verilog_draft.specs.Free.{AreApart, taken_bit}
 use Rattle.dft_verilog.specs.Buildable.{names_of_port, names_of_header, names_of_instances, printed_names, IsBuildable}
 use Rattle.dft_verilog_draft.proofs.ApartLemmas.{bit_names-apart}
@@ -203,7 +204,7 @@ gains_cons p old new nets words g =
       below_parts n [] ys h = (tt, h)
       below_parts n (x ∷ xs) ys h = let r = below_parts n xs ys h.1 in ((h.0, r.0), r.1)
 
-abbrev port_named : Text → Option Declared → HeaderPort
+abbrev pub port_named : Text → Option Declared → HeaderPort
 port_named word declared = record { name = word; declared = declared }
 
 -- a port at the end
@@ -270,7 +271,7 @@ set_same (y ∷ ys) zero x h = let same : x ≡ y = cc in ap (λ w. w ∷ ys) sa
 set_same (y ∷ ys) (suc k) x h = ap (λ ws. y ∷ ws) (set_same ys k x h)
 
 -- a port that keeps its name
-list_set : (ports : List HeaderPort) (place : ℕ) (word : Text) (declared : Option Declared) → slice_get (port_list ports) place ≡ Some word → port_list (set ports place (port_named word declared)) ≡ port_list ports
+pub list_set : (ports : List HeaderPort) (place : ℕ) (word : Text) (declared : Option Declared) → slice_get (port_list ports) place ≡ Some word → port_list (set ports place (port_named word declared)) ≡ port_list ports
 list_set ports place word declared named = map-set (λ (p : HeaderPort). p.name) ports place (port_named word declared) ∙ set_same (port_list ports) place word named
 
 get_left : (xs ys : List Text) (k : ℕ) (x : Text) → slice_get xs k ≡ Some x → slice_get (xs ++ ys) k ≡ Some x
@@ -278,11 +279,11 @@ get_left [] ys k x h = absurd (cc)
 get_left (y ∷ xs) ys zero x h = h
 get_left (y ∷ xs) ys (suc k) x h = get_left xs ys k x h
 
-get_last : (xs : List Text) (x : Text) → slice_get (xs ++ x ∷ []) (length xs) ≡ Some x
+pub get_last : (xs : List Text) (x : Text) → slice_get (xs ++ x ∷ []) (length xs) ≡ Some x
 get_last [] x = refl
 get_last (y ∷ xs) x = get_last xs x
 
-placed_left : (ports more : List Text) (entries : List TakenName) → ArePlaced ports entries → ArePlaced (ports ++ more) entries
+pub placed_left : (ports more : List Text) (entries : List TakenName) → ArePlaced ports entries → ArePlaced (ports ++ more) entries
 placed_left ports more [] h = tt
 placed_left ports more (e ∷ es) h = (one e.name e.meaning h.0, placed_left ports more es h.1) where
   one : (word : Text) (m : Meaning) → HasPort ports word m → HasPort (ports ++ more) word m
@@ -291,11 +292,11 @@ placed_left ports more (e ∷ es) h = (one e.name e.meaning h.0, placed_left por
   one word meaning.Bit h = tt
   one word meaning.Instance h = tt
 
-placed_append : (ports : List Text) (xs ys : List TakenName) → ArePlaced ports xs → ArePlaced ports ys → ArePlaced ports (xs ++ ys)
+pub placed_append : (ports : List Text) (xs ys : List TakenName) → ArePlaced ports xs → ArePlaced ports ys → ArePlaced ports (xs ++ ys)
 placed_append ports [] ys hx hy = hy
 placed_append ports (x ∷ xs) ys hx hy = (hx.0, placed_append ports xs ys hx.1 hy)
 
-placed_bits : (ports words : List Text) → ArePlaced ports (map taken_bit words)
+pub placed_bits : (ports words : List Text) → ArePlaced ports (map taken_bit words)
 placed_bits ports [] = tt
 placed_bits ports (word ∷ words) = (tt, placed_bits ports words)
 
@@ -307,7 +308,7 @@ place_by true ports e rest word place is here more h =
     subst (λ m. HasPort ports word m) stands (subst (λ w. HasPort ports w e.meaning) (is refl) here)
 
 -- the port that a name stands for has the name
-place_found : (ports : List Text) (entries : List TakenName) (word : Text) (place : ℕ) → ArePlaced ports entries
+pub place_found : (ports : List Text) (entries : List TakenName) (word : Text) (place : ℕ) → ArePlaced ports entries
     → option_map (λ (e : TakenName). e.meaning) (find (λ (e : TakenName). bytes_eq e.name word) entries) ≡ Some (meaning.Port place) → slice_get ports place ≡ Some word
 place_found ports [] word place placed h = absurd (cc)
 place_found ports (e ∷ es) word place placed h =
@@ -332,7 +333,7 @@ bits_few : (word : Text) (range : Option Range) (at : Text) → count at (bit_na
 bits_few word None at = omega arith
 bits_few word (Some r) at = omega arith
 
-with_bits-is : (words : List Text) (d : Draft) → with_bits words d ≡ record d { names = d.names ++ map taken_bit words }
+pub with_bits-is : (words : List Text) (d : Draft) → with_bits words d ≡ record d { names = d.names ++ map taken_bit words }
 with_bits-is [] d = ap (λ (names : List TakenName). record d { names = names }) (sym (append-nil d.names))
 with_bits-is (word ∷ words) d =
     with_bits-is words (with_name word meaning.Bit d) ∙ ap (λ (names : List TakenName). record d { names = names }) (append_assoc d.names (taken_bit word ∷ []) (map taken_bit words))
@@ -366,7 +367,7 @@ room_by word range d h = let count = length-bit_names word range in let fits : l
   below_limit : (n : ℕ) → nat_lt MAX_NETS n ≡ false → n ≤ MAX_NETS
   below_limit n h = grind (arith, nat_tests)
 
-abbrev entry : Text → Meaning → TakenName
+abbrev pub entry : Text → Meaning → TakenName
 entry word meant = record { name = word; meaning = meant }
 
 pub nets_said : (room : ℕ) (more : List Text) (place : ℕ) (word : Text) (range : Option Range) (d : Draft) → IsSaid room more d → IsShort range → Gives (IsSaid room more) (declare_nets place word range d)
@@ -532,6 +533,23 @@ name_said place word d h =
       few_ports = h.few_ports;
       few_nets = h.few_nets;
       few_instances = instances_by (length d.instances) few;
+    })
+
+-- the name of a module instance is taken, and no instance is read
+pub sub_said : (place : ℕ) (word : Text) (d : Draft) → IsSaid 0 [] d → Gives (IsSaid 0 []) (name_sub place word d)
+sub_said place word d h =
+    let mine = entry word meaning.Instance in
+    tested (IsSaid 0 []) (is_taken d word) false false None (fault (cause.Taken word) place) (fault (cause.Taken word) place) (fault (cause.Taken word) place) place (with_name word meaning.Instance d)
+    (λ free none yes no.
+    record {
+      names = λ at. omega (arith, ap (count at) (one_behind d.names mine), count-append at (names_of d.names) (word ∷ []), free_once d (word ∷ []) h.names (free, tt) (tt, tt) at);
+      taken = λ at. omega (arith, ap (count at) (one_behind d.names mine), count-append at (names_of d.names) (word ∷ []), h.taken at);
+      numbered = h.numbered;
+      below = h.below;
+      places = placed_append (port_list d.ports) d.names (mine ∷ []) h.places (tt, tt);
+      few_ports = h.few_ports;
+      few_nets = h.few_nets;
+      few_instances = h.few_instances;
     })
 
 pub room_said : (place : ℕ) (d : Draft) → IsSaid 0 [] d → Gives (IsSaid 1 []) (room_for_instance place d)

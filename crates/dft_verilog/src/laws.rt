@@ -1,5 +1,6 @@
 //! Laws of what netlist texts say.
 
+ghost use Rattle.dft_modules.specs.Laws.{SaidAreModules, NeverForCells, NeverForModules};
 ghost use Rattle.dft_verilog.specs.Buildable.{BuildableAreBuilt, ModulesAreBuildable};
 ghost use Rattle.dft_verilog.specs.Laws.{StandsForOne};
 
@@ -16,4 +17,20 @@ pub fn modules_are_buildable()
 /// The law that a text stands for one netlist at most.
 pub fn texts_stand_for_one_netlist()
     ensures { StandsForOne }
+{}
+
+/// The law that the modules that a text of several says are sound, and that each has a name that no cell and no module before
+/// it has.
+pub fn said_modules_are_sound()
+    ensures { SaidAreModules }
+{}
+
+/// The law that a text of several modules is never refused for a cell that the library has not.
+pub fn modules_need_no_cells()
+    ensures { NeverForCells }
+{}
+
+/// The law that a text of several modules is never refused for a second module.
+pub fn modules_may_be_several()
+    ensures { NeverForModules }
 {}
