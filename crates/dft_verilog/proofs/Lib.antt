@@ -10,3 +10,5 @@ pub mod CountLemmas
 pub mod OtherNetLemmas
 pub mod SaidLemmas
 pub mod GrammarLemmas
+pub mod PassingLemmas
+pub mod SaidPartLemmas

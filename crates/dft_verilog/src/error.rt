@@ -36,3 +36,12 @@ pub enum VerilogError {
     /// Memory ran out.
     Memory(AllocError),
 }
+
+/// Why a netlist text of several modules was not read.
+#[derive(Debug, Drop)]
+pub enum ModulesError {
+    /// The first fault of the text stands in a module, or memory ran out.
+    Module(VerilogError),
+    /// H1: a module has the name of a module before it or of a cell of the library.
+    Repeated { name: Name },
+}

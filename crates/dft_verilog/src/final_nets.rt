@@ -36,8 +36,8 @@ fn number_bits(numbers: &mut [Option<NetId>], first: usize, count: usize, next: 
     }
 }
 
-// How many nets a name with this range has.
-fn net_count(range: Option<Range>) -> usize
+/// How many nets a name with this range has.
+pub fn net_count(range: Option<Range>) -> usize
     ensures count { result ≡ spec.net_count range }
     ensures few { result ≤ 65536 }
 {

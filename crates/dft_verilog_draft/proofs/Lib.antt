@@ -1,4 +1,5 @@
 pub mod TakenNameLemmas
+pub mod NameSetLemmas
 pub mod BitNameLemmas
 pub mod FreeLemmas
 pub mod DraftLemmas

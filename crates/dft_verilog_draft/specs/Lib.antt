@@ -1,5 +1,10 @@
 pub mod TakenNames
 pub mod TakenNamesShown
+pub mod NameSets
+pub mod NameSetShown
+pub mod SubConnectionShown
+pub mod SubConnectionsShown
+pub mod DraftSubShown
 pub mod HeaderPortShown
 pub mod DraftInstanceShown
 pub mod BitNames

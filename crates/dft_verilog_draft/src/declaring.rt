@@ -2,6 +2,7 @@
 
 ghost use Rattle.std.specs.Prelude.{◌≡◌, ◌+◌, ◌<◌, ◌≤◌, ◌++◌, length, not, nat_lt, None, Some, Ok, IfOk, option_copied};
 ghost use Rattle.dft_base.specs.Name.{IsName};
+ghost use Rattle.dft_modules.specs.SubInstances.{name_sub};
 ghost use Rattle.dft_netlist_text.specs.Modules as spec;
 ghost use Rattle.dft_verilog_tokens.specs.Reading.{Checks};
 ghost use Rattle.dft_verilog_draft.specs.Free.{AreBitsApart, new_bits};
@@ -347,6 +348,17 @@ impl<'a> ModuleDraft<'a> {
         if self.instance_count() >= MAX_INSTANCES {
             return self.refuse_instance(place, word);
         }
+        match self.put(word, Meaning::Instance)? {
+            None => Ok(()),
+            Some(_) => Err(taken(self.alloc(), place, word)),
+        }
+    }
+
+    /// Takes the name of an instance of a module. Refused where it is taken.
+    pub fn name_sub(&mut self, place: usize, word: &'a [u8]) -> Result<(), ReadError>
+        requires { IsName word.now }
+        ensures { Checks (λ _. self.new) (name_sub place word.now self.old) result }
+    {
         match self.put(word, Meaning::Instance)? {
             None => Ok(()),
             Some(_) => Err(taken(self.alloc(), place, word)),

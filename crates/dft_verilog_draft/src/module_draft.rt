@@ -178,6 +178,13 @@ impl<'a> ModuleDraft<'a> {
         }
     }
 
+    /// Its library, without all that it has said.
+    pub fn into_library(self) -> Library
+        ensures { result ≡ self.entry.library }
+    {
+        self.library
+    }
+
     // Takes a name that is free.
     pub(crate) fn take(&mut self, word: &'a [u8], meaning: Meaning) -> Result<(), AllocError>
         requires name { IsName word.now }

@@ -1,5 +1,6 @@
 pub mod OneOperandLemmas
 pub mod LoneNameLemmas
+pub mod SubLemmas
 pub mod ConnectionLemmas
 pub mod GateLemmas
 pub mod KeptLemmas

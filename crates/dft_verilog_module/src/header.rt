@@ -1,8 +1,10 @@
 //! The header of a module: names alone, or ports with their directions (IEEE 1364).
 
 ghost use Rattle.std.specs.Prelude.{◌≡◌, IfOk, OnOk};
+ghost use Rattle.dft_base.specs.Name.{IsName};
 ghost use Rattle.dft_netlist_text.specs.NetlistText as spec;
 ghost use Rattle.dft_verilog_module.specs.PortDeclarations.{port_declaration_as};
+ghost use Rattle.dft_verilog_module.specs.SaidModules.{headed, module_name};
 ghost use Rattle.dft_verilog_tokens.specs.Reading.{Reads};
 
 use dft_base::{Name, Range};
@@ -140,7 +142,35 @@ fn header<'a>(draft: &mut ModuleDraft<'a>, tokens: &mut Tokens<'a>) -> Result<()
     Ok(())
 }
 
-#[tactic(auto, unfolding(dft_netlist_text::specs::NetlistText::heading))]
+// `module` and its name.
+pub(crate) fn module_name<'a>(tokens: &mut Tokens<'a>) -> Result<&'a [u8], ReadError>
+    ensures read { Reads (λ word. word.now) (module_name tokens.old) result tokens.new }
+    ensures name { IfOk result (λ word. IsName word.now) }
+{
+    tokens.expect(TokenKind::Module)?;
+    tokens.name()
+}
+
+#[tactic(auto, unfolding(crate::specs::SaidModules::headed))]
+// The header of the module with this name.
+pub(crate) fn headed<'a>(
+    alloc: Global,
+    word: &[u8],
+    library: Library,
+    tokens: &mut Tokens<'a>,
+) -> Result<ModuleDraft<'a>, ReadError>
+    requires { IsName word.now }
+    ensures read { Reads (λ draft. draft) (headed word.now library tokens.old) result tokens.new }
+    ensures library { IfOk result (λ draft. draft.library ≡ library) }
+{
+    let name = Name::from_slice(alloc, word)?;
+    let mut draft = ModuleDraft::new(alloc, name, library);
+    header(&mut draft, tokens)?;
+    tokens.expect(TokenKind::Semicolon)?;
+    Ok(draft)
+}
+
+#[tactic(auto, unfolding(dft_netlist_text::specs::NetlistText::heading, crate::specs::SaidModules::headed))]
 /// `module`, its name and its header.
 pub fn heading<'a>(
     alloc: Global,
@@ -150,10 +180,6 @@ pub fn heading<'a>(
     ensures read { Reads (λ draft. draft) (spec.heading library tokens.old) result tokens.new }
     ensures library { IfOk result (λ draft. draft.library ≡ library) }
 {
-    tokens.expect(TokenKind::Module)?;
-    let word = tokens.name()?;
-    let mut draft = ModuleDraft::new(alloc, Name::from_slice(alloc, word)?, library);
-    header(&mut draft, tokens)?;
-    tokens.expect(TokenKind::Semicolon)?;
-    Ok(draft)
+    let word = module_name(tokens)?;
+    headed(alloc, word, library, tokens)
 }

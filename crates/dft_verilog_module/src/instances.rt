@@ -81,7 +81,7 @@ fn instances_of_cell<'a>(
 
 #[tactic(auto, unfolding(dft_netlist_text::specs::Items::instances))]
 // Instances and the semicolon behind them.
-fn instances<'a>(
+pub(crate) fn instances<'a>(
     id: CellId,
     cell: &Cell,
     draft: &mut ModuleDraft<'a>,

@@ -10,8 +10,11 @@ mod header;
 mod instances;
 mod joined_pins;
 mod module;
+mod module_instances;
 mod module_items;
+mod modules;
 mod operands;
 mod single_bits;
 
 pub use module::module_of;
+pub use modules::{ModulesReadError, SaidModule, in_module, next_module};

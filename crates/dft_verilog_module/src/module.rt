@@ -14,7 +14,7 @@ use std::alloc::Global;
 
 #[tactic(auto, unfolding(dft_netlist_text::specs::NetlistText::module_end))]
 // `endmodule`, where the ports must have been declared.
-fn module_end(draft: &ModuleDraft<'_>, tokens: &mut Tokens<'_>) -> Result<(), ReadError>
+pub(crate) fn module_end(draft: &ModuleDraft<'_>, tokens: &mut Tokens<'_>) -> Result<(), ReadError>
     ensures { Reads (λ _. draft.now) (spec.module_end draft.now tokens.old) result tokens.new }
 {
     let place = tokens.left();

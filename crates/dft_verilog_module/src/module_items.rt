@@ -33,7 +33,7 @@ fn gate_or_cell<'a>(
 
 #[tactic(auto, unfolding(dft_netlist_text::specs::Items::item))]
 // One item.
-fn item<'a>(
+pub(crate) fn item<'a>(
     library: &Library,
     draft: &mut ModuleDraft<'a>,
     tokens: &mut Tokens<'a>,

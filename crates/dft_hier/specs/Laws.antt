@@ -1,0 +1,87 @@
+-- Laws of flat designs. These are statements that nothing proves yet.
+use Rattle.std.specs.Prelude.{◌≡◌, ◌↔◌, None, Ok, ℕ, ◌<◌, ◌≤◌, Bool, List, [], ◌∷◌, length, Some, slice_get}
+use Rattle.dft_base.specs.Lexing.{Text}
+use Rattle.dft_cells.specs.declared.cell.Cell.{Cell}
+use Rattle.dft_netlist.specs.declared.instance.Instance.{Instance}
+use Rattle.dft_netlist.specs.Netlist.{Netlist}
+use Rattle.dft_netlist.specs.Logic.{Ports, logic_of}
+use Rattle.dft_netlist.specs.Settled.{Sources, IsSettled}
+use Rattle.dft_cells.specs.Cells.{find_cell}
+use Rattle.dft_netlist_text.specs.NetlistText.{StandsFor}
+use Rattle.dft_modules.specs.Modules.{Module}
+use Rattle.dft_modules.specs.ModuleTexts.{modules_of}
+use Rattle.dft_modules.specs.Sound.{AreModules}
+use Rattle.dft_hier.specs.Hierarchy.{cells_of}
+use Rattle.dft_hier.specs.Paths.{Path, Spot, module_at, net_spots, instance_spots}
+use Rattle.dft_hier.specs.Joined.{JoinedSources, IsJoinedSettled}
+use Rattle.dft_hier.specs.Refusals.{IsFlat}
+
+-- ---- instances, one for one
+
+-- the instance at a spot, and the one of this number of the flat design, are of one cell
+pub record IsInstanceAt (ms : List Module) (top : Module) (spot : Spot) (i : Instance) : Type 0 where
+  pub m : Module
+  pub at : module_at ms spot.path top ≡ Some m
+  pub there : Instance
+  pub there_at : slice_get (cells_of m.items) spot.at ≡ Some there
+  pub cell : i.cell ≡ there.cell
+
+-- the instances of the flat design are those of cells and gates at all paths, one for one and in order, with their cells
+pub record InstancesAreOne (ms : List Module) (top : Module) (design : Netlist) : Type 0 where
+  pub count : length design.instances ≡ length (instance_spots ms top)
+  pub each : (number : ℕ) (spot : Spot) (i : Instance) → slice_get (instance_spots ms top) number ≡ Some spot → slice_get design.instances number ≡ Some i → IsInstanceAt ms top spot i
+  pub once : (a b : ℕ) (spot : Spot) → slice_get (instance_spots ms top) a ≡ Some spot → slice_get (instance_spots ms top) b ≡ Some spot → a ≡ b
+  pub all : (path : Path) (m : Module) (at : ℕ) → module_at ms path top ≡ Some m → at < length (cells_of m.items) →
+      (number : ℕ) × (slice_get (instance_spots ms top) number ≡ Some (record { path = path; at = at }))
+
+-- and its nets are those at all paths
+pub record NetsAreOne (ms : List Module) (top : Module) (design : Netlist) : Type 0 where
+  pub count : length design.nets ≡ length (net_spots ms top)
+  pub once : (a b : ℕ) (spot : Spot) → slice_get (net_spots ms top) a ≡ Some spot → slice_get (net_spots ms top) b ≡ Some spot → a ≡ b
+  pub all : (path : Path) (m : Module) (at : ℕ) → module_at ms path top ≡ Some m → at < length m.nets →
+      (number : ℕ) × (slice_get (net_spots ms top) number ≡ Some (record { path = path; at = at }))
+
+abbrev pub FlatIsOneForOne : Type 0
+FlatIsOneForOne =
+    (ms : List Module) (library : List Cell) (design : Netlist) → AreModules library ms → (flat : IsFlat ms library design) → InstancesAreOne ms flat.top design × NetsAreOne ms flat.top design
+
+-- ---- settled assignments, read by path
+
+-- what the flat design's bits come from is, read by path, what the joined ones come from
+pub record AreByPath (ms : List Module) (top : Module) (flat : Sources) (joined : JoinedSources) : Type 0 where
+  pub ports : (net : ℕ) → joined.ports net ≡ flat.ports net
+  pub high : (net : ℕ) → joined.high net ≡ flat.high net
+  pub flops : (number : ℕ) (spot : Spot) → slice_get (instance_spots ms top) number ≡ Some spot → joined.flops spot.path spot.at ≡ flat.flops number
+  pub free : (number : ℕ) (spot : Spot) → slice_get (net_spots ms top) number ≡ Some spot → joined.free spot.path spot.at ≡ flat.free number
+  pub loose : (number : ℕ) (spot : Spot) (pin : ℕ) → slice_get (instance_spots ms top) number ≡ Some spot → joined.loose spot.path spot.at pin ≡ flat.loose number pin
+
+-- an assignment of the flat design is, read by path, a joined one
+abbrev pub ReadsByPath : List Module → (top : Module) → (flat : ℕ → Bool) → (joined : Path → ℕ → Bool) → Type 0
+ReadsByPath ms top flat joined = (number : ℕ) (spot : Spot) → slice_get (net_spots ms top) number ≡ Some spot → joined spot.path spot.at ≡ flat number
+
+-- past the last net, bits are free
+abbrev pub IsFreePast : Netlist → Sources → (bits : ℕ → Bool) → Type 0
+IsFreePast design s bits = (net : ℕ) → length design.nets ≤ net → bits net ≡ s.free net
+
+-- The settled assignments of the flat design, read by path, are the settled joined ones, for all ports, states, levels of clocks, held and free bits.
+abbrev pub FlatIsJoined : Type 0
+FlatIsJoined =
+    (ms : List Module) (library : List Cell) (design : Netlist) → AreModules library ms → (flat : IsFlat ms library design) (ports : Ports) (s : Sources) (j : JoinedSources) (bits : ℕ → Bool) (joined : Path → ℕ → Bool) →
+    AreByPath ms flat.top s j → ReadsByPath ms flat.top bits joined → IsFreePast design s bits →
+    (IsSettled (logic_of design ports) s bits ↔ IsJoinedSettled ms library flat.top ports j joined)
+
+-- ---- texts, and texts of one module
+
+-- a text stands for this design: its modules, flattened
+pub record Gives (library : List Cell) (text : Text) (design : Netlist) : Type 0 where
+  pub modules : List Module
+  pub said : modules_of library text ≡ Ok modules
+  pub flat : IsFlat modules library design
+
+-- a text of one module that has no cell's name stands for the design that it stands for alone
+abbrev pub OneModuleGives : Type 0
+OneModuleGives = (library : List Cell) (text : Text) (design : Netlist) → StandsFor library text design → find_cell library design.name ≡ None → Gives library text design
+
+-- a text stands for one design at most
+abbrev pub GivesOne : Type 0
+GivesOne = (library : List Cell) (text : Text) (a b : Netlist) → Gives library text a → Gives library text b → a ≡ b

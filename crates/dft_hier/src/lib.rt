@@ -1,0 +1,18 @@
+//! Netlists of several modules as one: the flat design of a hierarchy, or why it has none (IEEE 1364, structural part).
+#![tactic(auto)]
+
+mod children;
+mod components;
+mod descent;
+mod error;
+mod fitting;
+mod flat_items;
+mod flat_nets;
+mod flattening;
+mod numbered;
+mod reach;
+mod tops;
+mod weights;
+
+pub use error::HierError;
+pub use flattening::flatten;

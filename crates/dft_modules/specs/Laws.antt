@@ -1,0 +1,28 @@
+-- Laws of what texts of several modules say. These are statements that nothing proves yet.
+use Rattle.std.specs.Prelude.{◌≡◌, ℕ, ◌<◌, Bool, false, List, [], ◌∷◌, ◌++◌, Some, None, Ok, Err}
+use Rattle.std.specs.List.{All}
+use Rattle.std.specs.Str.{bytes_eq}
+use Rattle.dft_base.specs.Lexing.{Text}
+use Rattle.dft_cells.specs.declared.cell.Cell.{Cell}
+use Rattle.dft_cells.specs.Cells.{find_cell}
+use Rattle.dft_netlist_text.specs.declared.text.Cause.TheVariants as cause
+use Rattle.dft_modules.specs.declared.fault.ModulesFault.TheVariants as fault
+use Rattle.dft_modules.specs.Modules.{Module}
+use Rattle.dft_modules.specs.ModuleTexts.{modules_of}
+use Rattle.dft_modules.specs.Sound.{AreModules}
+
+-- no module has the name of a cell or of a module before it
+abbrev pub AreNew : List Cell → (before : List Module) → List Module → Type 0
+AreNew library before [] = Unit {0}
+AreNew library before (m ∷ ms) = (find_cell library m.name ≡ None) × All (λ (other : Module). bytes_eq other.name m.name ≡ false) before × AreNew library (before ++ m ∷ []) ms
+
+-- what a text says is sound, over any library
+abbrev pub SaidAreModules : Type 0
+SaidAreModules = (library : List Cell) (text : Text) (ms : List Module) → modules_of library text ≡ Ok ms → AreModules library ms × AreNew library [] ms
+
+-- a text of several modules is never refused for a cell that the library has not, or for a second module
+abbrev pub NeverForCells : Type 0
+NeverForCells = (library : List Cell) (text : Text) (word : Text) (left : ℕ) → modules_of library text ≡ Err (fault.Module (record { cause = cause.NoCell word; left = left })) → ⊥
+
+abbrev pub NeverForModules : Type 0
+NeverForModules = (library : List Cell) (text : Text) (left : ℕ) → modules_of library text ≡ Err (fault.Module (record { cause = cause.SecondModule; left = left })) → ⊥

@@ -1,0 +1,10 @@
+use Rattle.std.proofs.Common.{ap, ◌∙◌}
+use Rattle.dft_modules.specs.SubInstances.{was_named}
+use Rattle.dft_verilog_draft.specs.NameSets.{has_word}
+use Rattle.dft_verilog_draft.proofs.NameSetLemmas.{was_named_ports}
+use Rattle.dft_verilog_draft.proofs.sub_connections.SubConnections.was_named.Goals as goal
+
+pub returns : goal.returns
+returns c =
+    let word = c.args.word.now in
+    c.has.ensures ∙ ap (λ names. has_word names word) c.self.invariant ∙ was_named_ports c.self.inside.connections.items word ∙ ap (λ cs. was_named cs word) c.self.view_is
