@@ -1,5 +1,14 @@
 pub mod Hierarchy
 pub mod Flat
+pub mod Numbers
+pub mod NumberedShown
+pub mod Reach
+pub mod Searches
+pub mod SearchShown
+pub mod Descents
+pub mod DescentShown
+pub mod Walking
+pub mod TopNumbers
 pub mod Refusals
 pub mod Paths
 pub mod Joined

@@ -89,7 +89,7 @@ fn check_module(
     let mut next = 0;
     for item in module.items() {
         if let Item::Sub(sub) = item {
-            let child = children.modules[next];
+            let child = children.as_slice()[next];
             check_sub(alloc, &modules[child], &ports[child], sub)?;
             next += 1;
         }

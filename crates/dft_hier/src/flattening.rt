@@ -5,7 +5,7 @@ ghost use Rattle.dft_hier.specs.Refusals.{IsFlat, CannotFlatten};
 ghost use Rattle.dft_modules.specs.Sound.{AreModules};
 
 use crate::children::{Children, all_children, module_numbers};
-use crate::descent::{finishes, in_order};
+use crate::descent::descend;
 use crate::error::HierError;
 use crate::fitting::{all_ports, check_all};
 use crate::flat_items::add_items;
@@ -18,19 +18,20 @@ use dft_modules::Module;
 use dft_netlist::{Design, DesignBuilder, NetlistError};
 use std::alloc::{AllocError, Global};
 
-// Refused with `H3` for the first module that stands below itself.
-fn check_circles(
+// The modules in an order, each behind the modules below it. Refused with `H3` for the first module that stands below itself.
+fn ordered(
     alloc: Global,
     modules: &[Module],
     children: &[Children],
-    finishes: &[usize],
-) -> Result<(), HierError> {
-    match first_in_itself(alloc, children, finishes)? {
-        Some(module) => Err(HierError::H3 {
-            name: modules[module].name().copy(alloc)?,
-        }),
-        None => Ok(()),
+) -> Result<Vec<usize>, HierError> {
+    let walk = descend(alloc, children)?;
+    if walk.circle {
+        let first = first_in_itself(alloc, children, &walk.order)?;
+        return Err(HierError::H3 {
+            name: modules[first].name().copy(alloc)?,
+        });
     }
+    Ok(walk.order)
 }
 
 // Adds the ports of the top, and its other nets.
@@ -91,19 +92,18 @@ fn told(error: NetlistError) -> HierError {
     }
 }
 
-// The design of modules of which none stands below itself, where the walk down finished them in this order.
+// The design of modules of which none stands below itself, in an order in which each stands behind those below it.
 fn design(
     alloc: Global,
     modules: &[Module],
     children: &[Children],
-    finishes: &[usize],
+    order: &[usize],
     library: Library,
 ) -> Result<Design, HierError> {
     let top = top(alloc, children)?;
     let ports = all_ports(alloc, modules)?;
     check_all(alloc, modules, &ports, children)?;
-    let order = in_order(alloc, finishes)?;
-    let weights = weights(alloc, modules, children, &order)?;
+    let weights = weights(alloc, modules, children, order)?;
     let items = all_live_items(alloc, modules, children, &weights)?;
     let hierarchy = Hierarchy {
         modules,
@@ -127,7 +127,6 @@ pub fn flatten(alloc: Global, modules: &[Module], library: Library) -> Result<De
 {
     let numbers = module_numbers(alloc, modules)?;
     let children = all_children(alloc, modules, &numbers)?;
-    let finishes = finishes(alloc, &children)?;
-    check_circles(alloc, modules, &children, &finishes)?;
-    design(alloc, modules, &children, &finishes, library)
+    let order = ordered(alloc, modules, &children)?;
+    design(alloc, modules, &children, &order, library)
 }

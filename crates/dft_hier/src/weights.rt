@@ -55,7 +55,7 @@ fn alone(module: &Module) -> Weight {
 // A module with all below it.
 fn weight_of(module: &Module, children: &Children, weights: &[Weight]) -> Weight {
     let mut all = alone(module);
-    for child in &children.modules {
+    for child in children.as_slice() {
         all = with(all, weights[*child]);
     }
     all
@@ -123,7 +123,7 @@ fn live_items(
     for (place, item) in module.items().iter().enumerate() {
         let mut child = None;
         if let Item::Sub(_) = item {
-            child = Some(children.modules[next]);
+            child = Some(children.as_slice()[next]);
             next += 1;
         }
         all.add(LiveItem { item: place, child }, weights)?;
