@@ -4,4 +4,7 @@ pub mod NumberLemmas
 pub mod ReachLemmas
 pub mod WalkLemmas
 pub mod SearchLemmas
+pub mod TopLemmas
+pub mod FitLemmas
+pub mod ModuleLemmas
 mod FlatExamples

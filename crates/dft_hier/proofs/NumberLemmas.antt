@@ -150,7 +150,7 @@ children_known entries items k children past h = h.lost ∙ ap (λ (xs : List It
 
 -- ---- the modules of a name
 
-some_first : (number : ℕ) (ms : List Module) (name : Text) → is_some (first_from number (module_names ms) name) ≡ is_some (find_module ms name)
+pub some_first : (number : ℕ) (ms : List Module) (name : Text) → is_some (first_from number (module_names ms) name) ≡ is_some (find_module ms name)
 some_first number [] name = refl
 some_first number (m ∷ ms) name = by (bytes_eq m.name name) (some_first (suc number) ms name)
   where

@@ -9,6 +9,7 @@ pub mod Descents
 pub mod DescentShown
 pub mod Walking
 pub mod TopNumbers
+pub mod Fitting
 pub mod Refusals
 pub mod Paths
 pub mod Joined

@@ -50,6 +50,12 @@ pub record IsFirstInItself (ms : List Module) (name : Text) : Type 0 where
   pub below : IsBelow ms m.name m.name
   pub first : NoneInItself ms front
 
+-- the first module that stands below itself is told by its name
+abbrev pub TellsFirst : List Module → HierError → Type 0
+TellsFirst ms (told.H3 name) = IsFirstInItself ms name
+TellsFirst ms (told.Memory error) = Unit {0}
+TellsFirst ms _ = ⊥
+
 -- ---- connections that fit no port
 
 abbrev pub is_constant : Signal → Bool

@@ -1,13 +1,13 @@
 //! Which modules a module has instances of, by their numbers.
 
-ghost use Rattle.std.specs.Prelude.{◌≡◌, ◌++◌, ◌∷◌, [], None, IfOk, IfErr, OnOk, OnErr};
-ghost use Rattle.dft_hier.specs.Hierarchy.{subs_of};
+ghost use Rattle.std.specs.Prelude.{◌≡◌, ◌++◌, ◌∷◌, [], None, option_copied, IfOk, IfErr, OnOk, OnErr};
+ghost use Rattle.dft_hier.specs.Hierarchy.{sub_of, subs_of};
 ghost use Rattle.dft_hier.specs.Numbers.{Finds, TellsLost, children_of, first_lost, found_subs, module_names};
 ghost use Rattle.dft_hier.specs.Refusals.{first_unknown};
 
 use crate::error::HierError;
 use crate::numbered::Numbered;
-use dft_modules::{Item, Module};
+use dft_modules::{Item, Module, SubInstance};
 use std::alloc::{AllocError, Global};
 use std::marker::Model;
 
@@ -49,6 +49,17 @@ impl Children {
         ensures { result.now ≡ self.now }
     {
         &self.modules
+    }
+}
+
+/// The module instance that an item is, if it is one.
+pub fn sub_in(item: &Item) -> Option<&SubInstance>
+    ensures { option_copied result ≡ sub_of item.now }
+{
+    match item {
+        Item::Sub(sub) => Some(sub),
+        Item::Join(_) => None,
+        Item::Cell(_) => None,
     }
 }
 
