@@ -10,6 +10,11 @@ pub mod DescentShown
 pub mod Walking
 pub mod TopNumbers
 pub mod Fitting
+pub mod Weights
+pub mod LiveShown
+pub mod Growing
+pub mod NetWalks
+pub mod NetWalkShown
 pub mod Refusals
 pub mod Paths
 pub mod Joined

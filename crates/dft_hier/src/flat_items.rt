@@ -214,9 +214,9 @@ impl ItemWalk {
         visit: Visit,
         live: LiveItem,
     ) -> Result<(), NetlistError> {
-        let below = match live.child {
-            Some(child) => hierarchy.weights[child].nets,
-            None => 0,
+        let (place, below) = match live {
+            LiveItem::Own(place) => (place, 0),
+            LiveItem::Sub(sub) => (sub.item, hierarchy.weights[sub.child].nets),
         };
         self.way
             .push(Visit {
@@ -227,19 +227,16 @@ impl ItemWalk {
                 prefix: visit.prefix,
             })
             .map_err(AllocError::from)?;
-        match (
-            &hierarchy.modules[visit.module].items()[live.item],
-            live.child,
-        ) {
+        match (&hierarchy.modules[visit.module].items()[place], live) {
             (Item::Join(join), _) => Ok(add_join(builder, visit.first, *join)?),
             (Item::Cell(instance), _) => {
                 self.prefix.truncate(visit.prefix);
                 add_cell(alloc, builder, &self.prefix, visit.first, instance)
             }
-            (Item::Sub(sub), Some(child)) => {
-                self.enter(alloc, hierarchy, builder, visit, child, sub)
+            (Item::Sub(sub), LiveItem::Sub(live)) => {
+                self.enter(alloc, hierarchy, builder, visit, live.child, sub)
             }
-            (Item::Sub(_), None) => Ok(()),
+            (Item::Sub(_), LiveItem::Own(_)) => Ok(()),
         }
     }
 
@@ -252,7 +249,7 @@ impl ItemWalk {
     ) -> Result<(), NetlistError> {
         match self.way.pop() {
             None => Ok(()),
-            Some(visit) => match hierarchy.items[visit.module].items.get(visit.item) {
+            Some(visit) => match hierarchy.items[visit.module].items().get(visit.item) {
                 None => Ok(()),
                 Some(live) => self.pass(alloc, hierarchy, builder, visit, *live),
             },
