@@ -7,4 +7,6 @@ pub mod SearchLemmas
 pub mod TopLemmas
 pub mod FitLemmas
 pub mod ModuleLemmas
+pub mod HeightLemmas
+pub mod PartLemmas
 mod FlatExamples

@@ -133,3 +133,36 @@ pub ordered_apart : (g : Graph) (order : List ℕ) → IsOrder g order → NoCir
 ordered_apart g order o number leads =
     let there = o.whole number (leads_live g number number leads) in
     stands_apart g number (stand_all g order o (suc there.place) there.place number (omega arith) there.at) leads
+
+-- ---- tests of one module after another
+
+-- those so far never fall
+abbrev pub NeverSoFar : (g : Graph) (numbers : List ℕ) (number : ℕ) → Type 0
+NeverSoFar g numbers number = (k : ℕ) → k < number → (child : ℕ) → StandsIn (children_at g k) child → get_or numbers k 0 ≤ get_or numbers child 0
+
+pub never_next : (g : Graph) (numbers : List ℕ) (number : ℕ) (children : List ℕ) → length numbers ≡ length g → number < length g → children ≡ children_at g number →
+    ((child : ℕ) → StandsIn children child → get_or numbers number 0 ≤ get_or numbers child 0) → NeverSoFar g numbers number → NeverSoFar g numbers (number + 1)
+never_next g numbers number children count live are here before k less child h = elim (cases_lt k number) [
+  | inl early ↦ before k early child h
+  | inr late ↦ (
+      let e : k ≡ number = omega arith in
+      let below : StandsIn children child = subst (λ (xs : List ℕ). StandsIn xs child) (sym are) (subst (λ (j : ℕ). StandsIn (children_at g j) child) e h) in
+      let r = here child below in
+      subst (λ (j : ℕ). get_or numbers j 0 ≤ get_or numbers child 0) (sym e) r)
+]
+
+pub never_all : (g : Graph) (numbers : List ℕ) (number : ℕ) → length g ≤ number → NeverSoFar g numbers number → NeverFalls g numbers
+never_all g numbers number past before k child h = before k (let live = above_live g k child h in omega arith) child h
+
+pub own_next : (g : Graph) (numbers : List ℕ) (number : ℕ) (children : List ℕ) → children ≡ children_at g number → ((child : ℕ) → StandsIn children child → get_or numbers number 0 ≡ get_or numbers child 0 → ⊥) →
+    ((k : ℕ) → k < number → HasOwn g numbers k → ⊥) → (k : ℕ) → k < number + 1 → HasOwn g numbers k → ⊥
+own_next g numbers number children are here before k less own = elim (cases_lt k number) [
+  | inl early ↦ before k early own
+  | inr late ↦ (
+      let e : k ≡ number = omega arith in
+      let below : StandsIn children own.child = subst (λ (xs : List ℕ). StandsIn xs own.child) (sym are) (subst (λ (j : ℕ). StandsIn (children_at g j) own.child) e own.below) in
+      here own.child below (ap (λ (j : ℕ). get_or numbers j 0) (sym e) ∙ own.same))
+]
+
+pub first_on_circle : (g : Graph) (numbers : List ℕ) (first : ℕ) → NeverFalls g numbers → first < length g → ((k : ℕ) → k < first → HasOwn g numbers k → ⊥) → Leads g first first → IsFirstOnCircle g first
+first_on_circle g numbers first never live before leads = record { live = live; leads = leads; before = λ k less. apart g numbers k never (before k less) }

@@ -2,7 +2,7 @@
 use Rattle.std.proofs.Common.{ℕ, zero, suc, ◌+◌, ◌-◌, ◌<◌, ◌≤◌, ◌≡◌, ◌⊎◌, inl, inr, Bool, true, false, not, cond, List, [], ◌∷◌, ◌++◌, length, drop, get_or, set, replicate, Option, None, Some, slice_get, refl, sym, ap, subst, arith, ◌∙◌, length-set, true≢false}
 use Rattle.std.proofs.lemmas.List.{get_or-set_same, get_or-set_other, get_or_past, length-replicate, drop_more}
 use Rattle.std.proofs.lemmas.Bool.{cases_eq, cases_lt}
-use Rattle.std.proofs.lemmas.Option.{slice_get_within}
+use Rattle.std.proofs.lemmas.Option.{slice_get_within, slice_get-get_or}
 use Rattle.dft_base.proofs.ListLemmas.{get_left, length_push, none_marked}
 use Rattle.dft_hier.specs.Reach.{Graph, AreBelow, AreWithin, StandsIn, children_at, Leads, Child, Deeper}
 use Rattle.dft_hier.specs.Searches.{Met, added, found, found_all}
@@ -215,3 +215,20 @@ no_more (x ∷ xs) (suc place) e = let r = no_more xs place e in omega arith
 
 pub all_passed : (g : Graph) (start place : ℕ) (s : Met) → HasBegun g start place s → length g ≤ place → length s.ahead ≤ place
 all_passed g start place s h past = let r = h.search.room in omega arith
+
+-- the next module of a search is there, and so are those of its instances
+pub next_live : (g : Graph) (start place : ℕ) (s : Met) (next : ℕ) → AreWithin (length g) g → start < length g → slice_get s.ahead place ≡ Some next → HasBegun g start place s → next < length g
+next_live g start place s next within live at h = by next (h.search.led next (record { place = place; at = at }))
+  where
+    by : (below : ℕ) → Leads g start below → below < length g
+    by below (Child child) = children_below g start within below child
+    by below (Deeper {between = between} child more) = last between below more
+      where
+        last : (above below : ℕ) → Leads g above below → below < length g
+        last above below (Child child) = children_below g above within below child
+        last above below (Deeper {between = between} child more) = last between below more
+
+pub next_below : (g : Graph) (start place : ℕ) (s : Met) (next : ℕ) (children : List ℕ) → AreWithin (length g) g → next < length g → children ≡ children_at g next → HasBegun g start place s → AreBelow (length s.met) children
+next_below g start place s next children within live are h =
+    let c = h.search.count in
+    subst (λ (xs : List ℕ). AreBelow (length s.met) xs) (sym are) (λ k d less. (let r = children_below g next within (get_or (children_at g next) k d) (record { place = k; at = slice_get-get_or (children_at g next) k d less }) in omega arith))
