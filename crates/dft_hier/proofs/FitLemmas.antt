@@ -3,7 +3,9 @@ use Rattle.std.proofs.Common.{ℕ, zero, suc, ◌+◌, ◌-◌, ◌<◌, ◌≤�
 use Rattle.std.specs.List.{cons_option, filter_map}
 use Rattle.std.specs.Option.{option_or}
 use Rattle.std.specs.Str.{bytes_eq}
-use Rattle.std.proofs.lemmas.List.{drop_more}
+use Rattle.std.proofs.lemmas.List.{drop_more, get_or_append_left, get_or_at}
+use Rattle.std.proofs.lemmas.Bool.{cases_lt}
+use Rattle.dft_base.proofs.ListLemmas.{length_push}
 use Rattle.std.proofs.lemmas.List.Folds.{find-append}
 use Rattle.std.proofs.lemmas.Option.{slice_get_within, slice_get-get_or, get_or_from_slice_get}
 use Rattle.dft_base.specs.Lexing.{Text}
@@ -98,7 +100,10 @@ pub next_of : (xs : List ℕ) (k : ℕ) (first : Option ℕ) (rest : List (Optio
 next_of [] zero first rest e = absurd (let f : ⊥ = cc in f)
 next_of [] (suc k) first rest e = absurd (let f : ⊥ = cc in f)
 next_of (x ∷ xs) zero first rest e = record { less = omega arith; is = cc; more = cc }
-next_of (x ∷ xs) (suc k) first rest e = let r = next_of xs k first rest e in record { less = (let l = r.less in omega arith); is = r.is; more = r.more }
+next_of (x ∷ xs) (suc k) first rest e =
+    let r = next_of xs k first rest e in
+    let step : suc k + 1 ≡ suc (k + 1) = omega arith in
+    record { less = (let l = r.less in omega arith); is = r.is; more = r.more ∙ ap (λ (n : ℕ). map Some (drop n (x ∷ xs))) (sym step) }
 
 -- the items from one on: the numbers of their modules, and the first connection among them that fits no port
 pub record CheckedSoFar (ms : List Module) (items : List Item) (children : List ℕ) (k next : ℕ) : Type 0 where
@@ -134,7 +139,7 @@ checked_over ms items children k next i less is none h =
     record { few = (let f = h.few in omega arith); left = sym (ap (numbers ms) cut) ∙ h.left; misfit = h.misfit ∙ ap (first_misfit ms) cut }
 
 or_tells : (a b : Option Connection) (error : HierError) → TellsMisfit a error → TellsMisfit (option_or a b) error
-or_tells None b (told.H5 place name) t = absurd (let e = t.1 in let f : ⊥ = cc in f)
+or_tells None b (told.H5 place name) t = absurd t
 or_tells (Some c) b (told.H5 place name) t = t
 or_tells a b (told.Memory error) t = tt
 or_tells a b _ t = t
@@ -224,3 +229,28 @@ misfits_here ms k m error less is h t =
 
 pub misfits_none : (ms : List Module) (k : ℕ) → length ms ≤ k → MisfitsSoFar ms k → first_misfit ms (all_subs ms) ≡ None
 misfits_none ms k past h = h ∙ ap (λ (xs : List Module). first_misfit ms (all_subs xs)) (drop_past ms k past)
+
+-- ---- the ports of one module more
+
+pub ports_next : (ms : List Module) (m : Module) (k : ℕ) (old new : List (List Entry)) (entries : List Entry) → k < length ms → m ≡ get_or ms k m → new ≡ old ++ entries ∷ [] → Finds entries (port_names m.ports) → PortsSoFar ms k old → PortsSoFar ms (k + 1) new
+ports_next ms m k old new entries less is more finds h =
+    let size = h.count in
+    let there : slice_get ms k ≡ Some m = slice_get-get_or ms k m less ∙ ap (λ (x : Module). Some x) (sym is) in
+    record {
+      count = ap (λ (xs : List (List Entry)). length xs) more ∙ length_push old entries ∙ (let e : suc (length old) ≡ k + 1 = omega arith in e);
+      each = λ number x within at. elim (cases_lt number k) [
+        | inl early ↦ subst (λ (es : List Entry). Finds es (port_names x.ports)) (sym (ap (λ (xs : List (List Entry)). get_or xs number []) more ∙ get_or_append_left old (entries ∷ []) [] number (omega arith))) (h.each number x early at)
+        | inr late ↦ (
+            let e : number ≡ k = omega arith in
+            let f : Some x ≡ Some m = sym at ∙ ap (slice_get ms) e ∙ there in
+            let g : m ≡ x = cc in
+            let here : get_or new number [] ≡ entries = ap (λ (xs : List (List Entry)). get_or xs number []) more ∙ get_or_at old entries [] [] number (let d : length old ≡ number = omega arith in d) in
+            subst (λ (es : List Entry). Finds es (port_names x.ports)) (sym here) (subst (λ (y : Module). Finds entries (port_names y.ports)) g finds))
+      ];
+    }
+
+pub ports_all : (ms : List Module) (k : ℕ) (ports : List (List Entry)) → length ms ≤ k → k ≤ length ms → PortsSoFar ms k ports → ArePortsFound ms ports
+ports_all ms k ports past within h = record {
+  count = (let c = h.count in omega arith);
+  each = λ number m at. h.each number m (let l = slice_get_within ms number m at in omega arith) at;
+}

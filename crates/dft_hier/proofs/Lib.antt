@@ -9,4 +9,10 @@ pub mod FitLemmas
 pub mod ModuleLemmas
 pub mod HeightLemmas
 pub mod PartLemmas
+pub mod WeightLemmas
+pub mod LiveLemmas
+pub mod LiveSteps
+pub mod NetWalkLemmas
+pub mod GrowLemmas
+pub mod RefusalLemmas
 mod FlatExamples

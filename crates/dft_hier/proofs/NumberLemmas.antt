@@ -101,13 +101,13 @@ tells_or (Some s) b (told.H2 name) told = told
 tells_or a b (told.Memory error) told = tt
 tells_or a b _ told = told
 
-drop_past : {T : Type 0} (xs : List T) (k : ℕ) → length xs ≤ k → drop k xs ≡ []
+pub drop_past : {T : Type 0} (xs : List T) (k : ℕ) → length xs ≤ k → drop k xs ≡ []
 drop_past [] zero past = refl
 drop_past [] (suc k) past = refl
 drop_past (x ∷ xs) zero past = absurd (omega (arith, past))
 drop_past (x ∷ xs) (suc k) past = drop_past xs k (omega (arith, past))
 
-drop_next : {T : Type 0} (xs : List T) (k : ℕ) (x : T) → k < length xs → x ≡ get_or xs k x → drop k xs ≡ x ∷ drop (k + 1) xs
+pub drop_next : {T : Type 0} (xs : List T) (k : ℕ) (x : T) → k < length xs → x ≡ get_or xs k x → drop k xs ≡ x ∷ drop (k + 1) xs
 drop_next {T = T} xs k x less is = drop_more xs k x less ∙ ap (λ (y : T). y ∷ drop (k + 1) xs) (sym is)
 
 -- the instances among the items so far are found, and the first that is lost is among the others

@@ -10,28 +10,13 @@ use Rattle.dft_hier.specs.Hierarchy.{subs_of, sub_of, find_module}
 use Rattle.dft_hier.specs.Numbers.{number_of, numbers_of_subs, children_of}
 use Rattle.dft_hier.specs.Reach.{Graph, StandsIn, children_at}
 use Rattle.dft_hier.specs.Flat.{Parts, no_parts, and_parts, Giving, sub_parts, item_parts, parts_within, inside, moved_join, moved_instance, connection_joins}
+use Rattle.dft_hier.specs.FlatNets.{NetsGiving, sub_nets, subs_nets, nets_in}
 use Rattle.dft_hier.proofs.FitLemmas.{children_of_at}
 use Rattle.dft_hier.proofs.HeightLemmas.{IsTall, Grows}
 use Rattle.dft_hier.proofs.ModuleLemmas.{number_there}
 use Rattle.dft_hier.proofs.NumberLemmas.{module_there}
 
 -- ---- nets alone
-
-abbrev pub NetsGiving : Type 0
-NetsGiving = (prefix : Text) → Module → List Text
-
-abbrev pub sub_nets : NetsGiving → (prefix : Text) → SubInstance → Option Module → List Text
-sub_nets give prefix s None = []
-sub_nets give prefix s (Some m) = give (inside prefix s.name) m
-
-abbrev pub subs_nets : NetsGiving → List Module → (prefix : Text) → List SubInstance → List Text
-subs_nets give ms prefix [] = []
-subs_nets give ms prefix (s ∷ subs) = sub_nets give prefix s (find_module ms s.of) ++ subs_nets give ms prefix subs
-
--- the nets of a module, and then those below it
-abbrev pub nets_in : (depth : ℕ) → List Module → NetsGiving
-nets_in zero ms prefix m = []
-nets_in (suc depth) ms prefix m = map (λ name. prefix ++ name) m.nets ++ subs_nets (nets_in depth ms) ms prefix (subs_of m.items)
 
 sub_nets_same : (give : Giving) (nets : NetsGiving) (prefix : Text) (outside first : ℕ) (s : SubInstance) (o : Option Module) → ((prefix : Text) (first : ℕ) (m : Module) → (give prefix first m).nets ≡ nets prefix m) → (sub_parts give prefix outside first s o).nets ≡ sub_nets nets prefix s o
 sub_nets_same give nets prefix outside first s None same = refl

@@ -65,7 +65,7 @@ refilled old new count size same =
 -- ---- the modules that are not marked
 
 -- those that pass a test, by their numbers
-unmarked_from : (from : ℕ) (marks : List Bool) → List ℕ
+abbrev unmarked_from : (from : ℕ) (marks : List Bool) → List ℕ
 unmarked_from from [] = []
 unmarked_from from (true ∷ marks) = unmarked_from (from + 1) marks
 unmarked_from from (false ∷ marks) = from ∷ unmarked_from (from + 1) marks
@@ -96,7 +96,7 @@ unmarked_count from (false ∷ marks) = let r = unmarked_count (from + 1) marks 
 pub tops_count : (g : Graph) (marks : List Bool) → AreInstantiated g marks → count_by not marks ≡ length (top_numbers g)
 tops_count g marks h = sym (ap (λ (xs : List ℕ). length xs) (tops_unmarked g marks h) ∙ unmarked_count 0 marks)
 
-first_unmarked : (from : ℕ) (marks : List Bool) (k : ℕ) → k < length marks → get_or marks k true ≡ false → count_by not marks ≡ 1 → unmarked_from from marks ≡ from + k ∷ []
+first_unmarked : (from : ℕ) (marks : List Bool) (k : ℕ) → k < length marks → get_or marks k true ≡ false → count_by not marks ≡ 1 → unmarked_from from marks ≡ (from + k) ∷ []
 first_unmarked from [] k less is one = absurd (omega (arith, less))
 first_unmarked from (true ∷ marks) zero less is one = absurd (true≢false is)
 first_unmarked from (true ∷ marks) (suc k) less is one = first_unmarked (from + 1) marks k (omega (arith, less)) is (omega (arith, one)) ∙ (let next : from + 1 + k ≡ from + suc k = omega arith in ap (λ (n : ℕ). n ∷ []) next)

@@ -1,5 +1,5 @@
 -- Ports of modules by their names, and the connection that is told where it fits no port.
-use Rattle.std.specs.Prelude.{ℕ, ◌≡◌, ◌<◌, List, [], length, Option, Some, None, option_map, slice_get, slice_index_or}
+use Rattle.std.specs.Prelude.{ℕ, ◌≡◌, ◌<◌, List, [], length, Option, Some, None, MatchOption, slice_get, slice_index_or}
 use Rattle.dft_hier.specs.declared.error.HierError.{HierError}
 use Rattle.dft_hier.specs.declared.error.HierError.TheVariants as told
 use Rattle.dft_modules.specs.declared.connections.Connection.{Connection}
@@ -13,6 +13,6 @@ pub record ArePortsFound (ms : List Module) (ports : List (List Entry)) : Type 0
 
 -- a connection that fits no port is told by its place and its port's name
 abbrev pub TellsMisfit : Option Connection → HierError → Type 0
-TellsMisfit misfit (told.H5 place name) = (c : Connection) × (misfit ≡ Some c) × (place ≡ c.place) × (name ≡ c.port)
+TellsMisfit misfit (told.H5 place name) = MatchOption misfit ⊥ (λ c. (place ≡ c.place) × (name ≡ c.port))
 TellsMisfit misfit (told.Memory error) = Unit {0}
 TellsMisfit misfit _ = ⊥

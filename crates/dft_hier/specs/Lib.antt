@@ -13,6 +13,7 @@ pub mod Fitting
 pub mod Weights
 pub mod LiveShown
 pub mod Growing
+pub mod FlatNets
 pub mod NetWalks
 pub mod NetWalkShown
 pub mod Refusals

@@ -1,16 +1,17 @@
 //! The nets of a flat design: those of a module, and then those of each module instance below it, without recursion.
 
-ghost use Rattle.std.specs.Prelude.{◌≡◌, ◌≤◌, ◌<◌, ◌++◌, ◌∷◌, [], Some, map, length, take, slice_get, IfOk, IfSome, IfNone, OnOk};
-ghost use Rattle.dft_base.specs.Name.{IsName};
+ghost use Rattle.std.specs.Prelude.{◌≡◌, ◌<◌, ◌++◌, ◌∷◌, [], Some, map, length, take, slice_get, IfOk, IfSome, IfNone, OnOk, MatchResult};
 ghost use Rattle.dft_hier.specs.Flat.{inside};
-ghost use Rattle.dft_hier.specs.Growing.{Grows, IsPrefix};
-ghost use Rattle.dft_hier.specs.NetWalks.{at_module, gone_on};
-ghost use Rattle.dft_netlist_text.specs.NetlistText.{add_nets};
+ghost use Rattle.dft_hier.specs.FlatNets.{IsNetLaid, live_at, nets_below};
+ghost use Rattle.dft_hier.specs.Growing.{Grows, IsPrefix, IsRefusal};
+ghost use Rattle.dft_hier.specs.NetWalks.{IsNetWalk, at_module, gone_on, way_size};
+ghost use Rattle.dft_netlist_text.specs.NetlistText.{Grown, add_nets};
 
+use crate::children::sub_in;
 use crate::numbered::Numbered;
 use crate::weights::{LiveItems, LiveSub, Weight};
 use dft_base::Name;
-use dft_modules::{Item, Module};
+use dft_modules::Module;
 use dft_netlist::{DesignBuilder, NetlistError};
 use std::alloc::{AllocError, Global};
 use std::marker::Model;
@@ -43,10 +44,11 @@ pub fn prefixed(alloc: Global, prefix: &[u8], name: &Name) -> Result<Name, Alloc
 }
 
 /// Goes from the prefix of a module to that of an instance in it.
-pub fn go_inside(prefix: &mut Vec<u8>, length: usize, name: &Name) -> Result<(), AllocError>
-    ensures { OnOk result (prefix.new.items ≡ inside (take length prefix.old.items) name.now) }
+pub fn go_inside(prefix: &mut Vec<u8>, kept: usize, name: &Name) -> Result<(), AllocError>
+    ensures inside { OnOk result (prefix.new.items ≡ inside (take kept prefix.old.items) name.now) }
+    ensures printed { OnOk result (IsPrefix prefix.old.items → IsPrefix prefix.new.items) }
 {
-    prefix.truncate(length);
+    prefix.truncate(kept);
     prefix.extend_from_slice(name.as_slice())?;
     prefix.push(b'/')?;
     Ok(())
@@ -106,6 +108,7 @@ impl NetWalk {
     fn pop(&mut self) -> Option<Visit>
         ensures some { IfSome result (λ visit. self.old ≡ record self.new { way = self.new.way ++ visit ∷ [] }) }
         ensures none { IfNone result (self.old.way ≡ []) }
+        ensures same { IfNone result (self.new ≡ self.old) }
     {
         self.way.pop()
     }
@@ -119,7 +122,8 @@ impl NetWalk {
 
     // Past an instance of the module that was visited, and into the instance's module.
     fn go_on(&mut self, visit: Visit, name: &Name, child: usize) -> Result<(), AllocError>
-        ensures { OnOk result (self.new ≡ gone_on self.old visit name.now child) }
+        ensures stand { OnOk result (self.new ≡ gone_on self.old visit name.now child) }
+        ensures printed { OnOk result (IsPrefix self.old.prefix → IsPrefix self.new.prefix) }
     {
         go_inside(&mut self.prefix, visit.prefix, name)?;
         self.way.push(Visit {
@@ -136,61 +140,50 @@ impl NetWalk {
     }
 }
 
-// The name of the module instance that an item is.
-fn instance_name(item: &Item) -> Option<&Name> {
-    match item {
-        Item::Sub(sub) => Some(&sub.name),
-        Item::Join(_) => None,
-        Item::Cell(_) => None,
-    }
-}
-
 // Into an instance with nets in it, whose module's nets are added.
 fn enter(
     alloc: Global,
-    hierarchy: Hierarchy<'_>,
+    hierarchy: &Hierarchy<'_>,
     builder: &mut DesignBuilder,
     walk: &mut NetWalk,
     visit: Visit,
     live: LiveSub,
-) -> Result<(), NetlistError> {
-    let item = &hierarchy.modules[visit.number].items()[live.item];
-    if let Some(name) = instance_name(item) {
-        walk.go_on(visit, name, live.child)?;
-        let names = hierarchy.modules[live.child].nets();
-        add_names(alloc, builder, walk.prefix(), names)?;
-    }
-    Ok(())
-}
-
-// One step from a module that was taken from the way: into its next instance, or back.
-fn step(
-    alloc: Global,
-    hierarchy: Hierarchy<'_>,
-    builder: &mut DesignBuilder,
-    walk: &mut NetWalk,
-    visit: Visit,
-) -> Result<(), NetlistError> {
-    match hierarchy.items[visit.number]
-        .with_nets()
-        .get(visit.next)
-        .copied()
-    {
-        None => Ok(()),
-        Some(live) => enter(alloc, hierarchy, builder, walk, visit, live),
+) -> Result<(), NetlistError>
+    requires laid { IsNetLaid hierarchy.now.modules.now hierarchy.now.items.now }
+    requires there { visit.number < length hierarchy.now.modules.now }
+    requires next { slice_get (live_at hierarchy.now.items.now visit.number) visit.next ≡ Some live }
+    requires printed { IsPrefix walk.old.prefix }
+    ensures walks { (whole : Grown) → IsNetWalk hierarchy.now.modules.now hierarchy.now.items.now whole (record walk.old { way = walk.old.way ++ visit ∷ [] }) builder.old → MatchResult result (λ _. IsNetWalk hierarchy.now.modules.now hierarchy.now.items.now whole walk.new builder.new) (IsRefusal whole) }
+    ensures fewer { OnOk result (way_size hierarchy.now.modules.now hierarchy.now.items.now walk.new.way < way_size hierarchy.now.modules.now hierarchy.now.items.now (walk.old.way ++ visit ∷ [])) }
+{
+    let items = hierarchy.modules[visit.number].items();
+    match sub_in(&items[live.item]) {
+        Some(sub) => {
+            walk.go_on(visit, &sub.name, live.child)?;
+            let names = hierarchy.modules[live.child].nets();
+            add_names(alloc, builder, walk.prefix(), names)
+        }
+        None => unreachable!(),
     }
 }
 
 /// Adds the nets of all instances below a module, whose own nets are there.
 pub fn add_nets_below(
     alloc: Global,
-    hierarchy: Hierarchy<'_>,
+    hierarchy: &Hierarchy<'_>,
     builder: &mut DesignBuilder,
     top: usize,
-) -> Result<(), NetlistError> {
+) -> Result<(), NetlistError>
+    requires laid { IsNetLaid hierarchy.now.modules.now hierarchy.now.items.now }
+    requires there { top < length hierarchy.now.modules.now }
+    ensures { Grows (add_nets (nets_below hierarchy.now.modules.now hierarchy.now.items.now top) builder.old) result builder.new }
+{
     let mut walk = NetWalk::at(alloc, top)?;
     while let Some(visit) = walk.pop() {
-        step(alloc, hierarchy, builder, &mut walk, visit)?;
+        let live = hierarchy.items[visit.number].with_nets();
+        if let Some(next) = live.get(visit.next).copied() {
+            enter(alloc, hierarchy, builder, &mut walk, visit, next)?;
+        }
     }
     Ok(())
 }

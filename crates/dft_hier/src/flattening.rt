@@ -67,7 +67,7 @@ fn add_all(
     top: usize,
 ) -> Result<(), NetlistError> {
     add_top(alloc, builder, &hierarchy.modules[top])?;
-    add_nets_below(alloc, hierarchy, builder, top)?;
+    add_nets_below(alloc, &hierarchy, builder, top)?;
     add_items(alloc, hierarchy, builder, top)
 }
 

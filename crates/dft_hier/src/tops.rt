@@ -1,6 +1,6 @@
 //! The modules that no module has an instance of.
 
-ghost use Rattle.std.specs.Prelude.{◌≡◌, ◌<◌, ◌||◌, ◌==◌, ℕ, ◌∷◌, [], false, not, length, count_by, slice_index_or, IfOk, IfErr};
+ghost use Rattle.std.specs.Prelude.{◌≡◌, ◌<◌, ◌||◌, ◌==◌, ℕ, false, true, not, length, count_by, slice_index_or, IfOk, IfErr};
 ghost use Rattle.std.specs.List.{list_any};
 ghost use Rattle.dft_hier.specs.Reach.{AreBelow, AreWithin};
 ghost use Rattle.dft_hier.specs.TopNumbers.{AreInstantiated, IsTop, TellsTops};
@@ -38,16 +38,31 @@ fn unmarked(marks: &[bool]) -> usize
     marks.iter().filter(|mark| !**mark).count()
 }
 
+// The first module that is not marked, where one is not.
+fn first_unmarked(marks: &[bool]) -> usize
+    requires { count_by not marks.now ≡ 1 }
+    ensures live { result < length marks.now }
+    ensures unmarked { slice_index_or marks.now result true ≡ false }
+{
+    for (number, mark) in marks.iter().enumerate() {
+        if !*mark {
+            return number;
+        }
+    }
+    unreachable!()
+}
+
 /// The one module that no module has an instance of. Refused with `H4` where there is another number of them.
 pub fn top(alloc: Global, children: &[Children]) -> Result<usize, HierError>
     requires { AreWithin (length children.now) children.now }
     ensures ok { IfOk result (λ top. IsTop children.now top) }
+    ensures live { IfOk result (λ top. top < length children.now) }
     ensures refused { IfErr result (TellsTops children.now) }
 {
     let marks = instantiated(alloc, children)?;
     let count = unmarked(&marks);
-    match marks.iter().position(|mark| !*mark) {
-        Some(number) if count == 1 => Ok(number),
-        _ => Err(HierError::H4 { count }),
+    if count != 1 {
+        return Err(HierError::H4 { count });
     }
+    Ok(first_unmarked(&marks))
 }

@@ -192,12 +192,13 @@ fn live_items(
     let mut all = LiveItems::new(alloc);
     let mut next = 0;
     for (place, item) in owner.items().iter().enumerate() {
-        if sub_in(item).is_some() {
-            let child = children[next];
-            all.add_sub(weights[child], LiveSub { item: place, child })?;
-            next += 1;
-        } else {
-            all.add_own(place)?;
+        match sub_in(item) {
+            Some(_sub) => {
+                let child = children[next];
+                all.add_sub(weights[child], LiveSub { item: place, child })?;
+                next += 1;
+            }
+            None => all.add_own(place)?,
         }
     }
     Ok(all)

@@ -1,4 +1,4 @@
-use Rattle.std.proofs.Common.{◌≡◌, ◌<◌, ℕ, List, [], length, sym, ap, subst, ◌∙◌, arith, refl}
+use Rattle.std.proofs.Common.{◌≡◌, ◌<◌, ℕ, List, [], length, sym, ap, ◌∙◌, arith, rules}
 use Rattle.std.proofs.lemmas.List.{get_or_read}
 use Rattle.dft_hier.specs.Reach.{AreBelow}
 use Rattle.dft_hier.proofs.SearchLemmas.{begins, goes_on, no, no_more, all_passed, next_live, next_below}
@@ -34,3 +34,8 @@ returns-clause-no c =
     let past = c.loop-place-test.false in
     let end = c.loop-place.auto.place-end in
     λ is. no c.args.children.now c.args.number c.loop-place.place c.loop-place.search c.loop-place.invariant (all_passed c.args.children.now c.args.number c.loop-place.place c.loop-place.search c.loop-place.invariant (omega arith)) (sym c.has_met-2.ensures ∙ is)
+
+pub offset_bounds-children-next : goal.offset_bounds-children-next
+offset_bounds-children-next c =
+    let live : c.in-Some.next < length c.args.children.now = next_live c.args.children.now c.args.number c.loop-place.place c.loop-place.search c.in-Some.next c.requires.within c.requires.live (sym c.at.ensures ∙ c.in-Some.is) c.loop-place.invariant in
+    search rules
