@@ -15,4 +15,6 @@ pub mod LiveSteps
 pub mod NetWalkLemmas
 pub mod GrowLemmas
 pub mod RefusalLemmas
+pub mod LaidLemmas
+pub mod OneDesign
 mod FlatExamples

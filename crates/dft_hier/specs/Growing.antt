@@ -19,6 +19,10 @@ IsRefusal outcome (error.Memory failed) = Unit {0}
 abbrev pub Grows : {X : Type 0} → Grown → Result X NetlistError → (new : Netlist) → Type 0
 Grows outcome result new = MatchResult result (λ _. outcome ≡ Ok new) (IsRefusal outcome)
 
+-- the outcome is the netlist that is given, or its refusal
+abbrev pub Builds : Grown → Result Netlist NetlistError → Type 0
+Builds outcome result = MatchResult result (λ netlist. outcome ≡ Ok netlist) (IsRefusal outcome)
+
 -- each byte may stand in a name
 abbrev pub IsPrefix : List ℕ → Type 0
 IsPrefix bytes = All (λ b. (33 ≤ b) × (b ≤ 126)) bytes

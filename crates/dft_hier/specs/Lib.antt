@@ -17,6 +17,8 @@ pub mod FlatNets
 pub mod NetWalks
 pub mod NetWalkShown
 pub mod Refusals
+pub mod Moving
+pub mod Laid
 pub mod Paths
 pub mod Joined
 pub mod Laws

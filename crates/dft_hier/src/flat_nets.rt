@@ -8,7 +8,6 @@ ghost use Rattle.dft_hier.specs.NetWalks.{IsNetWalk, at_module, gone_on, way_siz
 ghost use Rattle.dft_netlist_text.specs.NetlistText.{Grown, add_nets};
 
 use crate::children::sub_in;
-use crate::numbered::Numbered;
 use crate::weights::{LiveItems, LiveSub, Weight};
 use dft_base::Name;
 use dft_modules::Module;
@@ -16,11 +15,10 @@ use dft_netlist::{DesignBuilder, NetlistError};
 use std::alloc::{AllocError, Global};
 use std::marker::Model;
 
-/// The modules of a hierarchy, their ports by their names, the items of each that give something, and their weights.
+/// The modules of a hierarchy, the items of each that give something, and their weights.
 #[derive(Clone, Copy)]
 pub struct Hierarchy<'a> {
     pub modules: &'a [Module],
-    pub ports: &'a [Numbered<'a>],
     pub items: &'a [LiveItems],
     pub weights: &'a [Weight],
 }

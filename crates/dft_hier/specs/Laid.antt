@@ -1,0 +1,56 @@
+-- Modules that are laid out to be flattened, and their top.
+use Rattle.std.specs.Prelude.{ℕ, ◌≡◌, List, [], Option, Some, None, Ok, slice_get}
+use Rattle.dft_base.specs.Lexing.{Text}
+use Rattle.dft_cells.specs.declared.cell.Cell.{Cell}
+use Rattle.dft_netlist.specs.declared.error.NetlistError.{NetlistError}
+use Rattle.dft_netlist.specs.declared.error.NetlistError.TheVariants as netlist
+use Rattle.dft_netlist_text.specs.NetlistText.{Grown}
+use Rattle.dft_modules.specs.Modules.{Module}
+use Rattle.dft_modules.specs.Sound.{AreModules}
+use Rattle.dft_hier.specs.declared.error.HierError.{HierError}
+use Rattle.dft_hier.specs.declared.error.HierError.TheVariants as told
+use Rattle.dft_hier.specs.declared.flat_nets.Hierarchy.{Hierarchy}
+use Rattle.dft_hier.specs.Flat.{flat_netlist}
+use Rattle.dft_hier.specs.Numbers.{children_of}
+use Rattle.dft_hier.specs.Reach.{NoCircle}
+use Rattle.dft_hier.specs.Refusals.{IsJoinable, first_misfit, first_unknown}
+use Rattle.dft_hier.specs.Hierarchy.{all_subs}
+use Rattle.dft_hier.specs.Weights.{AreLive, AreWeights}
+
+-- the module of this number is the top of a hierarchy that can be joined
+pub record IsTopOf (ms : List Module) (number : ℕ) : Type 0 where
+  pub top : Module
+  pub at : slice_get ms number ≡ Some top
+  pub joinable : IsJoinable ms top
+
+-- sound modules that can be joined, with their weights and live items
+pub record IsLaid (library : List Cell) (h : Hierarchy) : Type 0 where
+  pub sound : AreModules library h.modules.now
+  pub known : first_unknown h.modules.now ≡ None
+  pub apart : NoCircle (children_of h.modules.now)
+  pub fitting : first_misfit h.modules.now (all_subs h.modules.now) ≡ None
+  pub weights : AreWeights h.modules.now (children_of h.modules.now) h.weights.now
+  pub items : AreLive h.modules.now (children_of h.modules.now) h.weights.now h.items.now
+
+-- the name of a module, and the flat netlist where it is the top, by its number
+abbrev pub name_in : Option Module → Text
+name_in None = []
+name_in (Some m) = m.name
+
+abbrev pub name_at : List Module → (number : ℕ) → Text
+name_at ms number = name_in (slice_get ms number)
+
+abbrev pub flat_in : List Module → List Cell → Option Module → Grown
+flat_in ms library None = Ok (record { name = []; library = library; ports = []; nets = []; instances = []; joins = [] })
+flat_in ms library (Some m) = flat_netlist ms library m
+
+abbrev pub flat_at : List Module → List Cell → (number : ℕ) → Grown
+flat_at ms library number = flat_in ms library (slice_get ms number)
+
+-- how a refusal of the flat netlist is told
+abbrev pub told_of : NetlistError → HierError
+told_of (netlist.Memory error) = told.Memory error
+told_of (netlist.MultipleDrivers net) = told.Netlist (netlist.MultipleDrivers net)
+told_of (netlist.Loop net) = told.Netlist (netlist.Loop net)
+told_of (netlist.DuplicateName name) = told.Netlist (netlist.DuplicateName name)
+told_of (netlist.TooMany what limit) = told.Netlist (netlist.TooMany what limit)
