@@ -16,5 +16,7 @@ pub mod NetWalkLemmas
 pub mod GrowLemmas
 pub mod RefusalLemmas
 pub mod LaidLemmas
+pub mod JoinLemmas
+pub mod FlattenLemmas
 pub mod OneDesign
 mod FlatExamples

@@ -10,7 +10,7 @@ use Rattle.dft_modules.specs.Sound.{AreModules}
 use Rattle.dft_hier.specs.declared.error.HierError.{HierError}
 use Rattle.dft_hier.specs.declared.error.HierError.TheVariants as told
 use Rattle.dft_hier.specs.declared.flat_nets.Hierarchy.{Hierarchy}
-use Rattle.dft_hier.specs.Flat.{flat_netlist}
+use Rattle.dft_hier.specs.Flat.{Parts, no_parts, flat_parts, flat_netlist}
 use Rattle.dft_hier.specs.Numbers.{children_of}
 use Rattle.dft_hier.specs.Reach.{NoCircle}
 use Rattle.dft_hier.specs.Refusals.{IsJoinable, first_misfit, first_unknown}
@@ -46,6 +46,14 @@ flat_in ms library (Some m) = flat_netlist ms library m
 
 abbrev pub flat_at : List Module → List Cell → (number : ℕ) → Grown
 flat_at ms library number = flat_in ms library (slice_get ms number)
+
+-- what a module and all below it give where it is the top, by its number
+abbrev pub parts_in : List Module → Option Module → Parts
+parts_in ms None = no_parts
+parts_in ms (Some m) = flat_parts ms m
+
+abbrev pub parts_at : List Module → (number : ℕ) → Parts
+parts_at ms number = parts_in ms (slice_get ms number)
 
 -- how a refusal of the flat netlist is told
 abbrev pub told_of : NetlistError → HierError

@@ -17,8 +17,12 @@ pub mod FlatNets
 pub mod NetWalks
 pub mod NetWalkShown
 pub mod Refusals
+pub mod FlatItems
 pub mod Moving
 pub mod Laid
+pub mod ItemWalks
+pub mod ItemWalkShown
+pub mod ItemsLaid
 pub mod Paths
 pub mod Joined
 pub mod Laws

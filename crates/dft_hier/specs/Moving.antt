@@ -1,6 +1,6 @@
 -- Joins and instances of a module that stand in a flat netlist.
 use Rattle.std.specs.Prelude.{ℕ, ◌+◌, ◌<◌, ◌^◌, List, [], ◌∷◌, ◌++◌, map}
-use Rattle.std.specs.List.{AllByRecursion}
+use Rattle.std.specs.List.{All, AllByRecursion}
 use Rattle.dft_base.specs.Lexing.{Text}
 use Rattle.dft_netlist.specs.declared.ids.NetId.{NetId}
 use Rattle.dft_netlist.specs.declared.instance.Instance.{Instance}
@@ -16,10 +16,10 @@ abbrev pub IsWritable : (first : ℕ) → Signal → Type 0
 IsWritable first signal = IsLive (2 ^ 32) (moved first signal)
 
 abbrev pub AreWritable : (first : ℕ) → List Signal → Type 0
-AreWritable first signals = AllByRecursion (IsWritable first) signals
+AreWritable first signals = All (λ (s : Signal). IsWritable first s) signals
 
 abbrev pub AreBitsWritable : (first : ℕ) → List NetId → Type 0
-AreBitsWritable first bits = AllByRecursion (λ (bit : NetId). first + bit.0 < 2 ^ 32) bits
+AreBitsWritable first bits = All (λ (bit : NetId). first + bit.0 < 2 ^ 32) bits
 
 -- each of these joins can stand in a netlist
 abbrev pub AreJoinsOf : Netlist → List Join → Type 0

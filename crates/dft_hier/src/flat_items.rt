@@ -1,18 +1,32 @@
 //! The joins and instances of a flat design: the items of a module in order, and in place of a module instance the joins of
 //! its connections and the items of its module, without recursion.
 
+ghost use Rattle.std.specs.Prelude.{◌≡◌, ◌<◌, ◌≤◌, ◌+◌, ◌^◌, ◌++◌, ◌∷◌, [], Some, length, slice_get, IfOk, IfErr, IfSome, IfNone, OnOk, MatchResult};
+ghost use Rattle.dft_hier.specs.Flat.{add_instances};
+ghost use Rattle.dft_hier.specs.FlatItems.{live_items_at, own_parts};
+ghost use Rattle.dft_hier.specs.Growing.{Grows, IsPrefix, IsRefusal};
+ghost use Rattle.dft_hier.specs.ItemWalks.{IsItemIn, IsItemWalk, adds, and_visit, at_top, gone_into, item_way_size};
+ghost use Rattle.dft_hier.specs.ItemsLaid.{AreItemsLaid};
+ghost use Rattle.dft_hier.specs.Laid.{IsLaid, parts_at};
+ghost use Rattle.dft_hier.specs.Moving.{with_joins};
+ghost use Rattle.dft_netlist_text.specs.NetlistText.{Grown};
+ghost use Rattle.dft_netlist.specs.declared.error.NetlistError.TheVariants.{Memory};
+
+use crate::children::sub_in;
 use crate::flat_joins::{add_cell, add_connections, add_join};
 use crate::flat_nets::{Hierarchy, go_inside};
-use crate::weights::LiveItem;
-use dft_modules::{Item, SubInstance};
+use crate::weights::{LiveItem, LiveSub};
+use dft_base::Name;
+use dft_modules::Item;
 use dft_netlist::{DesignBuilder, NetlistError};
 use std::alloc::{AllocError, Global};
+use std::marker::Model;
 
 // A module on the way: the number of its first net, its next item, the number of the first net of its next instance with
 // nets, and how long the prefix of its names is.
 #[derive(Clone, Copy, Debug)]
 struct Visit {
-    module: usize,
+    number: usize,
     first: usize,
     item: usize,
     next: usize,
@@ -26,12 +40,24 @@ struct ItemWalk {
     prefix: Vec<u8>,
 }
 
+impl Model for ItemWalk {
+    ghost use Rattle.dft_hier.specs.ItemWalks.{ItemStand};
+
+    ghost Value = { ItemStand };
+
+    ghost use Rattle.dft_hier.specs.ItemWalkShown.{item_stand_of};
+
+    ghost view = { item_stand_of };
+}
+
 impl ItemWalk {
-    // At a module whose first net has the number 0.
-    fn at(alloc: Global, module: usize, nets: usize) -> Result<ItemWalk, AllocError> {
+    // At a module with so many nets, the first of which has the number 0.
+    fn at(alloc: Global, number: usize, nets: usize) -> Result<ItemWalk, AllocError>
+        ensures { IfOk result (λ walk. walk ≡ at_top number nets) }
+    {
         let mut way = Vec::new(alloc);
         way.push(Visit {
-            module,
+            number,
             first: 0,
             item: 0,
             next: nets,
@@ -43,100 +69,163 @@ impl ItemWalk {
         })
     }
 
-    // Goes into an instance: adds the joins of its connections first.
-    fn enter(
-        &mut self,
-        alloc: Global,
-        hierarchy: &Hierarchy<'_>,
-        builder: &mut DesignBuilder,
-        visit: Visit,
-        child: usize,
-        sub: &SubInstance,
-    ) -> Result<(), NetlistError> {
-        let module = &hierarchy.modules[child];
-        add_connections(
-            alloc,
-            builder,
-            visit.first,
-            visit.next,
-            module.ports(),
-            sub.connections.as_slice(),
-        )?;
-        go_inside(&mut self.prefix, visit.prefix, &sub.name)?;
-        self.way
-            .push(Visit {
-                module: child,
-                first: visit.next,
-                item: 0,
-                next: visit.next + module.nets().len(),
-                prefix: self.prefix.len(),
-            })
-            .map_err(AllocError::from)?;
+    // The last visit of the way, which is taken from it.
+    fn pop(&mut self) -> Option<Visit>
+        ensures some { IfSome result (λ visit. self.old ≡ and_visit self.new visit) }
+        ensures none { IfNone result (self.old.way ≡ []) }
+        ensures same { IfNone result (self.new ≡ self.old) }
+    {
+        self.way.pop()
+    }
+
+    // The prefix of the last module on the way.
+    fn prefix(&self) -> &[u8]
+        ensures { result.now ≡ self.now.prefix }
+    {
+        &self.prefix
+    }
+
+    // A visit more.
+    fn push(&mut self, visit: Visit) -> Result<(), AllocError>
+        ensures { OnOk result (self.new ≡ and_visit self.old visit) }
+    {
+        self.way.push(visit)?;
         Ok(())
     }
 
-    // Past an item of a module: adds it, or goes into it.
-    fn pass(
+    // Into the module of an instance of a module that was visited.
+    fn go_into(
         &mut self,
-        alloc: Global,
-        hierarchy: &Hierarchy<'_>,
-        builder: &mut DesignBuilder,
         visit: Visit,
-        live: LiveItem,
-    ) -> Result<(), NetlistError> {
-        let (place, below) = match live {
-            LiveItem::Own(place) => (place, 0),
-            LiveItem::Sub(sub) => (sub.item, hierarchy.weights[sub.child].nets),
-        };
-        self.way
-            .push(Visit {
-                module: visit.module,
-                first: visit.first,
-                item: visit.item + 1,
-                next: visit.next + below,
-                prefix: visit.prefix,
-            })
-            .map_err(AllocError::from)?;
-        match (&hierarchy.modules[visit.module].items()[place], live) {
-            (Item::Join(join), _) => Ok(add_join(builder, visit.first, *join)?),
-            (Item::Cell(instance), _) => {
-                self.prefix.truncate(visit.prefix);
-                add_cell(alloc, builder, &self.prefix, visit.first, instance)
-            }
-            (Item::Sub(sub), LiveItem::Sub(live)) => {
-                self.enter(alloc, hierarchy, builder, visit, live.child, sub)
-            }
-            (Item::Sub(_), LiveItem::Own(_)) => Ok(()),
-        }
-    }
-
-    // One step: past the next item of the last module on the way, or back.
-    fn step(
-        &mut self,
-        alloc: Global,
-        hierarchy: &Hierarchy<'_>,
-        builder: &mut DesignBuilder,
-    ) -> Result<(), NetlistError> {
-        match self.way.pop() {
-            None => Ok(()),
-            Some(visit) => match hierarchy.items[visit.module].items().get(visit.item) {
-                None => Ok(()),
-                Some(live) => self.pass(alloc, hierarchy, builder, visit, *live),
-            },
-        }
+        name: &Name,
+        child: usize,
+        nets: usize,
+    ) -> Result<(), AllocError>
+        requires { visit.next + nets < 2 ^ 32 }
+        ensures stand { OnOk result (self.new ≡ gone_into self.old visit name.now child nets) }
+        ensures printed { OnOk result (IsPrefix self.old.prefix → IsPrefix self.new.prefix) }
+    {
+        go_inside(&mut self.prefix, visit.prefix, name)?;
+        self.way.push(Visit {
+            number: child,
+            first: visit.next,
+            item: 0,
+            next: visit.next + nets,
+            prefix: self.prefix.len(),
+        })?;
+        Ok(())
     }
 }
 
-/// Adds the joins and instances of a module and of all below it.
+// Adds an item of a module's own.
+fn add_own(
+    alloc: Global,
+    builder: &mut DesignBuilder,
+    prefix: &[u8],
+    first: usize,
+    item: &Item,
+) -> Result<(), NetlistError>
+    requires prefix { IsPrefix prefix.now }
+    requires fits { IsItemIn builder.old first item.now }
+    ensures { Grows (adds (own_parts prefix.now first (Some item.now)) builder.old) result builder.new }
+{
+    match item {
+        Item::Join(join) => Ok(add_join(builder, first, *join)?),
+        Item::Cell(instance) => add_cell(alloc, builder, prefix, first, instance),
+        Item::Sub(_) => Ok(()),
+    }
+}
+
+// Past an item of a module's own, which is added.
+fn pass_own(
+    alloc: Global,
+    hierarchy: &Hierarchy<'_>,
+    builder: &mut DesignBuilder,
+    walk: &mut ItemWalk,
+    visit: Visit,
+    place: usize,
+) -> Result<(), NetlistError> {
+    walk.push(Visit {
+        number: visit.number,
+        first: visit.first,
+        item: visit.item + 1,
+        next: visit.next,
+        prefix: visit.prefix,
+    })?;
+    let item = &hierarchy.modules[visit.number].items()[place];
+    let prefix = &walk.prefix()[..visit.prefix];
+    add_own(alloc, builder, prefix, visit.first, item)
+}
+
+// Past a module instance, and into its module: adds the joins of its connections.
+fn pass_sub(
+    alloc: Global,
+    hierarchy: &Hierarchy<'_>,
+    builder: &mut DesignBuilder,
+    walk: &mut ItemWalk,
+    visit: Visit,
+    live: LiveSub,
+) -> Result<(), NetlistError> {
+    let items = hierarchy.modules[visit.number].items();
+    match sub_in(&items[live.item]) {
+        Some(sub) => {
+            let inner = &hierarchy.modules[live.child];
+            let connections = sub.connections.as_slice();
+            add_connections(
+                alloc,
+                builder,
+                visit.first,
+                visit.next,
+                inner.ports(),
+                connections,
+            )?;
+            walk.push(Visit {
+                number: visit.number,
+                first: visit.first,
+                item: visit.item + 1,
+                next: visit.next + hierarchy.weights[live.child].nets,
+                prefix: visit.prefix,
+            })?;
+            walk.go_into(visit, &sub.name, live.child, inner.nets().len())?;
+            Ok(())
+        }
+        None => unreachable!(),
+    }
+}
+
+// Past an item, or into it.
+fn pass(
+    alloc: Global,
+    hierarchy: &Hierarchy<'_>,
+    builder: &mut DesignBuilder,
+    walk: &mut ItemWalk,
+    visit: Visit,
+    live: LiveItem,
+) -> Result<(), NetlistError> {
+    match live {
+        LiveItem::Own(place) => pass_own(alloc, hierarchy, builder, walk, visit, place),
+        LiveItem::Sub(sub) => pass_sub(alloc, hierarchy, builder, walk, visit, sub),
+    }
+}
+
+/// Adds the joins and instances of a module and of all below it, whose nets are there.
 pub fn add_items(
     alloc: Global,
     hierarchy: &Hierarchy<'_>,
     builder: &mut DesignBuilder,
     top: usize,
-) -> Result<(), NetlistError> {
+) -> Result<(), NetlistError>
+    requires laid { IsLaid builder.old.library hierarchy.now }
+    requires there { top < length hierarchy.now.modules.now }
+    requires nets { length builder.old.nets ≡ length (parts_at hierarchy.now.modules.now top).nets }
+    ensures { Grows (adds (parts_at hierarchy.now.modules.now top) builder.old) result builder.new }
+{
     let mut walk = ItemWalk::at(alloc, top, hierarchy.modules[top].nets().len())?;
-    while !walk.way.is_empty() {
-        walk.step(alloc, hierarchy, builder)?;
+    while let Some(visit) = walk.pop() {
+        let items = hierarchy.items[visit.number].items();
+        if let Some(live) = items.get(visit.item).copied() {
+            pass(alloc, hierarchy, builder, &mut walk, visit, live)?;
+        }
     }
     Ok(())
 }
