@@ -18,5 +18,7 @@ pub mod RefusalLemmas
 pub mod LaidLemmas
 pub mod JoinLemmas
 pub mod FlattenLemmas
+pub mod ItemLemmas
+pub mod LivePartLemmas
 pub mod OneDesign
 mod FlatExamples

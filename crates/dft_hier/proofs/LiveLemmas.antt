@@ -166,19 +166,19 @@ live_nets_from give ms weights prefix all place (item.Sub s ∷ items) children 
     let one : named_nets give prefix (slice_get all place) (slice_get ms c) ≡ sub_nets give prefix s (find_module ms s.of) = ap (λ (o : Option Item). named_nets give prefix o (slice_get ms c)) at ∙ ap (sub_nets give prefix s) module_is in
     ap (λ (cs : List ℕ). live_nets give ms prefix all (live_from weights (place + 1) items (drop 1 cs) (and_item weights place (slice_get cs 0) live)).with_nets) is
     ∙ live_nets_from give ms weights prefix all (place + 1) items rest (and_sub w l live) none (λ i. (let e : place + 1 + i ≡ place + suc i = omega arith in ap (slice_get all) e ∙ there (suc i))) f.1.1.2
-    ∙ ap (λ (ns : List Text). ns ++ subs_nets give ms prefix (subs_of items)) (by (nat_lt 0 w.nets) refl one)
+    ∙ ap (λ (ns : List Text). ns ++ subs_nets give ms prefix (subs_of items)) (by c (nat_lt 0 w.nets) refl one)
     ∙ append_assoc (live_nets give ms prefix all live.with_nets) (sub_nets give prefix s (find_module ms s.of)) (subs_nets give ms prefix (subs_of items))
   where
     nothing : (k : ℕ) → nat_lt 0 (get_or weights k no_weight).nets ≡ false → (o : Option Module) → slice_get ms k ≡ o → sub_nets give prefix s o ≡ []
     nothing k zero_nets None at = refl
     nothing k zero_nets (Some m) at = none k m at zero_nets (inside prefix s.name)
 
-    by : {k : ℕ} (t : Bool) → nat_lt 0 (get_or weights k no_weight).nets ≡ t → named_nets give prefix (slice_get all place) (slice_get ms k) ≡ sub_nets give prefix s (find_module ms s.of) →
+    by : (k : ℕ) (t : Bool) → nat_lt 0 (get_or weights k no_weight).nets ≡ t → named_nets give prefix (slice_get all place) (slice_get ms k) ≡ sub_nets give prefix s (find_module ms s.of) →
         live_nets give ms prefix all (cond t (live.with_nets ++ record { item = place; child = k } ∷ []) live.with_nets) ≡ live_nets give ms prefix all live.with_nets ++ sub_nets give prefix s (find_module ms s.of)
-    by {k} true is one =
+    by k true is one =
         nets-append give ms prefix all live.with_nets (record { item = place; child = k } ∷ [])
         ∙ ap (λ (ns : List Text). live_nets give ms prefix all live.with_nets ++ ns) (append-nil (named_nets give prefix (slice_get all place) (slice_get ms k)) ∙ one)
-    by {k} false is one =
+    by k false is one =
         let at : slice_get all place ≡ Some (item.Sub s) = (let e : place ≡ place + 0 = omega arith in ap (slice_get all) e ∙ there 0) in
         let empty : named_nets give prefix (slice_get all place) (slice_get ms k) ≡ [] = ap (λ (o : Option Item). named_nets give prefix o (slice_get ms k)) at ∙ nothing k is (slice_get ms k) refl in
         sym (append-nil (live_nets give ms prefix all live.with_nets)) ∙ ap (λ (ns : List Text). live_nets give ms prefix all live.with_nets ++ ns) (sym (sym one ∙ empty))
