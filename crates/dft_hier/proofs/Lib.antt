@@ -20,5 +20,7 @@ pub mod JoinLemmas
 pub mod FlattenLemmas
 pub mod ItemLemmas
 pub mod LivePartLemmas
+pub mod DeadLemmas
+pub mod ItemsLaidLemmas
 pub mod OneDesign
 mod FlatExamples

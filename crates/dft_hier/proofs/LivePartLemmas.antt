@@ -71,7 +71,7 @@ stands_here all place i items there = let e : place ≡ place + 0 = omega arith 
 stands_next : (all : List Item) (place : ℕ) (i : Item) (items : List Item) → StandsFrom all place (i ∷ items) → StandsFrom all (place + 1) items
 stands_next all place i items there j = let e : place + 1 + j ≡ place + suc j = omega arith in ap (slice_get all) e ∙ there (suc j)
 
-child_is : (ms : List Module) (c : ℕ) → c < length ms → slice_get ms c ≡ None → ⊥
+pub child_is : (ms : List Module) (c : ℕ) → c < length ms → slice_get ms c ≡ None → ⊥
 child_is [] c less none = absurd (omega (arith, less))
 child_is (m ∷ ms) zero less none = cc
 child_is (m ∷ ms) (suc c) less none = child_is ms c (omega (arith, less)) none
