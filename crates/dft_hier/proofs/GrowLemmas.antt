@@ -1,6 +1,10 @@
 -- A netlist that grows by one part after another.
-use Rattle.std.proofs.Common.{ℕ, ◌+◌, ◌<◌, ◌≤◌, ◌≡◌, List, [], ◌∷◌, ◌++◌, length, drop, get_or, map, Option, None, Some, Result, Ok, Err, refl, sym, ap, subst, arith, ◌∙◌}
-use Rattle.std.proofs.lemmas.List.{drop_more}
+use Rattle.std.proofs.Common.{ℕ, ◌+◌, ◌-◌, ◌<◌, ◌≤◌, ◌≡◌, inl, inr, take, List, [], ◌∷◌, ◌++◌, length, drop, get_or, map, Option, None, Some, Result, Ok, Err, refl, sym, ap, subst, arith, ◌∙◌}
+use Rattle.std.specs.List.{All}
+use Rattle.std.proofs.lemmas.List.{get_or_append_left, get_or-append_right, length-append, length-take, get_or-take}
+use Rattle.std.proofs.lemmas.List.Elements.{All-from_recursion}
+use Rattle.std.proofs.lemmas.Bool.{cases_lt}
+use Rattle.dft_base.specs.Name.{IsName}
 use Rattle.dft_base.specs.Lexing.{Text}
 use Rattle.dft_netlist.specs.declared.ids.NetId.{NetId}
 use Rattle.dft_netlist.specs.declared.error.NetlistError.{NetlistError}
@@ -8,7 +12,8 @@ use Rattle.dft_netlist.specs.declared.error.NetlistError.TheVariants as error
 use Rattle.dft_netlist.specs.Netlist.{Netlist}
 use Rattle.dft_netlist.specs.Building.{Answers, WithNet, net_refusal}
 use Rattle.dft_netlist_text.specs.NetlistText.{Grown, unless_refused, and_grown, add_net, add_nets}
-use Rattle.dft_hier.specs.Growing.{IsRefusal}
+use Rattle.dft_hier.specs.Flat.{inside}
+use Rattle.dft_hier.specs.Growing.{IsPrefix, IsRefusal}
 use Rattle.dft_hier.proofs.NumberLemmas.{drop_next, drop_past}
 
 -- ---- one net more
@@ -48,3 +53,22 @@ name_refused f names k name whole start old e less is named refused h =
 
 pub names_added : (f : Text → Text) (names : List Text) (k : ℕ) (start now : Netlist) → length names ≤ k → NamesSoFar f names k start now → add_nets (map f names) start ≡ Ok now
 names_added f names k start now past h = sym h ∙ ap (λ (xs : List Text). add_nets (map f xs) now) (drop_past names k past)
+
+-- ---- names behind prefixes
+
+all_append : (P : ℕ → Type 0) (xs ys : Text) → All P xs → All P ys → All P (xs ++ ys)
+all_append P xs ys a b = λ k d less. elim (cases_lt k (length xs)) [
+  | inl front ↦ subst P (sym (get_or_append_left xs ys d k front)) (a k d front)
+  | inr back ↦ (let l = length-append xs ys in subst P (sym (get_or-append_right xs ys (length xs) k d refl back)) (b (k - length xs) d (omega arith)))
+]
+
+pub name_behind : (p name : Text) → IsPrefix p → IsName name → IsName (p ++ name)
+name_behind p name prefix is = record { some = (let l = length-append p name in let s = is.some in omega arith); each = all_append (λ b. (33 ≤ b) × (b ≤ 126)) p name prefix is.each }
+
+all_taken : (P : ℕ → Type 0) (n : ℕ) (xs : Text) → All P xs → All P (take n xs)
+all_taken P n xs a = λ k d less. (let l = length-take n xs in subst P (sym (get_or-take n xs k d (omega arith))) (a k d (omega arith)))
+
+pub prefix_inside : (p name : Text) (n : ℕ) → IsPrefix p → IsName name → IsPrefix (inside (take n p) name)
+prefix_inside p name n prefix is =
+    all_append (λ b. (33 ≤ b) × (b ≤ 126)) (take n p ++ name) (47 ∷ []) (all_append (λ b. (33 ≤ b) × (b ≤ 126)) (take n p) name (all_taken (λ b. (33 ≤ b) × (b ≤ 126)) n p prefix) is.each)
+    (All-from_recursion (λ b. (33 ≤ b) × (b ≤ 126)) (47 ∷ []) ((omega arith, omega arith), tt))

@@ -22,5 +22,6 @@ pub mod ItemLemmas
 pub mod LivePartLemmas
 pub mod DeadLemmas
 pub mod ItemsLaidLemmas
+pub mod ItemWalkLemmas
 pub mod OneDesign
 mod FlatExamples

@@ -28,9 +28,12 @@ pub record ItemStand : Type 0 where
 abbrev pub at_top : (number nets : ℕ) → ItemStand
 at_top number nets = record { way = record { number = number; first = 0; item = 0; next = nets; prefix = 0 } ∷ []; prefix = [] }
 
--- a visit past an item with so many nets, and one of an instance's module, which has so many nets of its own
+-- a visit past an item with so many nets, past one of the module's own, and one of an instance's module, which has so many nets of its own
 abbrev pub passed_by : Visit → (below : ℕ) → Visit
 passed_by v below = record { number = v.number; first = v.first; item = v.item + 1; next = v.next + below; prefix = v.prefix }
+
+abbrev pub passed_own : Visit → Visit
+passed_own v = record { number = v.number; first = v.first; item = v.item + 1; next = v.next; prefix = v.prefix }
 
 abbrev pub visit_at : (child first nets prefix : ℕ) → Visit
 visit_at child first nets prefix = record { number = child; first = first; item = 0; next = first + nets; prefix = prefix }

@@ -23,6 +23,7 @@ pub mod Laid
 pub mod ItemWalks
 pub mod ItemWalkShown
 pub mod ItemsLaid
+pub mod ItemsWalked
 pub mod Paths
 pub mod Joined
 pub mod Laws

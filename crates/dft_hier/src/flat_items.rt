@@ -1,16 +1,13 @@
 //! The joins and instances of a flat design: the items of a module in order, and in place of a module instance the joins of
 //! its connections and the items of its module, without recursion.
 
-ghost use Rattle.std.specs.Prelude.{◌≡◌, ◌<◌, ◌≤◌, ◌+◌, ◌^◌, ◌++◌, ◌∷◌, [], Some, length, slice_get, IfOk, IfErr, IfSome, IfNone, OnOk, MatchResult};
-ghost use Rattle.dft_hier.specs.Flat.{add_instances};
+ghost use Rattle.std.specs.Prelude.{◌≡◌, ◌<◌, ◌+◌, ◌^◌, [], Some, length, slice_get, IfOk, IfSome, IfNone, OnOk};
 ghost use Rattle.dft_hier.specs.FlatItems.{live_items_at, own_parts};
-ghost use Rattle.dft_hier.specs.Growing.{Grows, IsPrefix, IsRefusal};
-ghost use Rattle.dft_hier.specs.ItemWalks.{IsItemIn, IsItemWalk, adds, and_visit, at_top, gone_into, item_way_size};
+ghost use Rattle.dft_hier.specs.Growing.{Grows, IsPrefix};
+ghost use Rattle.dft_hier.specs.ItemWalks.{IsItemIn, adds, and_visit, at_top, gone_into, item_way_size};
+ghost use Rattle.dft_hier.specs.ItemsWalked.{Stands, Walks};
 ghost use Rattle.dft_hier.specs.ItemsLaid.{AreItemsLaid};
 ghost use Rattle.dft_hier.specs.Laid.{IsLaid, parts_at};
-ghost use Rattle.dft_hier.specs.Moving.{with_joins};
-ghost use Rattle.dft_netlist_text.specs.NetlistText.{Grown};
-ghost use Rattle.dft_netlist.specs.declared.error.NetlistError.TheVariants.{Memory};
 
 use crate::children::sub_in;
 use crate::flat_joins::{add_cell, add_connections, add_join};
@@ -144,7 +141,13 @@ fn pass_own(
     walk: &mut ItemWalk,
     visit: Visit,
     place: usize,
-) -> Result<(), NetlistError> {
+) -> Result<(), NetlistError>
+    requires laid { AreItemsLaid builder.old.library hierarchy.now.modules.now hierarchy.now.items.now hierarchy.now.weights.now }
+    requires stands { Stands hierarchy.now builder.old (and_visit walk.old visit) }
+    requires next { slice_get (live_items_at hierarchy.now.items.now visit.number) visit.item ≡ Some (LiveItem.Own place) }
+    ensures walks { Walks hierarchy.now (and_visit walk.old visit) builder.old result walk.new builder.new }
+    ensures fewer { OnOk result (item_way_size hierarchy.now.modules.now hierarchy.now.items.now walk.new.way < item_way_size hierarchy.now.modules.now hierarchy.now.items.now (and_visit walk.old visit).way) }
+{
     walk.push(Visit {
         number: visit.number,
         first: visit.first,
@@ -165,7 +168,13 @@ fn pass_sub(
     walk: &mut ItemWalk,
     visit: Visit,
     live: LiveSub,
-) -> Result<(), NetlistError> {
+) -> Result<(), NetlistError>
+    requires laid { AreItemsLaid builder.old.library hierarchy.now.modules.now hierarchy.now.items.now hierarchy.now.weights.now }
+    requires stands { Stands hierarchy.now builder.old (and_visit walk.old visit) }
+    requires next { slice_get (live_items_at hierarchy.now.items.now visit.number) visit.item ≡ Some (LiveItem.Sub live) }
+    ensures walks { Walks hierarchy.now (and_visit walk.old visit) builder.old result walk.new builder.new }
+    ensures fewer { OnOk result (item_way_size hierarchy.now.modules.now hierarchy.now.items.now walk.new.way < item_way_size hierarchy.now.modules.now hierarchy.now.items.now (and_visit walk.old visit).way) }
+{
     let items = hierarchy.modules[visit.number].items();
     match sub_in(&items[live.item]) {
         Some(sub) => {
@@ -201,7 +210,13 @@ fn pass(
     walk: &mut ItemWalk,
     visit: Visit,
     live: LiveItem,
-) -> Result<(), NetlistError> {
+) -> Result<(), NetlistError>
+    requires laid { AreItemsLaid builder.old.library hierarchy.now.modules.now hierarchy.now.items.now hierarchy.now.weights.now }
+    requires stands { Stands hierarchy.now builder.old (and_visit walk.old visit) }
+    requires next { slice_get (live_items_at hierarchy.now.items.now visit.number) visit.item ≡ Some live }
+    ensures walks { Walks hierarchy.now (and_visit walk.old visit) builder.old result walk.new builder.new }
+    ensures fewer { OnOk result (item_way_size hierarchy.now.modules.now hierarchy.now.items.now walk.new.way < item_way_size hierarchy.now.modules.now hierarchy.now.items.now (and_visit walk.old visit).way) }
+{
     match live {
         LiveItem::Own(place) => pass_own(alloc, hierarchy, builder, walk, visit, place),
         LiveItem::Sub(sub) => pass_sub(alloc, hierarchy, builder, walk, visit, sub),
