@@ -23,5 +23,7 @@ pub mod LivePartLemmas
 pub mod DeadLemmas
 pub mod ItemsLaidLemmas
 pub mod ItemWalkLemmas
+pub mod ConnectionLemmas
+pub mod FlattenSteps
 pub mod OneDesign
 mod FlatExamples
