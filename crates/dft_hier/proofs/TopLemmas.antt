@@ -88,10 +88,16 @@ tops_unmarked g marks h =
     ap (λ (n : ℕ). filter (λ k. not (is_instantiated g k)) (range_with_len 0 n)) (sym h.count)
     ∙ unmarked_same (is_instantiated g) 0 marks (λ k less. (let at : k ≡ 0 + k = omega arith in h.each k (omega arith) ∙ ap (is_instantiated g) at))
 
+count_false : (marks : List Bool) → count_by not (false ∷ marks) ≡ 1 + count_by not marks
+count_false marks = refl
+
+count_true : (marks : List Bool) → count_by not (true ∷ marks) ≡ 0 + count_by not marks
+count_true marks = refl
+
 unmarked_count : (from : ℕ) (marks : List Bool) → length (unmarked_from from marks) ≡ count_by not marks
 unmarked_count from [] = refl
-unmarked_count from (true ∷ marks) = let r = unmarked_count (from + 1) marks in omega arith
-unmarked_count from (false ∷ marks) = let r = unmarked_count (from + 1) marks in omega arith
+unmarked_count from (true ∷ marks) = let r = unmarked_count (from + 1) marks in let c = count_true marks in omega arith
+unmarked_count from (false ∷ marks) = let r = unmarked_count (from + 1) marks in let c = count_false marks in omega arith
 
 pub tops_count : (g : Graph) (marks : List Bool) → AreInstantiated g marks → count_by not marks ≡ length (top_numbers g)
 tops_count g marks h = sym (ap (λ (xs : List ℕ). length xs) (tops_unmarked g marks h) ∙ unmarked_count 0 marks)
@@ -99,9 +105,10 @@ tops_count g marks h = sym (ap (λ (xs : List ℕ). length xs) (tops_unmarked g 
 first_unmarked : (from : ℕ) (marks : List Bool) (k : ℕ) → k < length marks → get_or marks k true ≡ false → count_by not marks ≡ 1 → unmarked_from from marks ≡ (from + k) ∷ []
 first_unmarked from [] k less is one = absurd (omega (arith, less))
 first_unmarked from (true ∷ marks) zero less is one = absurd (true≢false is)
-first_unmarked from (true ∷ marks) (suc k) less is one = first_unmarked (from + 1) marks k (omega (arith, less)) is (omega (arith, one)) ∙ (let next : from + 1 + k ≡ from + suc k = omega arith in ap (λ (n : ℕ). n ∷ []) next)
+first_unmarked from (true ∷ marks) (suc k) less is one = first_unmarked (from + 1) marks k (omega (arith, less)) is (let c = count_true marks in omega (arith, one)) ∙ (let next : from + 1 + k ≡ from + suc k = omega arith in ap (λ (n : ℕ). n ∷ []) next)
 first_unmarked from (false ∷ marks) zero less is one =
     let none = unmarked_count (from + 1) marks in
+    let c = count_false marks in
     let empty : unmarked_from (from + 1) marks ≡ [] = no_length (unmarked_from (from + 1) marks) (omega arith) in
     let e : from ≡ from + 0 = omega arith in
     ap (λ (xs : List ℕ). from ∷ xs) empty ∙ ap (λ (n : ℕ). n ∷ []) e
@@ -109,14 +116,14 @@ first_unmarked from (false ∷ marks) zero less is one =
     no_length : (xs : List ℕ) → length xs ≡ 0 → xs ≡ []
     no_length [] e = refl
     no_length (x ∷ xs) e = absurd (omega (arith, e))
-first_unmarked from (false ∷ marks) (suc k) less is one = absurd (let n = some_unmarked marks k (omega (arith, less)) is in omega (arith, n, one))
+first_unmarked from (false ∷ marks) (suc k) less is one = absurd (let n = some_unmarked marks k (omega (arith, less)) is in let c = count_false marks in omega (arith, n, one))
   where
     some_unmarked : (marks : List Bool) (k : ℕ) → k < length marks → get_or marks k true ≡ false → 0 < count_by not marks
     some_unmarked [] k less is = absurd (omega (arith, less))
     some_unmarked (true ∷ marks) zero less is = absurd (true≢false is)
-    some_unmarked (false ∷ marks) zero less is = omega arith
-    some_unmarked (true ∷ marks) (suc k) less is = let r = some_unmarked marks k (omega (arith, less)) is in omega arith
-    some_unmarked (false ∷ marks) (suc k) less is = omega arith
+    some_unmarked (false ∷ marks) zero less is = let c = count_false marks in omega arith
+    some_unmarked (true ∷ marks) (suc k) less is = let r = some_unmarked marks k (omega (arith, less)) is in let c = count_true marks in omega arith
+    some_unmarked (false ∷ marks) (suc k) less is = let c = count_false marks in omega arith
 
 pub one_top : (g : Graph) (marks : List Bool) (k : ℕ) → AreInstantiated g marks → k < length marks → get_or marks k true ≡ false → count_by not marks ≡ 1 → IsTop g k
 one_top g marks k h less is one = tops_unmarked g marks h ∙ first_unmarked 0 marks k less is one ∙ (let at : 0 + k ≡ k = omega arith in ap (λ (n : ℕ). n ∷ []) at)
