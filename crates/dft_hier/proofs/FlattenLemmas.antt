@@ -1,7 +1,7 @@
 -- The flat netlist, from what each of its steps adds.
 use Rattle.std.proofs.Common.{ℕ, zero, suc, ◌+◌, ◌-◌, ◌<◌, ◌≤◌, ◌≡◌, List, [], ◌∷◌, ◌++◌, length, drop, get_or, map, Option, None, Some, Result, Ok, Err, slice_get, refl, sym, ap, subst, arith, ◌∙◌, length-append}
 use Rattle.std.specs.List.{All}
-use Rattle.std.proofs.lemmas.List.{drop-append-le, length-map, drop_all}
+use Rattle.std.proofs.lemmas.List.{drop-append-le, length-drop}
 use Rattle.std.proofs.lemmas.List.Elements.{All-get_or}
 use Rattle.std.proofs.lemmas.Option.{slice_get_within, get_or_from_slice_get}
 use Rattle.dft_base.specs.Lexing.{Text}
@@ -13,7 +13,7 @@ use Rattle.dft_netlist.specs.declared.port.Port.{Port}
 use Rattle.dft_netlist.specs.declared.error.NetlistError.{NetlistError}
 use Rattle.dft_netlist.specs.declared.error.NetlistError.TheVariants as error
 use Rattle.dft_netlist.specs.Netlist.{Netlist}
-use Rattle.dft_netlist.specs.Building.{Answers, WithPort, empty_netlist, port_of, port_refusal}
+use Rattle.dft_netlist.specs.Building.{Answers, WithPort, empty_netlist, port_of, port_refusal, net_refusal}
 use Rattle.dft_netlist.specs.Names.{bit_names}
 use Rattle.dft_netlist.specs.NetNumbers.{nets_from}
 use Rattle.dft_netlist.specs.Sound.{HasOnlyPorts, bits_of, bit_names_of}
@@ -24,6 +24,8 @@ use Rattle.dft_modules.specs.Sound.{IsModule, AreModules}
 use Rattle.dft_hier.specs.Flat.{Parts, add_ports, add_parts, add_instances, flat_parts, flat_netlist}
 use Rattle.dft_hier.specs.FlatNets.{nets_in, nets_below, GivesLive}
 use Rattle.dft_hier.specs.Growing.{IsRefusal}
+use Rattle.dft_hier.specs.ItemWalks.{adds}
+use Rattle.dft_hier.specs.Laid.{name_in, name_at, flat_in, flat_at}
 use Rattle.dft_hier.specs.Moving.{with_joins}
 use Rattle.dft_hier.specs.Weights.{Live}
 use Rattle.dft_hier.proofs.NumberLemmas.{drop_next, drop_past}
@@ -129,3 +131,56 @@ behind_ports ms items number m library start ports gives is none added =
     ap (λ (ns : List Text). and_grown (add_nets (drop (length ports.nets) ns) ports) more) (whole_nets ms items number m gives)
     ∙ ap (λ (ns : List Text). and_grown (add_nets ns ports) more) cut
     ∙ ap (λ (g : Grown). and_grown g more) (nets_append (drop (length ports.nets) m.nets) (nets_below ms items number) ports)
+
+-- ---- what is there after each step
+
+nets_keep : (names : List Text) (n m : Netlist) → add_nets names n ≡ Ok m → (length m.nets ≡ length n.nets + length names) × (m.library ≡ n.library)
+nets_keep [] n m e = let f : n ≡ m = cc in ((let g = ap (λ (x : Netlist). length x.nets) f in omega arith), ap (λ (x : Netlist). x.library) (sym f))
+nets_keep (name ∷ names) n m e = by (net_refusal n name) e (nets_keep names (record n { nets = n.nets ++ name ∷ [] }) m)
+  where
+    by : (o : Option NetlistError) → and_grown (unless_refused o (record n { nets = n.nets ++ name ∷ [] })) (add_nets names) ≡ Ok m → (add_nets names (record n { nets = n.nets ++ name ∷ [] }) ≡ Ok m → (length m.nets ≡ length (n.nets ++ name ∷ []) + length names) × (m.library ≡ n.library)) →
+        (length m.nets ≡ length n.nets + length (name ∷ names)) × (m.library ≡ n.library)
+    by None e more = (let r = more e in ((let a = r.0 in let b = length-append n.nets (name ∷ []) in omega arith), r.1))
+    by (Some why) e more = absurd (let f : ⊥ = cc in f)
+
+pub flat_begins : (ms : List Module) (library : List Cell) (k : ℕ) (m : Module) (start : Netlist) → slice_get ms k ≡ Some m → start ≡ empty_netlist (name_at ms k) library → flat_at ms library k ≡ and_grown (add_ports m.ports start) (add_parts (flat_parts ms m))
+unfolding flat_netlist
+flat_begins ms library k m start at is =
+    ap (flat_in ms library) at ∙ ap (λ (n : Netlist). and_grown (add_ports m.ports n) (add_parts (flat_parts ms m))) (sym (is ∙ ap (λ (o : Option Module). empty_netlist (name_in o) library) at))
+
+-- the netlists behind the ports, the top's nets, and all nets
+pub record AreSteps (ms : List Module) (items : List Live) (library : List Cell) (k : ℕ) (m : Module) (start : Netlist) : Type 0 where
+  pub at : slice_get ms k ≡ Some m
+  pub start_is : start ≡ empty_netlist (name_at ms k) library
+  pub gives : GivesLive ms items k m
+  pub sound : IsModule library m
+
+pub flat_ports : (ms : List Module) (items : List Live) (library : List Cell) (k : ℕ) (m : Module) (start ports : Netlist) → AreSteps ms items library k m start → add_ports m.ports start ≡ Ok ports →
+    flat_at ms library k ≡ and_grown (and_grown (add_nets (drop (length ports.nets) m.nets) ports) (add_nets (nets_below ms items k))) (adds (flat_parts ms m))
+flat_ports ms items library k m start ports s added =
+    flat_begins ms library k m start s.at s.start_is ∙ ap (λ (g : Grown). and_grown g (add_parts (flat_parts ms m))) added
+    ∙ behind_ports ms items k m library start ports s.gives s.sound (ap (λ (n : Netlist). length n.nets) s.start_is) added
+
+pub flat_own : (ms : List Module) (items : List Live) (library : List Cell) (k : ℕ) (m : Module) (start ports own : Netlist) → AreSteps ms items library k m start → add_ports m.ports start ≡ Ok ports → add_nets (drop (length ports.nets) m.nets) ports ≡ Ok own →
+    flat_at ms library k ≡ and_grown (add_nets (nets_below ms items k) own) (adds (flat_parts ms m))
+flat_own ms items library k m start ports own s added others = flat_ports ms items library k m start ports s added ∙ ap (λ (g : Grown). and_grown (and_grown g (add_nets (nets_below ms items k))) (adds (flat_parts ms m))) others
+
+pub flat_all : (ms : List Module) (items : List Live) (library : List Cell) (k : ℕ) (m : Module) (start ports own all : Netlist) → AreSteps ms items library k m start → add_ports m.ports start ≡ Ok ports → add_nets (drop (length ports.nets) m.nets) ports ≡ Ok own → add_nets (nets_below ms items k) own ≡ Ok all →
+    flat_at ms library k ≡ adds (flat_parts ms m) all
+flat_all ms items library k m start ports own all s added others below = flat_own ms items library k m start ports own s added others ∙ ap (λ (g : Grown). and_grown g (adds (flat_parts ms m))) below
+
+pub all_there : (ms : List Module) (items : List Live) (library : List Cell) (k : ℕ) (m : Module) (start ports own all : Netlist) → AreSteps ms items library k m start → add_ports m.ports start ≡ Ok ports → add_nets (drop (length ports.nets) m.nets) ports ≡ Ok own → add_nets (nets_below ms items k) own ≡ Ok all →
+    (length all.nets ≡ length (flat_parts ms m).nets) × (all.library ≡ start.library)
+all_there ms items library k m start ports own all s added others below =
+    let a = ports_nets m.ports start ports added in
+    let b = nets_keep (drop (length ports.nets) m.nets) ports own others in
+    let c = nets_keep (nets_below ms items k) own all below in
+    let none : length start.nets ≡ 0 = ap (λ (n : Netlist). length n.nets) s.start_is in
+    let within = bits_within library m s.sound in
+    let left = length-drop (length ports.nets) m.nets in
+    let whole = ap (λ (ns : List Text). length ns) (whole_nets ms items k m s.gives) in
+    let split = length-append m.nets (nets_below ms items k) in
+    let a0 = a.0 in
+    let b0 = b.0 in
+    let c0 = c.0 in
+    (omega arith, c.1 ∙ b.1 ∙ a.2)

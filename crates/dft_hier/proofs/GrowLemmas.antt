@@ -72,3 +72,19 @@ pub prefix_inside : (p name : Text) (n : ℕ) → IsPrefix p → IsName name →
 prefix_inside p name n prefix is =
     all_append (λ b. (33 ≤ b) × (b ≤ 126)) (take n p ++ name) (47 ∷ []) (all_append (λ b. (33 ≤ b) × (b ≤ 126)) (take n p) name (all_taken (λ b. (33 ≤ b) × (b ≤ 126)) n p prefix) is.each)
     (All-from_recursion (λ b. (33 ≤ b) × (b ≤ 126)) (47 ∷ []) ((omega arith, omega arith), tt))
+
+-- ---- the nets of a list that are left
+
+pub net_left : (names : List Text) (k : ℕ) (name own : Text) (net : NetId) (old new : Netlist) (whole : Grown) → k < length names → name ≡ get_or names k name → own ≡ name → WithNet old own net new → net_refusal old own ≡ None → add_nets (drop k names) old ≡ whole → add_nets (drop (k + 1) names) new ≡ whole
+net_left names k name own net old new whole less is same w none h =
+    sym (ap (λ (g : Grown). and_grown g (add_nets (drop (k + 1) names))) (net_added old new own net w none))
+    ∙ ap (λ (x : Text). add_nets (x ∷ drop (k + 1) names) old) same ∙ ap (λ (xs : List Text). add_nets xs old) (sym (drop_next names k name less is)) ∙ h
+
+pub net_left_refused : (names : List Text) (k : ℕ) (name own : Text) (old : Netlist) (whole : Grown) (e : NetlistError) → k < length names → name ≡ get_or names k name → own ≡ name → Answers {A = NetId} (net_refusal old own) (Err e) → add_nets (drop k names) old ≡ whole → IsRefusal whole e
+net_left_refused names k name own old whole e less is same refused h =
+    same_refusal (add_nets (own ∷ drop (k + 1) names) old) whole e
+    (ap (λ (x : Text). add_nets (x ∷ drop (k + 1) names) old) same ∙ ap (λ (xs : List Text). add_nets xs old) (sym (drop_next names k name less is)) ∙ h)
+    (refused_by (net_refusal old own) (record old { nets = old.nets ++ own ∷ [] }) (add_nets (drop (k + 1) names)) e refused)
+
+pub nets_over : (names : List Text) (k : ℕ) (now : Netlist) (whole : Grown) → length names ≤ k → add_nets (drop k names) now ≡ whole → whole ≡ Ok now
+nets_over names k now whole past h = sym h ∙ ap (λ (xs : List Text). add_nets xs now) (drop_past names k past)
