@@ -25,5 +25,7 @@ pub mod ItemsLaidLemmas
 pub mod ItemWalkLemmas
 pub mod ConnectionLemmas
 pub mod FlattenSteps
+pub mod NewNames
+pub mod ConnectLemmas
 pub mod OneDesign
 mod FlatExamples
