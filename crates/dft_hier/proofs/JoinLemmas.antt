@@ -5,15 +5,19 @@ use Rattle.std.specs.Str.{bytes_eq}
 use Rattle.std.proofs.lemmas.List.{get_or-map}
 use Rattle.std.proofs.lemmas.Option.{slice_get-get_or}
 use Rattle.dft_base.specs.Lexing.{Text}
+use Rattle.dft_base.specs.declared.dir.Dir.{Dir}
+use Rattle.dft_base.proofs.ListLemmas.{drop_at}
+use Rattle.dft_netlist.specs.declared.ids.NetId.{NetId}
+use Rattle.dft_netlist.specs.declared.instance.Signal.{Signal}
 use Rattle.dft_netlist.specs.declared.instance.Join.{Join}
 use Rattle.dft_netlist.specs.declared.port.Port.{Port}
 use Rattle.dft_netlist.specs.Netlist.{Netlist}
 use Rattle.dft_netlist.specs.Sound.{IsJoinOf, IsAJoin}
 use Rattle.dft_modules.specs.declared.connections.Connection.{Connection}
-use Rattle.dft_hier.specs.Flat.{connection_joins, joined_to, signals_of, port_joins, moved, moved_net}
+use Rattle.dft_hier.specs.Flat.{bit_joins, connection_joins, joined_to, signals_of, port_joins, moved, moved_net}
 use Rattle.dft_hier.specs.Moving.{AreJoinsOf, with_joins, connection_names}
 use Rattle.dft_hier.specs.Numbers.{Entry, Finds, first_from, look_up, noted}
-use Rattle.dft_hier.proofs.NumberLemmas.{FindsSoFar, noted_next, noted_all}
+use Rattle.dft_hier.proofs.NumberLemmas.{FindsSoFar, noted_next, noted_all, drop_next, drop_past}
 
 -- joins that are left, which with those so far give the whole
 pub record JoinsLeft (now : Netlist) (rest : List Join) (whole : Netlist) : Type 0 where
@@ -86,3 +90,63 @@ joined_some entries connections name k c finds is at =
 
 pub joined_none : (entries : List Entry) (connections : List Connection) (name : Text) → Finds entries (connection_names connections) → look_up entries name ≡ None → joined_to connections name ≡ []
 joined_none entries connections name finds is = ap signals_of (sym (connection_at connections name) ∙ ap (option_and_then (slice_get connections)) (sym (finds name) ∙ is))
+
+-- ---- the joins of a port's bits
+
+-- the joins of the bits from one on
+abbrev pub BitsLeft : (now : Netlist) (whole : Netlist) (d : Dir) (within outside : ℕ) (bits : List NetId) (signals : List Signal) (k : ℕ) → Type 0
+BitsLeft now whole d within outside bits signals k = JoinsLeft now (port_joins d (map (moved_net within) (drop k bits)) (map (moved outside) (drop k signals))) whole
+
+bits_cut : (d : Dir) (within outside : ℕ) (bits : List NetId) (signals : List Signal) (k : ℕ) (bit : NetId) (s : Signal) → k < length bits → bit ≡ get_or bits k bit → slice_get signals k ≡ Some s →
+    port_joins d (map (moved_net within) (drop k bits)) (map (moved outside) (drop k signals)) ≡ bit_joins d (moved_net within bit) (moved outside s) ++ port_joins d (map (moved_net within) (drop (k + 1) bits)) (map (moved outside) (drop (k + 1) signals))
+bits_cut d within outside bits signals k bit s less is at =
+    ap (λ (bs : List NetId). port_joins d (map (moved_net within) bs) (map (moved outside) (drop k signals))) (drop_next bits k bit less is)
+    ∙ ap (λ (ss : List Signal). port_joins d (moved_net within bit ∷ map (moved_net within) (drop (k + 1) bits)) (map (moved outside) ss)) (drop_at signals k s at)
+
+pub bit_here : (now whole : Netlist) (d : Dir) (within outside : ℕ) (bits : List NetId) (signals : List Signal) (k : ℕ) (bit : NetId) (s : Signal) → k < length bits → bit ≡ get_or bits k bit → slice_get signals k ≡ Some s →
+    BitsLeft now whole d within outside bits signals k → AreJoinsOf now (bit_joins d (moved_net within bit) (moved outside s))
+bit_here now whole d within outside bits signals k bit s less is at h =
+    joins_here now whole (bit_joins d (moved_net within bit) (moved outside s)) (port_joins d (map (moved_net within) (drop (k + 1) bits)) (map (moved outside) (drop (k + 1) signals)))
+    (subst (λ (js : List Join). JoinsLeft now js whole) (bits_cut d within outside bits signals k bit s less is at) h)
+
+pub bit_more : (now new whole : Netlist) (d : Dir) (within outside : ℕ) (bits : List NetId) (signals : List Signal) (k : ℕ) (bit : NetId) (s : Signal) → k < length bits → bit ≡ get_or bits k bit → slice_get signals k ≡ Some s →
+    new ≡ with_joins now (bit_joins d (moved_net within bit) (moved outside s)) → BitsLeft now whole d within outside bits signals k → BitsLeft new whole d within outside bits signals (k + 1)
+bit_more now new whole d within outside bits signals k bit s less is at more h =
+    joins_more now new whole (bit_joins d (moved_net within bit) (moved outside s)) (port_joins d (map (moved_net within) (drop (k + 1) bits)) (map (moved outside) (drop (k + 1) signals))) more
+    (subst (λ (js : List Join). JoinsLeft now js whole) (bits_cut d within outside bits signals k bit s less is at) h)
+
+no_bits : (d : Dir) (bits : List NetId) → port_joins d bits [] ≡ []
+no_bits d [] = refl
+no_bits d (b ∷ bits) = refl
+
+past_none : (signals : List Signal) (k : ℕ) → slice_get signals k ≡ None → length signals ≤ k
+past_none [] k e = omega arith
+past_none (s ∷ signals) zero e = absurd (let f : ⊥ = cc in f)
+past_none (s ∷ signals) (suc k) e = let r = past_none signals k e in omega arith
+
+pub bits_end : (now whole : Netlist) (d : Dir) (within outside : ℕ) (bits : List NetId) (signals : List Signal) (k : ℕ) → slice_get signals k ≡ None → BitsLeft now whole d within outside bits signals k → now ≡ whole
+bits_end now whole d within outside bits signals k none h =
+    joins_done now whole (subst (λ (js : List Join). JoinsLeft now js whole) (ap (λ (ss : List Signal). port_joins d (map (moved_net within) (drop k bits)) (map (moved outside) ss)) (drop_past signals k (past_none signals k none)) ∙ no_bits d (map (moved_net within) (drop k bits))) h)
+
+pub bits_over : (now whole : Netlist) (d : Dir) (within outside : ℕ) (bits : List NetId) (signals : List Signal) (k : ℕ) → length bits ≤ k → BitsLeft now whole d within outside bits signals k → now ≡ whole
+bits_over now whole d within outside bits signals k past h =
+    joins_done now whole (subst (λ (js : List Join). JoinsLeft now js whole) (ap (λ (bs : List NetId). port_joins d (map (moved_net within) bs) (map (moved outside) (drop k signals))) (drop_past bits k past)) h)
+
+-- ---- the joins of one port after another
+
+abbrev pub PortsJoined : (now whole : Netlist) (outside within : ℕ) (connections : List Connection) (ports : List Port) (k : ℕ) → Type 0
+PortsJoined now whole outside within connections ports k = JoinsLeft now (connection_joins outside within connections (drop k ports)) whole
+
+port_cut : (outside within : ℕ) (connections : List Connection) (ports : List Port) (k : ℕ) (p : Port) → k < length ports → p ≡ get_or ports k p → connection_joins outside within connections (drop k ports) ≡ connection_joins outside within connections (p ∷ []) ++ connection_joins outside within connections (drop (k + 1) ports)
+port_cut outside within connections ports k p less is =
+    let here : List Join = port_joins p.dir (map (moved_net within) p.bits) (map (moved outside) (joined_to connections p.name)) in
+    ap (connection_joins outside within connections) (drop_next ports k p less is) ∙ ap (λ (js : List Join). js ++ connection_joins outside within connections (drop (k + 1) ports)) (sym (append-nil here))
+
+pub port_here : (now whole : Netlist) (outside within : ℕ) (connections : List Connection) (ports : List Port) (k : ℕ) (p : Port) → k < length ports → p ≡ get_or ports k p → PortsJoined now whole outside within connections ports k → AreJoinsOf now (connection_joins outside within connections (p ∷ []))
+port_here now whole outside within connections ports k p less is h = joins_here now whole (connection_joins outside within connections (p ∷ [])) (connection_joins outside within connections (drop (k + 1) ports)) (subst (λ (js : List Join). JoinsLeft now js whole) (port_cut outside within connections ports k p less is) h)
+
+pub port_more : (now new whole : Netlist) (outside within : ℕ) (connections : List Connection) (ports : List Port) (k : ℕ) (p : Port) → k < length ports → p ≡ get_or ports k p → new ≡ with_joins now (connection_joins outside within connections (p ∷ [])) → PortsJoined now whole outside within connections ports k → PortsJoined new whole outside within connections ports (k + 1)
+port_more now new whole outside within connections ports k p less is more h = joins_more now new whole (connection_joins outside within connections (p ∷ [])) (connection_joins outside within connections (drop (k + 1) ports)) more (subst (λ (js : List Join). JoinsLeft now js whole) (port_cut outside within connections ports k p less is) h)
+
+pub ports_over : (now whole : Netlist) (outside within : ℕ) (connections : List Connection) (ports : List Port) (k : ℕ) → length ports ≤ k → PortsJoined now whole outside within connections ports k → now ≡ whole
+ports_over now whole outside within connections ports k past h = joins_done now whole (subst (λ (js : List Join). JoinsLeft now js whole) (ap (connection_joins outside within connections) (drop_past ports k past)) h)

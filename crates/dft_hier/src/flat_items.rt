@@ -202,6 +202,13 @@ fn pass_sub(
     }
 }
 
+// The live item at a place.
+fn item_at(live: &[LiveItem], place: usize) -> Option<LiveItem>
+    ensures { result ≡ slice_get live.now place }
+{
+    live.get(place).copied()
+}
+
 // Past an item, or into it.
 fn pass(
     alloc: Global,
@@ -237,9 +244,9 @@ pub fn add_items(
 {
     let mut walk = ItemWalk::at(alloc, top, hierarchy.modules[top].nets().len())?;
     while let Some(visit) = walk.pop() {
-        let items = hierarchy.items[visit.number].items();
-        if let Some(live) = items.get(visit.item).copied() {
-            pass(alloc, hierarchy, builder, &mut walk, visit, live)?;
+        let live = hierarchy.items[visit.number].items();
+        if let Some(next) = item_at(live, visit.item) {
+            pass(alloc, hierarchy, builder, &mut walk, visit, next)?;
         }
     }
     Ok(())

@@ -1,6 +1,6 @@
 //! Joins and instances of modules by the numbers and names of the flat design.
 
-ghost use Rattle.std.specs.Prelude.{◌≡◌, ◌<◌, ◌+◌, ◌^◌, ◌++◌, [], ◌∷◌, Some, map, option_map, length, IfOk, OnOk};
+ghost use Rattle.std.specs.Prelude.{◌≡◌, ◌<◌, ◌+◌, ◌^◌, ◌++◌, [], ◌∷◌, Some, map, option_map, slice_get, IfOk, OnOk};
 ghost use Rattle.std.specs.List.{All};
 ghost use Rattle.dft_hier.specs.Flat as spec;
 ghost use Rattle.dft_hier.specs.Flat.{add_instances, bit_joins, connection_joins, moved_instance, moved_join, port_joins};
@@ -114,6 +114,13 @@ fn add_bit_join(
     }
 }
 
+// The signal at a place.
+fn signal_at(signals: &[Signal], place: usize) -> Option<Signal>
+    ensures { result ≡ slice_get signals.now place }
+{
+    signals.get(place).copied()
+}
+
 // Adds the joins of a port's bits from the left, where the first net outside and the first inside have these numbers.
 fn add_port_joins(
     builder: &mut DesignBuilder,
@@ -128,13 +135,12 @@ fn add_port_joins(
     ensures { OnOk result (builder.new ≡ with_joins builder.old (port_joins port.now.dir (map (spec.moved_net within) port.now.bits) (map (spec.moved outside) signals.now))) }
 {
     for (place, bit) in port.bits.as_slice().iter().enumerate() {
-        match signals.get(place).copied() {
-            Some(signal) => add_bit_join(
-                builder,
-                port.dir,
-                moved_net(within, *bit),
-                moved(outside, signal),
-            )?,
+        match signal_at(signals, place) {
+            Some(signal) => {
+                let inner = moved_net(within, *bit);
+                let outer = moved(outside, signal);
+                add_bit_join(builder, port.dir, inner, outer)?;
+            }
             None => return Ok(()),
         }
     }

@@ -138,6 +138,13 @@ impl NetWalk {
     }
 }
 
+// The live instance at a place.
+fn sub_at(live: &[LiveSub], place: usize) -> Option<LiveSub>
+    ensures { result ≡ slice_get live.now place }
+{
+    live.get(place).copied()
+}
+
 // Into an instance with nets in it, whose module's nets are added.
 fn enter(
     alloc: Global,
@@ -179,7 +186,7 @@ pub fn add_nets_below(
     let mut walk = NetWalk::at(alloc, top)?;
     while let Some(visit) = walk.pop() {
         let live = hierarchy.items[visit.number].with_nets();
-        if let Some(next) = live.get(visit.next).copied() {
+        if let Some(next) = sub_at(live, visit.next) {
             enter(alloc, hierarchy, builder, &mut walk, visit, next)?;
         }
     }
