@@ -80,6 +80,7 @@ no_nets names none = let e : length names ≡ 0 = grind (arith, nat_tests) in ni
 
 pub dead_module : (library : List Cell) (ms : List Module) (depth : ℕ) (m : Module) → AreModules library ms → StandsTall ms depth m → IsModule library m → lives_in depth ms m ≡ false →
     ((prefix : Text) (first : ℕ) → parts_within depth ms prefix first m ≡ no_parts) × (m.nets ≡ [])
+dead_module library ms zero m sound tall is dead = elim tall [ ]
 dead_module library ms (suc depth) m sound (Rises each) is dead =
     let both = or_parts (nat_lt 0 (length m.nets) || list_any is_cell m.items) (subs_live (lives_in depth ms) ms (subs_of m.items)) dead in
     let own = or_parts (nat_lt 0 (length m.nets)) (list_any is_cell m.items) both.0 in

@@ -1,6 +1,6 @@
 -- A walk through the items below a module: past an item, into an instance, and the whole.
 use Rattle.std.proofs.Common.{ℕ, zero, suc, ◌+◌, ◌-◌, ◌<◌, ◌≤◌, ◌≡◌, ◌^◌, Bool, true, false, min, List, [], ◌∷◌, ◌++◌, length, take, drop, get_or, map, reverse, Option, None, Some, Ok, Err, slice_get, refl, sym, ap, subst, arith, ◌∙◌, length-append, append_assoc, append-nil}
-use Rattle.std.specs.List.{All, AllByRecursion, sum_by}
+use Rattle.std.specs.List.{All, AllByRecursion}
 use Rattle.std.proofs.lemmas.List.{reverse-append, take-append-le, take-take, take_all, length-take-le}
 use Rattle.std.proofs.lemmas.List.Elements.{All-get_or}
 use Rattle.std.proofs.lemmas.Option.{slice_get_within, slice_get-get_or, get_or_from_slice_get}
@@ -23,7 +23,7 @@ use Rattle.dft_hier.specs.declared.weights.LiveItem.{LiveItem}
 use Rattle.dft_hier.specs.declared.weights.LiveItem.TheVariants.{Own, Sub}
 use Rattle.dft_hier.specs.Hierarchy.{sub_of}
 use Rattle.dft_hier.specs.Flat.{Parts, Giving, no_parts, and_parts, sub_parts, parts_within, inside, connection_joins, add_instances}
-use Rattle.dft_hier.specs.FlatNets.{items_in, items_at, IsSubAt}
+use Rattle.dft_hier.specs.FlatNets.{total_by, items_in, items_at, IsSubAt}
 use Rattle.dft_hier.specs.FlatItems.{own_parts, named_parts, live_parts, nets_of, live_items_at, net_total, step_of, item_size_in}
 use Rattle.dft_hier.specs.Growing.{IsPrefix}
 use Rattle.dft_hier.specs.ItemWalks.{ItemStand, at_top, passed_by, passed_own, visit_at, and_visit, gone_into, adds, pending_parts, IsSpan, AreSpans, IsItemWalk, IsItemIn, item_visit_size, item_way_size}
@@ -77,7 +77,7 @@ module _ (ms : List Module) (items : List Live) (weights : List Weight) (library
         spans = spans_less ms items weights (length n.nets) v.prefix (length s.prefix) (reverse s.way) b.0.1 b.0.2;
         printed = h.printed;
         few = h.few;
-        library = h.library;
+        over = h.over;
         rest = sym (ap (λ (ls : List LiveItem). adds (and_parts (live_parts (parts_within (length ms) ms) ms weights (take v.prefix s.prefix) v.first v.next (items_at ms v.number) ls) (pending_parts ms items weights s.prefix (reverse s.way))) n) (drop_over (live_items_at items v.number) v.item past)) ∙ b.1;
       }
 
@@ -97,7 +97,7 @@ module _ (ms : List Module) (items : List Live) (weights : List Weight) (library
       let there : slice_get m.items place ≡ Some i = ap (λ (o : Option Module). slice_get (items_in o) place) (sym span.at) ∙ at in
       let P : Item → Type 0 = λ (x : Item). IsItem library (length m.nets) x in
       let sound : IsItem library (length m.nets) i = subst P (get_or_from_slice_get m.items place i i there) (All-get_or P m.items place i (slice_get_within m.items place i there) (sound_at library ms v.number m laid.sound span.at).items) in
-      record { count = length m.nets; sound = subst (λ (l : List Cell). IsItem l (length m.nets) i) (sym h.library) sound; within = span.own }
+      record { count = length m.nets; sound = subst (λ (l : List Cell). IsItem l (length m.nets) i) (sym h.over) sound; within = span.own }
 
   own_first : (whole : Grown) (s : ItemStand) (v : Visit) (n : Netlist) (i : Item) (place : ℕ) → slice_get (live_items_at items v.number) v.item ≡ Some (Own place) → slice_get (items_at ms v.number) place ≡ Some i → IsItemWalk ms items weights library whole (and_visit s v) n →
       and_grown (adds (own_parts (take v.prefix s.prefix) v.first (Some i)) n) (adds (pending_parts ms items weights s.prefix (passed_own v ∷ reverse s.way))) ≡ whole
@@ -120,14 +120,14 @@ module _ (ms : List Module) (items : List Live) (weights : List Weight) (library
       let keeps = adds_keep own.instances (with_joins n own.joins) new added in
       let size : length new.nets ≡ length n.nets = ap (λ (xs : List Text). length xs) keeps.0 in
       let span = b.0.0 in
-      let cut = ap (λ (ls : List LiveItem). sum_by (nets_of weights) ls) (drop_at (live_items_at items v.number) v.item (Own place) at) in
+      let cut = ap (λ (ls : List LiveItem). total_by (nets_of weights) ls) (drop_at (live_items_at items v.number) v.item (Own place) at) in
       let span_rest = span.rest in
       let spans : AreSpans ms items weights (length n.nets) (length s.prefix) (passed_own v ∷ reverse s.way) = (record { m = span.m; at = span.at; own = span.own; rest = omega arith }, b.0.1, b.0.2) in
       record {
         spans = subst (λ (c : ℕ). AreSpans ms items weights c (length s.prefix) (reverse (s.way ++ passed_own v ∷ []))) (sym size) (subst (AreSpans ms items weights (length n.nets) (length s.prefix)) (sym (back-push s.way (passed_own v))) spans);
         printed = h.printed;
         few = (let f = h.few in omega arith);
-        library = keeps.1 ∙ h.library;
+        over = keeps.1 ∙ h.over;
         rest = ap (λ (back : List Visit). adds (pending_parts ms items weights s.prefix back) new) (back-push s.way (passed_own v))
             ∙ sym (ap (λ (g : Grown). and_grown g (adds (pending_parts ms items weights s.prefix (passed_own v ∷ reverse s.way)))) added) ∙ own_first whole s v n i place at there h;
       }
@@ -144,7 +144,7 @@ module _ (ms : List Module) (items : List Live) (weights : List Weight) (library
       (net_total ms is.below ≡ (get_or weights l.child no_weight).nets) × (v.next + net_total ms is.below ≤ length n.nets)
   sub_total whole s v n l is laid at h =
       let span = top_visit whole s v n h in
-      let cut = ap (λ (ls : List LiveItem). sum_by (nets_of weights) ls) (drop_at (live_items_at items v.number) v.item (Sub l) at) in
+      let cut = ap (λ (ls : List LiveItem). total_by (nets_of weights) ls) (drop_at (live_items_at items v.number) v.item (Sub l) at) in
       let rest = span.rest in
       let few = h.few in
       let e = laid.exact l.child is.below is.below_at (omega arith) in
@@ -202,7 +202,7 @@ module _ (ms : List Module) (items : List Live) (weights : List Weight) (library
       let split = laid.totals l.child m is.below_at (omega (arith, total.1)) in
       let span = b.0.0 in
       let span_rest = span.rest in
-      let cut = ap (λ (ls : List LiveItem). sum_by (nets_of weights) ls) (drop_at (live_items_at items v.number) v.item (Sub l) at) in
+      let cut = ap (λ (ls : List LiveItem). total_by (nets_of weights) ls) (drop_at (live_items_at items v.number) v.item (Sub l) at) in
       let size : length new.nets ≡ length n.nets = ap (λ (x : Netlist). length x.nets) joined in
       let long = length-append (take v.prefix s.prefix) is.sub.name in
       let longer = length-append (take v.prefix s.prefix ++ is.sub.name) (47 ∷ []) in
@@ -215,13 +215,13 @@ module _ (ms : List Module) (items : List Live) (weights : List Weight) (library
         spans = subst (λ (k : ℕ). AreSpans ms items weights k (length q) (reverse ((s.way ++ w ∷ []) ++ c ∷ []))) (sym size) (subst (AreSpans ms items weights (length n.nets) (length q)) (sym back) spans);
         printed = printed;
         few = omega arith;
-        library = ap (λ (x : Netlist). x.library) joined ∙ h.library;
+        over = ap (λ (x : Netlist). x.library) joined ∙ h.over;
         rest = ap (λ (xs : List Visit). adds (pending_parts ms items weights q xs) new) back ∙ ap (adds (pending_parts ms items weights q (c ∷ w ∷ reverse s.way))) joined ∙ sym (sub_pending whole s v n l is laid at h) ∙ b.1;
       }
 
   -- ---- how many steps are left
 
-  sum_push : {X : Type 0} (f : X → ℕ) (xs : List X) (x : X) → sum_by f (xs ++ x ∷ []) ≡ sum_by f xs + f x
+  sum_push : {X : Type 0} (f : X → ℕ) (xs : List X) (x : X) → total_by f (xs ++ x ∷ []) ≡ total_by f xs + f x
   sum_push f [] x = omega arith
   sum_push f (y ∷ xs) x = let r = sum_push f xs x in omega arith
 
@@ -230,7 +230,7 @@ module _ (ms : List Module) (items : List Live) (weights : List Weight) (library
       let a = sum_push (item_visit_size ms items) way (passed_own v) in
       let b = sum_push (item_visit_size ms items) way v in
       let f : LiveItem → ℕ = step_of (item_size_in (length ms) items) in
-      let cut : sum_by f (drop v.item (live_items_at items v.number)) ≡ f (Own place) + sum_by f (drop (v.item + 1) (live_items_at items v.number)) = ap (sum_by f) (drop_at (live_items_at items v.number) v.item (Own place) at) in
+      let cut : total_by f (drop v.item (live_items_at items v.number)) ≡ f (Own place) + total_by f (drop (v.item + 1) (live_items_at items v.number)) = ap (total_by f) (drop_at (live_items_at items v.number) v.item (Own place) at) in
       omega arith
 
   pub sub_fewer : (way : List Visit) (v : Visit) (l : LiveSub) (below : ℕ) (c : Visit) → c.number ≡ l.child → c.item ≡ 0 → slice_get (live_items_at items v.number) v.item ≡ Some (Sub l) → item_size_in (length ms) items l.child ≡ item_size_in (suc (length ms)) items l.child →
@@ -240,8 +240,8 @@ module _ (ms : List Module) (items : List Live) (weights : List Weight) (library
       let b = sum_push (item_visit_size ms items) way (passed_by v below) in
       let d = sum_push (item_visit_size ms items) way v in
       let f : LiveItem → ℕ = step_of (item_size_in (length ms) items) in
-      let cut : sum_by f (drop v.item (live_items_at items v.number)) ≡ f (Sub l) + sum_by f (drop (v.item + 1) (live_items_at items v.number)) = ap (sum_by f) (drop_at (live_items_at items v.number) v.item (Sub l) at) in
-      let child : item_visit_size ms items c ≡ item_size_in (suc (length ms)) items l.child = ap (λ (k : ℕ). suc (sum_by f (drop k (live_items_at items c.number)))) start ∙ ap (λ (k : ℕ). suc (sum_by f (live_items_at items k))) number in
+      let cut : total_by f (drop v.item (live_items_at items v.number)) ≡ f (Sub l) + total_by f (drop (v.item + 1) (live_items_at items v.number)) = ap (total_by f) (drop_at (live_items_at items v.number) v.item (Sub l) at) in
+      let child : item_visit_size ms items c ≡ item_size_in (suc (length ms)) items l.child = ap (λ (k : ℕ). suc (total_by f (drop k (live_items_at items c.number)))) start ∙ ap (λ (k : ℕ). suc (total_by f (live_items_at items k))) number in
       omega arith
 
   pub back_fewer : (way : List Visit) (v : Visit) → item_way_size ms items way < item_way_size ms items (way ++ v ∷ [])
@@ -259,7 +259,7 @@ module _ (ms : List Module) (items : List Live) (weights : List Weight) (library
         spans = (record { m = m; at = at; own = omega arith; rest = omega arith }, (omega arith), tt);
         printed = λ k d less. absurd (omega (arith, less));
         few = few;
-        library = same;
+        over = same;
         rest = sym (ap (λ (x : Parts). adds x n) gives
             ∙ ap (λ (k : ℕ). adds (live_parts (parts_within (length ms) ms) ms weights [] 0 k (items_at ms top) (live_items_at items top)) n) e)
             ∙ refl;

@@ -1,6 +1,5 @@
 -- Modules with their weights are laid out for a walk through their items.
 use Rattle.std.proofs.Common.{ℕ, zero, suc, ◌+◌, ◌-◌, ◌<◌, ◌≤◌, ◌≡◌, ◌⊎◌, inl, inr, Bool, true, false, cond, min, List, [], ◌∷◌, ◌++◌, length, drop, get_or, map, Option, None, Some, slice_get, refl, sym, ap, subst, arith, ◌∙◌, append-nil, length-append, true≢false}
-use Rattle.std.specs.List.{sum_by}
 use Rattle.std.proofs.lemmas.List.{get_or_past, length-map}
 use Rattle.std.proofs.lemmas.Option.{slice_get_within, slice_get-get_or}
 use Rattle.std.proofs.lemmas.Bool.{cases_lt}
@@ -22,7 +21,7 @@ use Rattle.dft_hier.specs.Numbers.{number_of, children_of}
 use Rattle.dft_hier.specs.Reach.{Graph, StandsIn, children_at, NoCircle}
 use Rattle.dft_hier.specs.Refusals.{first_unknown}
 use Rattle.dft_hier.specs.Flat.{Parts, Giving, no_parts, and_parts, sub_parts, item_parts, parts_within, inside, connection_joins}
-use Rattle.dft_hier.specs.FlatNets.{nets_in, subs_nets, sub_nets, items_in, items_at, IsSubAt}
+use Rattle.dft_hier.specs.FlatNets.{total_by, nets_in, subs_nets, sub_nets, items_in, items_at, IsSubAt}
 use Rattle.dft_hier.specs.FlatItems.{live_parts, nets_of, live_items_at, net_total, GivesParts, step_of, item_size_in}
 use Rattle.dft_hier.specs.ItemsLaid.{AreItemsLaid, IsOwnAt}
 use Rattle.dft_hier.specs.Weights.{AreWeights, AreLive, Live, at_most, no_live, no_weight, live_of}
@@ -81,20 +80,20 @@ abbrev WeighsNets : (ms : List Module) → (weights : List Weight) → Type 0
 WeighsNets ms weights = (k : ℕ) (m : Module) → slice_get ms k ≡ Some m → (net_total ms m ≤ MAX_NETS → net_total ms m ≡ (get_or weights k no_weight).nets) × ((get_or weights k no_weight).lives ≡ false → net_total ms m ≡ 0)
 
 sum_from : (ms : List Module) (weights : List Weight) (place : ℕ) (items : List Item) (children : List ℕ) → WeighsNets ms weights → numbers ms (subs_of items) ≡ map Some children → length (subs_nets (nets_in (length ms) ms) ms [] (subs_of items)) ≤ MAX_NETS →
-    sum_by (nets_of weights) (items_from weights place items children) ≡ length (subs_nets (nets_in (length ms) ms) ms [] (subs_of items))
+    total_by (nets_of weights) (items_from weights place items children) ≡ length (subs_nets (nets_in (length ms) ms) ms [] (subs_of items))
 sum_from ms weights place [] children weighs paired few = refl
 sum_from ms weights place (item.Join j ∷ items) children weighs paired few = let r = sum_from ms weights (place + 1) items children weighs paired few in omega arith
 sum_from ms weights place (item.Cell j ∷ items) children weighs paired few = let r = sum_from ms weights (place + 1) items children weighs paired few in omega arith
 sum_from ms weights place (item.Sub s ∷ items) children weighs paired few =
     let f = first_child ms s (subs_of items) children paired in
     let size = length-append (sub_nets (nets_in (length ms) ms) [] s (find_module ms s.of)) (subs_nets (nets_in (length ms) ms) ms [] (subs_of items)) in
-    ap (λ (cs : List ℕ). sum_by (nets_of weights) (own_or_sub weights place (slice_get cs 0) ++ items_from weights (place + 1) items (drop 1 cs))) f.1.1.0
+    ap (λ (cs : List ℕ). total_by (nets_of weights) (own_or_sub weights place (slice_get cs 0) ++ items_from weights (place + 1) items (drop 1 cs))) f.1.1.0
     ∙ by f.0 f.1.0 (child_is ms f.0 (number_within ms s.of f.0 f.1.1.1)) (get_or weights f.0 no_weight).lives refl (module_there ms s.of f.0 f.1.1.1) (find_module ms s.of) refl (omega arith)
     (sum_from ms weights (place + 1) items f.1.0 weighs f.1.1.2 (omega arith)) ∙ sym size
   where
     by : (c : ℕ) (rest : List ℕ) → (slice_get ms c ≡ None → ⊥) → (t : Bool) → (get_or weights c no_weight).lives ≡ t → slice_get ms c ≡ find_module ms s.of → (o : Option Module) → find_module ms s.of ≡ o → length (sub_nets (nets_in (length ms) ms) [] s (find_module ms s.of)) ≤ MAX_NETS →
-        sum_by (nets_of weights) (items_from weights (place + 1) items rest) ≡ length (subs_nets (nets_in (length ms) ms) ms [] (subs_of items)) →
-        sum_by (nets_of weights) (cond t (Sub (record { item = place; child = c }) ∷ []) [] ++ items_from weights (place + 1) items rest) ≡ length (sub_nets (nets_in (length ms) ms) [] s (find_module ms s.of)) + length (subs_nets (nets_in (length ms) ms) ms [] (subs_of items))
+        total_by (nets_of weights) (items_from weights (place + 1) items rest) ≡ length (subs_nets (nets_in (length ms) ms) ms [] (subs_of items)) →
+        total_by (nets_of weights) (cond t (Sub (record { item = place; child = c }) ∷ []) [] ++ items_from weights (place + 1) items rest) ≡ length (sub_nets (nets_in (length ms) ms) [] s (find_module ms s.of)) + length (subs_nets (nets_in (length ms) ms) ms [] (subs_of items))
     by c rest there true lives is None found few more = absurd (there (is ∙ found))
     by c rest there true lives is (Some m) found few more =
         let w = weighs c m (is ∙ found) in
@@ -112,11 +111,12 @@ sum_from ms weights place (item.Sub s ∷ items) children weighs paired few =
 
 -- ---- how many steps a walk takes
 
-sum_same : (f g : LiveItem → ℕ) (xs : List LiveItem) → ((at : ℕ) (x : LiveItem) → slice_get xs at ≡ Some x → f x ≡ g x) → sum_by f xs ≡ sum_by g xs
+sum_same : (f g : LiveItem → ℕ) (xs : List LiveItem) → ((at : ℕ) (x : LiveItem) → slice_get xs at ≡ Some x → f x ≡ g x) → total_by f xs ≡ total_by g xs
 sum_same f g [] same = refl
 sum_same f g (x ∷ xs) same = let a = same 0 x refl in let b = sum_same f g xs (λ at y is. same (suc at) y is) in omega arith
 
 size_same : (g : Graph) (items : List Live) (depth number : ℕ) → IsTall g depth number → ((k at : ℕ) (l : LiveSub) → slice_get (live_items_at items k) at ≡ Some (Sub l) → StandsIn (children_at g k) l.child) → item_size_in depth items number ≡ item_size_in (suc depth) items number
+size_same g items zero number tall among = elim tall [ ]
 size_same g items (suc depth) number (Grows each) among =
     ap suc (sum_same (step_of (item_size_in depth items)) (step_of (item_size_in (suc depth) items)) (live_items_at items number)
     (λ at x is. by at x is (λ l h. size_same g items depth l.child (each l.child h) among)))
@@ -226,14 +226,14 @@ module _ (library : List Cell) (ms : List Module) (weights : List Weight) (items
   sub_among : (number at : ℕ) (l : LiveSub) → slice_get (live_items_at items number) at ≡ Some (Sub l) → StandsIn (children_at (children_of ms) number) l.child
   sub_among number at l is = let m = live_past number at (Sub l) is in let good = good_at number m.0 m.1 at (Sub l) is in good.among
 
-  totals_at : (number : ℕ) (m : Module) → slice_get ms number ≡ Some m → net_total ms m ≤ MAX_NETS → net_total ms m ≡ length m.nets + sum_by (nets_of weights) (live_items_at items number)
+  totals_at : (number : ℕ) (m : Module) → slice_get ms number ≡ Some m → net_total ms m ≤ MAX_NETS → net_total ms m ≡ length m.nets + total_by (nets_of weights) (live_items_at items number)
   totals_at number m at few =
       let standing = tall_module ms (length ms) number m (tall number (slice_get_within ms number m at)) at in
       let deep = ap (λ (xs : List Text). length xs) (nets_deep_enough ms (length ms) m standing []) in
       let split = length-append (map (λ name. [] ++ name) m.nets) (subs_nets (nets_in (length ms) ms) ms [] (subs_of m.items)) in
       let names = length-map m.nets (λ (name : Text). [] ++ name) in
       let sum = sum_from ms weights 0 m.items (children_at (children_of ms) number) weighs_nets (paired_at ms number m known at) (omega arith) in
-      let lists = ap (λ (ls : List LiveItem). sum_by (nets_of weights) ls) (lists_at number m at) in
+      let lists = ap (λ (ls : List LiveItem). total_by (nets_of weights) ls) (lists_at number m at) in
       omega arith
 
   pub laid_items : AreItemsLaid library ms items weights

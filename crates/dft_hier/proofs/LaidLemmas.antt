@@ -1,6 +1,5 @@
 -- Modules with their weights are laid out for a walk through their nets.
 use Rattle.std.proofs.Common.{ℕ, zero, suc, ◌+◌, ◌-◌, ◌<◌, ◌≤◌, ◌≡◌, ◌⊎◌, inl, inr, Bool, true, false, cond, min, nat_lt, List, [], ◌∷◌, ◌++◌, length, drop, get_or, map, Option, None, Some, slice_get, refl, sym, ap, subst, arith, ◌∙◌, append-nil, true≢false}
-use Rattle.std.specs.List.{sum_by}
 use Rattle.std.proofs.lemmas.List.{get_or_past, nil_from_length}
 use Rattle.std.proofs.lemmas.Option.{slice_get_within, slice_get-get_or}
 use Rattle.std.proofs.lemmas.Bool.{cases_lt}
@@ -18,7 +17,7 @@ use Rattle.dft_hier.specs.Numbers.{number_of, numbers_of_subs, children_of}
 use Rattle.dft_hier.specs.Reach.{Graph, StandsIn, children_at, NoCircle}
 use Rattle.dft_hier.specs.Refusals.{first_unknown}
 use Rattle.dft_hier.specs.Flat.{inside}
-use Rattle.dft_hier.specs.FlatNets.{NetsGiving, nets_in, subs_nets, live_nets, items_in, items_at, live_at, IsSubAt, GivesLive, size_in, IsNetLaid}
+use Rattle.dft_hier.specs.FlatNets.{total_by, NetsGiving, nets_in, subs_nets, live_nets, items_in, items_at, live_at, IsSubAt, GivesLive, size_in, IsNetLaid}
 use Rattle.dft_hier.specs.Weights.{AreWeights, AreLive, Live, at_most, no_live, no_weight, and_own, and_sub, and_item, live_from, live_of}
 use Rattle.dft_hier.proofs.FitLemmas.{numbers, children_of_at, paired_at}
 use Rattle.dft_hier.proofs.HeightLemmas.{IsTall, Grows, all_tall}
@@ -64,11 +63,12 @@ live_subs_from ms weights all whole place (item.Sub s ∷ items) children live t
 
 -- ---- how many steps a walk takes
 
-sum_same : (f g : LiveSub → ℕ) (xs : List LiveSub) → ((place : ℕ) (l : LiveSub) → slice_get xs place ≡ Some l → f l ≡ g l) → sum_by f xs ≡ sum_by g xs
+sum_same : (f g : LiveSub → ℕ) (xs : List LiveSub) → ((place : ℕ) (l : LiveSub) → slice_get xs place ≡ Some l → f l ≡ g l) → total_by f xs ≡ total_by g xs
 sum_same f g [] same = refl
 sum_same f g (x ∷ xs) same = let a = same 0 x refl in let b = sum_same f g xs (λ place l at. same (suc place) l at) in omega arith
 
 size_same : (g : Graph) (items : List Live) (depth number : ℕ) → IsTall g depth number → ((k place : ℕ) (l : LiveSub) → slice_get (live_at items k) place ≡ Some l → StandsIn (children_at g k) l.child) → size_in depth items number ≡ size_in (suc depth) items number
+size_same g items zero number tall among = elim tall [ ]
 size_same g items (suc depth) number (Grows each) among =
     ap suc (sum_same (λ (l : LiveSub). suc (size_in depth items l.child)) (λ (l : LiveSub). suc (size_in (suc depth) items l.child)) (live_at items number)
     (λ place l at. ap suc (size_same g items depth l.child (each l.child (among number place l at)) among)))

@@ -27,5 +27,6 @@ pub mod ConnectionLemmas
 pub mod FlattenSteps
 pub mod NewNames
 pub mod ConnectLemmas
+pub mod EnterLemmas
 pub mod OneDesign
 mod FlatExamples

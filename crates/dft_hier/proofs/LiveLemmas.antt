@@ -115,6 +115,7 @@ with_subs depth ms weights (s ∷ subs) w nets lives is exact = by (number_of ms
 
 -- each weight is that of the module with all below it
 pub exact_weight : (ms : List Module) (weights : List Weight) (depth k : ℕ) (m : Module) → AreWeights ms (children_of ms) weights → IsTall (children_of ms) depth k → slice_get ms k ≡ Some m → get_or weights k no_weight ≡ weight_in depth ms m
+exact_weight ms weights zero k m h tall at = elim tall [ ]
 exact_weight ms weights (suc depth) k m h (Grows each) at =
     let are = children_of_at ms k m at in
     let sum = length-append (map (λ name. [] ++ name) m.nets) (subs_nets (nets_in depth ms) ms [] (subs_of m.items)) in

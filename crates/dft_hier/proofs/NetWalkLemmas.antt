@@ -1,6 +1,5 @@
 -- A walk through the nets below a module: a step past an instance, and the whole.
 use Rattle.std.proofs.Common.{ℕ, zero, suc, ◌+◌, ◌-◌, ◌<◌, ◌≤◌, ◌≡◌, ◌⊎◌, inl, inr, Bool, true, false, List, [], ◌∷◌, ◌++◌, length, take, drop, get_or, map, reverse, Option, None, Some, Ok, Err, slice_get, refl, sym, ap, subst, arith, ◌∙◌, length-append, append_assoc, append-nil}
-use Rattle.std.specs.List.{sum_by}
 use Rattle.std.proofs.lemmas.List.{reverse-append, take-append-le, take-take, take_all, length-take-le}
 use Rattle.dft_base.specs.Lexing.{Text}
 use Rattle.dft_netlist.specs.Netlist.{Netlist}
@@ -13,7 +12,7 @@ use Rattle.dft_base.proofs.ListLemmas.{drop_at, drop_over}
 use Rattle.dft_netlist.specs.declared.error.NetlistError.{NetlistError}
 use Rattle.dft_hier.specs.Growing.{IsPrefix}
 use Rattle.dft_hier.specs.Flat.{inside}
-use Rattle.dft_hier.specs.FlatNets.{nets_in, named_nets, sub_nets, live_nets, items_at, live_at, GivesLive, IsSubAt, IsNetLaid, size_in}
+use Rattle.dft_hier.specs.FlatNets.{total_by, nets_in, named_nets, sub_nets, live_nets, items_at, live_at, GivesLive, IsSubAt, IsNetLaid, size_in}
 use Rattle.dft_hier.specs.NetWalks.{NetStand, at_module, passed, visit_of, gone_on, pending, IsNested, IsNetWalk, visit_size, way_size}
 use Rattle.dft_hier.specs.Weights.{Live}
 
@@ -107,7 +106,7 @@ walks_on ms items whole s v l name m n new at named gives live printed added h =
     let whole_size = length-append (take v.prefix s.prefix ++ name) (47 ∷ []) in
     let cut = length-take-le v.prefix s.prefix b.0.1 in
     record {
-      nested = subst (IsNested (length ms) (length q)) (sym back) (live, (omega arith), b.0.0, (omega arith), b.0.2);
+      nested = subst (IsNested (length ms) (length q)) (sym back) (live, (omega arith), (b.0.0, (omega arith), b.0.2));
       printed = printed;
       rest = sym (ap (λ (g : Grown). and_grown g (add_nets (pending ms items (gone_on s v name l.child).prefix (reverse (gone_on s v name l.child).way)))) added) ∙ comes_first ms items whole s v l name m n at named gives h;
     }
@@ -148,7 +147,7 @@ instance_of ms items v l is prefix =
 
 -- ---- how many steps are left
 
-sum_push : {X : Type 0} (f : X → ℕ) (xs : List X) (x : X) → sum_by f (xs ++ x ∷ []) ≡ sum_by f xs + f x
+sum_push : {X : Type 0} (f : X → ℕ) (xs : List X) (x : X) → total_by f (xs ++ x ∷ []) ≡ total_by f xs + f x
 sum_push f [] x = omega arith
 sum_push f (y ∷ xs) x = let r = sum_push f xs x in omega arith
 
@@ -160,7 +159,7 @@ steps_fewer ms items s v l name at deep =
     let b = sum_push (visit_size ms items) s.way (passed v) in
     let d = sum_push (visit_size ms items) s.way v in
     let f : LiveSub → ℕ = λ (x : LiveSub). suc (size_in (length ms) items x.child) in
-    let cut : sum_by f (drop v.next (live_at items v.number)) ≡ f l + sum_by f (drop (v.next + 1) (live_at items v.number)) = ap (sum_by f) (drop_at (live_at items v.number) v.next l at) in
+    let cut : total_by f (drop v.next (live_at items v.number)) ≡ f l + total_by f (drop (v.next + 1) (live_at items v.number)) = ap (total_by f) (drop_at (live_at items v.number) v.next l at) in
     omega arith
 
 pub steps_back : (ms : List Module) (items : List Live) (way : List Visit) (v : Visit) → way_size ms items way < way_size ms items (way ++ v ∷ [])

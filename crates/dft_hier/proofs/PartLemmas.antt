@@ -62,6 +62,7 @@ same_items give other ms prefix first next (item.Sub s ∷ items) same =
 
 -- a module that stands no deeper gives the same where a recursion may go deeper
 pub deep_enough : (ms : List Module) (depth : ℕ) (m : Module) → StandsTall ms depth m → (prefix : Text) (first : ℕ) → parts_within depth ms prefix first m ≡ parts_within (suc depth) ms prefix first m
+deep_enough ms zero m tall prefix first = elim tall [ ]
 deep_enough ms (suc depth) m (Rises each) prefix first =
     ap (λ (p : Parts). and_parts (record { nets = map (λ name. prefix ++ name) m.nets; joins = []; instances = [] }) p)
     (same_items (parts_within depth ms) (parts_within (suc depth) ms) ms prefix first (first + length m.nets) m.items
@@ -82,6 +83,7 @@ sub_number ms (x ∷ subs) (suc place) k s at is = behind (number_of ms x.of) (s
     behind (Some n) h = record { place = suc h.place; at = h.at }
 
 pub tall_module : (ms : List Module) (depth k : ℕ) (m : Module) → IsTall (children_of ms) depth k → slice_get ms k ≡ Some m → StandsTall ms depth m
+tall_module ms zero k m tall at = elim tall [ ]
 tall_module ms (suc depth) k m (Grows each) at = Rises (λ place s below there is. (
     let n = number_there ms s.of below is in
     let child : StandsIn (children_at (children_of ms) k) n.0 = subst (λ (xs : List ℕ). StandsIn xs n.0) (sym (children_of_at ms k m at)) (sub_number ms (subs_of m.items) place n.0 s there n.1) in

@@ -2,6 +2,7 @@
 use Rattle.std.proofs.Common.{ℕ, zero, suc, ◌+◌, ◌-◌, ◌<◌, ◌≤◌, ◌≡◌, ◌≢◌, ◌==◌, ◌⊎◌, inl, inr, Bool, true, false, not, ◌||◌, cond, List, [], ◌∷◌, ◌++◌, length, take, drop, get_or, set, replicate, map, filter, Option, None, Some, slice_get, refl, sym, ap, subst, arith, ◌∙◌, length-set, true≢false}
 use Rattle.std.specs.List.{list_any, range_with_len, count_by}
 use Rattle.std.proofs.lemmas.List.{get_or-set_same, get_or-set_other, take_all, drop_more, length-replicate, drop_all, append-nil}
+use Rattle.std.proofs.lemmas.List.Sums.{sum_by-cons}
 use Rattle.std.proofs.lemmas.List.Folds.{list_any_more}
 use Rattle.std.proofs.lemmas.Bool.{cases_eq, cases_lt}
 use Rattle.std.proofs.lemmas.Bool.Decides.{nat_tests}
@@ -89,10 +90,10 @@ tops_unmarked g marks h =
     ∙ unmarked_same (is_instantiated g) 0 marks (λ k less. (let at : k ≡ 0 + k = omega arith in h.each k (omega arith) ∙ ap (is_instantiated g) at))
 
 count_false : (marks : List Bool) → count_by not (false ∷ marks) ≡ 1 + count_by not marks
-count_false marks = refl
+count_false marks = sum_by-cons (λ (m : Bool). cond (not m) 1 0) false marks
 
 count_true : (marks : List Bool) → count_by not (true ∷ marks) ≡ 0 + count_by not marks
-count_true marks = refl
+count_true marks = sum_by-cons (λ (m : Bool). cond (not m) 1 0) true marks
 
 unmarked_count : (from : ℕ) (marks : List Bool) → length (unmarked_from from marks) ≡ count_by not marks
 unmarked_count from [] = refl

@@ -1,6 +1,5 @@
 -- The joins and instances of a flat design by the items of modules that give something.
 use Rattle.std.specs.Prelude.{ℕ, suc, zero, ◌≡◌, ◌+◌, ◌≤◌, ◌<◌, List, [], ◌∷◌, ◌++◌, length, map, Option, Some, None, slice_get, slice_index_or}
-use Rattle.std.specs.List.{sum_by}
 use Rattle.dft_base.specs.Lexing.{Text}
 use Rattle.dft_netlist.specs.declared.limits.TheConstants.{MAX_NETS}
 use Rattle.dft_modules.specs.declared.module.Item.{Item}
@@ -11,7 +10,7 @@ use Rattle.dft_hier.specs.declared.weights.LiveSub.{LiveSub}
 use Rattle.dft_hier.specs.declared.weights.LiveItem.{LiveItem}
 use Rattle.dft_hier.specs.declared.weights.LiveItem.TheVariants.{Own, Sub}
 use Rattle.dft_hier.specs.Flat.{Parts, Giving, no_parts, and_parts, moved_join, moved_instance, parts_within, sub_parts}
-use Rattle.dft_hier.specs.FlatNets.{IsSubAt, items_at, nets_in}
+use Rattle.dft_hier.specs.FlatNets.{total_by, nets_in, items_at}
 use Rattle.dft_hier.specs.Weights.{Live, no_live, no_weight}
 
 -- what an item of a module's own gives
@@ -61,4 +60,4 @@ step_of size (Sub l) = suc (size l.child)
 
 abbrev pub item_size_in : (depth : ℕ) → List Live → (number : ℕ) → ℕ
 item_size_in zero items number = 0
-item_size_in (suc depth) items number = suc (sum_by (step_of (item_size_in depth items)) (live_items_at items number))
+item_size_in (suc depth) items number = suc (total_by (step_of (item_size_in depth items)) (live_items_at items number))

@@ -1,6 +1,5 @@
 -- The nets of a flat design by themselves, and by the items of modules that have nets in them.
-use Rattle.std.specs.Prelude.{ℕ, zero, suc, ◌≡◌, ◌<◌, length, List, [], ◌∷◌, ◌++◌, map, Option, Some, None, slice_get, slice_index_or}
-use Rattle.std.specs.List.{sum_by}
+use Rattle.std.specs.Prelude.{ℕ, zero, suc, ◌≡◌, ◌+◌, ◌<◌, length, List, [], ◌∷◌, ◌++◌, map, Option, Some, None, slice_get, slice_index_or}
 use Rattle.dft_base.specs.Lexing.{Text}
 use Rattle.dft_modules.specs.declared.module.SubInstance.{SubInstance}
 use Rattle.dft_modules.specs.declared.module.Item.{Item}
@@ -10,6 +9,11 @@ use Rattle.dft_hier.specs.declared.weights.LiveSub.{LiveSub}
 use Rattle.dft_hier.specs.Hierarchy.{subs_of, find_module}
 use Rattle.dft_hier.specs.Flat.{inside}
 use Rattle.dft_hier.specs.Weights.{Live, no_live}
+
+-- the sum of what a function gives of each
+abbrev pub total_by : {X : Type 0} → (X → ℕ) → List X → ℕ
+total_by f [] = 0
+total_by f (x ∷ xs) = f x + total_by f xs
 
 -- ---- nets alone
 
@@ -76,7 +80,7 @@ GivesLive ms items number m = (prefix : Text) → nets_in (length ms) ms prefix 
 -- so many steps a walk from a module takes, where it goes so deep at most
 abbrev pub size_in : (depth : ℕ) → List Live → (number : ℕ) → ℕ
 size_in zero items number = 0
-size_in (suc depth) items number = suc (sum_by (λ (l : LiveSub). suc (size_in depth items l.child)) (live_at items number))
+size_in (suc depth) items number = suc (total_by (λ (l : LiveSub). suc (size_in depth items l.child)) (live_at items number))
 
 pub record IsNetLaid (ms : List Module) (items : List Live) : Type 0 where
   pub count : length items ≡ length ms

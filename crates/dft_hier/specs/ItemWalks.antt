@@ -1,6 +1,5 @@
 -- A walk through the items below a module: the way down to the items that come next, and the prefix of the last module on it.
 use Rattle.std.specs.Prelude.{ℕ, suc, ◌≡◌, ◌+◌, ◌<◌, ◌≤◌, List, [], ◌∷◌, ◌++◌, length, take, drop, reverse, Some, slice_get}
-use Rattle.std.specs.List.{sum_by}
 use Rattle.dft_base.specs.Lexing.{Text}
 use Rattle.dft_cells.specs.declared.cell.Cell.{Cell}
 use Rattle.dft_netlist.specs.Netlist.{Netlist}
@@ -14,7 +13,7 @@ use Rattle.dft_hier.specs.declared.weights.Weight.{Weight}
 use Rattle.dft_hier.specs.declared.weights.LiveItem.{LiveItem}
 use Rattle.dft_hier.specs.Flat.{Parts, no_parts, and_parts, add_instances, inside, parts_within}
 use Rattle.dft_hier.specs.FlatItems.{live_parts, nets_of, live_items_at, item_size_in, step_of}
-use Rattle.dft_hier.specs.FlatNets.{items_at}
+use Rattle.dft_hier.specs.FlatNets.{items_at, total_by}
 use Rattle.dft_hier.specs.Growing.{IsPrefix}
 use Rattle.dft_hier.specs.Moving.{with_joins}
 use Rattle.dft_hier.specs.Weights.{Live}
@@ -66,7 +65,7 @@ pub record IsSpan (ms : List Module) (items : List Live) (weights : List Weight)
   pub m : Module
   pub at : slice_get ms v.number ≡ Some m
   pub own : v.first + length m.nets ≤ nets
-  pub rest : v.next + sum_by (nets_of weights) (drop v.item (live_items_at items v.number)) ≤ nets
+  pub rest : v.next + total_by (nets_of weights) (drop v.item (live_items_at items v.number)) ≤ nets
 
 -- each visit of the way has its nets, and the prefix of each begins that of the one behind it
 abbrev pub AreSpans : List Module → List Live → List Weight → (nets limit : ℕ) → (back : List Visit) → Type 0
@@ -78,7 +77,7 @@ pub record IsItemWalk (ms : List Module) (items : List Live) (weights : List Wei
   pub spans : AreSpans ms items weights (length n.nets) (length s.prefix) (reverse s.way)
   pub printed : IsPrefix s.prefix
   pub few : length n.nets ≤ MAX_NETS
-  pub library : n.library ≡ library
+  pub over : n.library ≡ library
   pub rest : adds (pending_parts ms items weights s.prefix (reverse s.way)) n ≡ whole
 
 -- an item can stand in a netlist, where its module's first net has this number
@@ -90,7 +89,7 @@ pub record IsItemIn (n : Netlist) (first : ℕ) (i : Item) : Type 0 where
 -- ---- how many steps are left
 
 abbrev pub item_visit_size : List Module → List Live → Visit → ℕ
-item_visit_size ms items v = suc (sum_by (step_of (item_size_in (length ms) items)) (drop v.item (live_items_at items v.number)))
+item_visit_size ms items v = suc (total_by (step_of (item_size_in (length ms) items)) (drop v.item (live_items_at items v.number)))
 
 abbrev pub item_way_size : List Module → List Live → List Visit → ℕ
-item_way_size ms items way = sum_by (item_visit_size ms items) way
+item_way_size ms items way = total_by (item_visit_size ms items) way

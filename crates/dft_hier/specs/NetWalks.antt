@@ -1,6 +1,5 @@
 -- A walk through the nets below a module: the way down to the nets that come next, and the prefix of the last module on it.
 use Rattle.std.specs.Prelude.{ℕ, suc, ◌≡◌, ◌+◌, ◌<◌, ◌≤◌, List, [], ◌∷◌, ◌++◌, length, take, drop, reverse}
-use Rattle.std.specs.List.{sum_by}
 use Rattle.dft_base.specs.Lexing.{Text}
 use Rattle.dft_modules.specs.Modules.{Module}
 use Rattle.dft_netlist.specs.Netlist.{Netlist}
@@ -8,7 +7,7 @@ use Rattle.dft_netlist_text.specs.NetlistText.{Grown, add_nets}
 use Rattle.dft_hier.specs.declared.flat_nets.Visit.{Visit}
 use Rattle.dft_hier.specs.declared.weights.LiveSub.{LiveSub}
 use Rattle.dft_hier.specs.Flat.{inside}
-use Rattle.dft_hier.specs.FlatNets.{nets_in, live_nets, items_at, live_at, size_in}
+use Rattle.dft_hier.specs.FlatNets.{total_by, nets_in, live_nets, items_at, live_at, size_in}
 use Rattle.dft_hier.specs.Growing.{IsPrefix}
 use Rattle.dft_hier.specs.Weights.{Live}
 
@@ -56,7 +55,7 @@ pub record IsNetWalk (ms : List Module) (items : List Live) (whole : Grown) (s :
 -- ---- how many steps are left
 
 abbrev pub visit_size : List Module → List Live → Visit → ℕ
-visit_size ms items v = suc (sum_by (λ (l : LiveSub). suc (size_in (length ms) items l.child)) (drop v.next (live_at items v.number)))
+visit_size ms items v = suc (total_by (λ (l : LiveSub). suc (size_in (length ms) items l.child)) (drop v.next (live_at items v.number)))
 
 abbrev pub way_size : List Module → List Live → List Visit → ℕ
-way_size ms items way = sum_by (visit_size ms items) way
+way_size ms items way = total_by (visit_size ms items) way

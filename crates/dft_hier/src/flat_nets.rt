@@ -1,6 +1,6 @@
 //! The nets of a flat design: those of a module, and then those of each module instance below it, without recursion.
 
-ghost use Rattle.std.specs.Prelude.{◌≡◌, ◌<◌, ◌++◌, ◌∷◌, [], Some, map, length, take, slice_get, IfOk, IfSome, IfNone, OnOk, MatchResult};
+ghost use Rattle.std.specs.Prelude.{◌≡◌, ◌<◌, ◌+◌, ◌^◌, ◌++◌, ◌∷◌, [], Some, map, length, take, slice_get, IfOk, IfSome, IfNone, OnOk, MatchResult};
 ghost use Rattle.dft_hier.specs.Flat.{inside};
 ghost use Rattle.dft_hier.specs.FlatNets.{IsNetLaid, live_at, nets_below};
 ghost use Rattle.dft_hier.specs.Growing.{Grows, IsPrefix, IsRefusal};
@@ -120,6 +120,7 @@ impl NetWalk {
 
     // Past an instance of the module that was visited, and into the instance's module.
     fn go_on(&mut self, visit: Visit, name: &Name, child: usize) -> Result<(), AllocError>
+        requires { visit.next + 1 < 2 ^ 64 }
         ensures stand { OnOk result (self.new ≡ gone_on self.old visit name.now child) }
         ensures printed { OnOk result (IsPrefix self.old.prefix → IsPrefix self.new.prefix) }
     {
@@ -157,6 +158,7 @@ fn enter(
     requires laid { IsNetLaid hierarchy.now.modules.now hierarchy.now.items.now }
     requires there { visit.number < length hierarchy.now.modules.now }
     requires next { slice_get (live_at hierarchy.now.items.now visit.number) visit.next ≡ Some live }
+    requires small { visit.next + 1 < 2 ^ 64 }
     requires printed { IsPrefix walk.old.prefix }
     ensures walks { (whole : Grown) → IsNetWalk hierarchy.now.modules.now hierarchy.now.items.now whole (record walk.old { way = walk.old.way ++ visit ∷ [] }) builder.old → MatchResult result (λ _. IsNetWalk hierarchy.now.modules.now hierarchy.now.items.now whole walk.new builder.new) (IsRefusal whole) }
     ensures fewer { OnOk result (way_size hierarchy.now.modules.now hierarchy.now.items.now walk.new.way < way_size hierarchy.now.modules.now hierarchy.now.items.now (walk.old.way ++ visit ∷ [])) }
@@ -169,6 +171,27 @@ fn enter(
             add_names(alloc, builder, walk.prefix(), names)
         }
         None => unreachable!(),
+    }
+}
+
+// One step from a module that was taken from the way: into its next instance, or back.
+fn step(
+    alloc: Global,
+    hierarchy: &Hierarchy<'_>,
+    builder: &mut DesignBuilder,
+    walk: &mut NetWalk,
+    visit: Visit,
+) -> Result<(), NetlistError>
+    requires laid { IsNetLaid hierarchy.now.modules.now hierarchy.now.items.now }
+    requires there { visit.number < length hierarchy.now.modules.now }
+    requires printed { IsPrefix walk.old.prefix }
+    ensures walks { (whole : Grown) → IsNetWalk hierarchy.now.modules.now hierarchy.now.items.now whole (record walk.old { way = walk.old.way ++ visit ∷ [] }) builder.old → MatchResult result (λ _. IsNetWalk hierarchy.now.modules.now hierarchy.now.items.now whole walk.new builder.new) (IsRefusal whole) }
+    ensures fewer { OnOk result (way_size hierarchy.now.modules.now hierarchy.now.items.now walk.new.way < way_size hierarchy.now.modules.now hierarchy.now.items.now (walk.old.way ++ visit ∷ [])) }
+{
+    let live = hierarchy.items[visit.number].with_nets();
+    match sub_at(live, visit.next) {
+        Some(next) => enter(alloc, hierarchy, builder, walk, visit, next),
+        None => Ok(()),
     }
 }
 
@@ -185,10 +208,7 @@ pub fn add_nets_below(
 {
     let mut walk = NetWalk::at(alloc, top)?;
     while let Some(visit) = walk.pop() {
-        let live = hierarchy.items[visit.number].with_nets();
-        if let Some(next) = sub_at(live, visit.next) {
-            enter(alloc, hierarchy, builder, &mut walk, visit, next)?;
-        }
+        step(alloc, hierarchy, builder, &mut walk, visit)?;
     }
     Ok(())
 }
