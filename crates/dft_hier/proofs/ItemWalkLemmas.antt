@@ -97,7 +97,7 @@ module _ (ms : List Module) (items : List Live) (weights : List Weight) (library
       let there : slice_get m.items place ≡ Some i = ap (λ (o : Option Module). slice_get (items_in o) place) (sym span.at) ∙ at in
       let P : Item → Type 0 = λ (x : Item). IsItem library (length m.nets) x in
       let sound : IsItem library (length m.nets) i = subst P (get_or_from_slice_get m.items place i i there) (All-get_or P m.items place i (slice_get_within m.items place i there) (sound_at library ms v.number m laid.sound span.at).items) in
-      record { count = length m.nets; sound = subst (λ (l : List Cell). IsItem l (length m.nets) i) (sym h.over) sound; within = span.own }
+      record { count = length m.nets; sound = subst (λ (l : List Cell). IsItem l (length m.nets) i) (sym h.over) sound; within = span.own; few = h.few }
 
   own_first : (whole : Grown) (s : ItemStand) (v : Visit) (n : Netlist) (i : Item) (place : ℕ) → slice_get (live_items_at items v.number) v.item ≡ Some (Own place) → slice_get (items_at ms v.number) place ≡ Some i → IsItemWalk ms items weights library whole (and_visit s v) n →
       and_grown (adds (own_parts (take v.prefix s.prefix) v.first (Some i)) n) (adds (pending_parts ms items weights s.prefix (passed_own v ∷ reverse s.way))) ≡ whole

@@ -1,9 +1,10 @@
 -- Joins that are added one list after another.
-use Rattle.std.proofs.Common.{ℕ, zero, suc, ◌+◌, ◌-◌, ◌<◌, ◌≤◌, ◌≡◌, Bool, true, false, cond, List, [], ◌∷◌, ◌++◌, length, drop, get_or, map, find, Option, None, Some, option_and_then, slice_get, refl, sym, ap, subst, arith, ◌∙◌, append_assoc, append-nil}
-use Rattle.std.specs.List.{AllByRecursion}
+use Rattle.std.proofs.Common.{ℕ, zero, suc, ◌+◌, ◌-◌, ◌<◌, ◌≤◌, ◌≡◌, ◌⊎◌, inl, inr, Bool, true, false, cond, List, [], ◌∷◌, ◌++◌, length, drop, get_or, map, find, Option, None, Some, option_and_then, slice_get, OnOk, Result, Ok, Err, refl, sym, ap, subst, arith, ◌∙◌, append_assoc, append-nil}
+use Rattle.std.specs.List.{All, AllByRecursion}
 use Rattle.std.specs.Str.{bytes_eq}
 use Rattle.std.proofs.lemmas.List.{get_or-map}
-use Rattle.std.proofs.lemmas.Option.{slice_get-get_or}
+use Rattle.std.proofs.lemmas.Option.{slice_get-get_or, slice_get_within, get_or_from_slice_get}
+use Rattle.std.proofs.lemmas.List.Elements.{All-get_or}
 use Rattle.dft_base.specs.Lexing.{Text}
 use Rattle.dft_base.specs.declared.dir.Dir.{Dir}
 use Rattle.dft_base.proofs.ListLemmas.{drop_at}
@@ -97,23 +98,23 @@ joined_none entries connections name finds is = ap signals_of (sym (connection_a
 abbrev pub BitsLeft : (now : Netlist) (whole : Netlist) (d : Dir) (within outside : ℕ) (bits : List NetId) (signals : List Signal) (k : ℕ) → Type 0
 BitsLeft now whole d within outside bits signals k = JoinsLeft now (port_joins d (map (moved_net within) (drop k bits)) (map (moved outside) (drop k signals))) whole
 
-bits_cut : (d : Dir) (within outside : ℕ) (bits : List NetId) (signals : List Signal) (k : ℕ) (bit : NetId) (s : Signal) → k < length bits → bit ≡ get_or bits k bit → slice_get signals k ≡ Some s →
+bits_cut : (d : Dir) (within outside : ℕ) (bits : List NetId) (signals : List Signal) (k : ℕ) (bit : NetId) (s : Signal) → slice_get bits k ≡ Some bit → slice_get signals k ≡ Some s →
     port_joins d (map (moved_net within) (drop k bits)) (map (moved outside) (drop k signals)) ≡ bit_joins d (moved_net within bit) (moved outside s) ++ port_joins d (map (moved_net within) (drop (k + 1) bits)) (map (moved outside) (drop (k + 1) signals))
-bits_cut d within outside bits signals k bit s less is at =
-    ap (λ (bs : List NetId). port_joins d (map (moved_net within) bs) (map (moved outside) (drop k signals))) (drop_next bits k bit less is)
+bits_cut d within outside bits signals k bit s is at =
+    ap (λ (bs : List NetId). port_joins d (map (moved_net within) bs) (map (moved outside) (drop k signals))) (drop_at bits k bit is)
     ∙ ap (λ (ss : List Signal). port_joins d (moved_net within bit ∷ map (moved_net within) (drop (k + 1) bits)) (map (moved outside) ss)) (drop_at signals k s at)
 
-pub bit_here : (now whole : Netlist) (d : Dir) (within outside : ℕ) (bits : List NetId) (signals : List Signal) (k : ℕ) (bit : NetId) (s : Signal) → k < length bits → bit ≡ get_or bits k bit → slice_get signals k ≡ Some s →
+pub bit_here : (now whole : Netlist) (d : Dir) (within outside : ℕ) (bits : List NetId) (signals : List Signal) (k : ℕ) (bit : NetId) (s : Signal) → slice_get bits k ≡ Some bit → slice_get signals k ≡ Some s →
     BitsLeft now whole d within outside bits signals k → AreJoinsOf now (bit_joins d (moved_net within bit) (moved outside s))
-bit_here now whole d within outside bits signals k bit s less is at h =
+bit_here now whole d within outside bits signals k bit s is at h =
     joins_here now whole (bit_joins d (moved_net within bit) (moved outside s)) (port_joins d (map (moved_net within) (drop (k + 1) bits)) (map (moved outside) (drop (k + 1) signals)))
-    (subst (λ (js : List Join). JoinsLeft now js whole) (bits_cut d within outside bits signals k bit s less is at) h)
+    (subst (λ (js : List Join). JoinsLeft now js whole) (bits_cut d within outside bits signals k bit s is at) h)
 
-pub bit_more : (now new whole : Netlist) (d : Dir) (within outside : ℕ) (bits : List NetId) (signals : List Signal) (k : ℕ) (bit : NetId) (s : Signal) → k < length bits → bit ≡ get_or bits k bit → slice_get signals k ≡ Some s →
+pub bit_more : (now new whole : Netlist) (d : Dir) (within outside : ℕ) (bits : List NetId) (signals : List Signal) (k : ℕ) (bit : NetId) (s : Signal) → slice_get bits k ≡ Some bit → slice_get signals k ≡ Some s →
     new ≡ with_joins now (bit_joins d (moved_net within bit) (moved outside s)) → BitsLeft now whole d within outside bits signals k → BitsLeft new whole d within outside bits signals (k + 1)
-bit_more now new whole d within outside bits signals k bit s less is at more h =
+bit_more now new whole d within outside bits signals k bit s is at more h =
     joins_more now new whole (bit_joins d (moved_net within bit) (moved outside s)) (port_joins d (map (moved_net within) (drop (k + 1) bits)) (map (moved outside) (drop (k + 1) signals))) more
-    (subst (λ (js : List Join). JoinsLeft now js whole) (bits_cut d within outside bits signals k bit s less is at) h)
+    (subst (λ (js : List Join). JoinsLeft now js whole) (bits_cut d within outside bits signals k bit s is at) h)
 
 no_bits : (d : Dir) (bits : List NetId) → port_joins d bits [] ≡ []
 no_bits d [] = refl
@@ -124,13 +125,24 @@ past_none [] k e = omega arith
 past_none (s ∷ signals) zero e = absurd (let f : ⊥ = cc in f)
 past_none (s ∷ signals) (suc k) e = let r = past_none signals k e in omega arith
 
-pub bits_end : (now whole : Netlist) (d : Dir) (within outside : ℕ) (bits : List NetId) (signals : List Signal) (k : ℕ) → slice_get signals k ≡ None → BitsLeft now whole d within outside bits signals k → now ≡ whole
-bits_end now whole d within outside bits signals k none h =
-    joins_done now whole (subst (λ (js : List Join). JoinsLeft now js whole) (ap (λ (ss : List Signal). port_joins d (map (moved_net within) (drop k bits)) (map (moved outside) ss)) (drop_past signals k (past_none signals k none)) ∙ no_bits d (map (moved_net within) (drop k bits))) h)
+no_signals : (bits : List NetId) (k : ℕ) → slice_get bits k ≡ None → length bits ≤ k
+no_signals [] k e = omega arith
+no_signals (b ∷ bits) zero e = absurd (let f : ⊥ = cc in f)
+no_signals (b ∷ bits) (suc k) e = let r = no_signals bits k e in omega arith
 
-pub bits_over : (now whole : Netlist) (d : Dir) (within outside : ℕ) (bits : List NetId) (signals : List Signal) (k : ℕ) → length bits ≤ k → BitsLeft now whole d within outside bits signals k → now ≡ whole
+pub bits_end : (now whole : Netlist) (d : Dir) (within outside : ℕ) (bits : List NetId) (signals : List Signal) (k : ℕ) → (slice_get bits k ≡ None) ⊎ (slice_get signals k ≡ None) → BitsLeft now whole d within outside bits signals k → now ≡ whole
+bits_end now whole d within outside bits signals k none h = elim none [
+  | inl bit ↦ joins_done now whole (subst (λ (js : List Join). JoinsLeft now js whole) (ap (λ (bs : List NetId). port_joins d (map (moved_net within) bs) (map (moved outside) (drop k signals))) (drop_past bits k (no_signals bits k bit))) h)
+  | inr signal ↦ joins_done now whole (subst (λ (js : List Join). JoinsLeft now js whole) (ap (λ (ss : List Signal). port_joins d (map (moved_net within) (drop k bits)) (map (moved outside) ss)) (drop_past signals k (past_none signals k signal)) ∙ no_bits d (map (moved_net within) (drop k bits))) h)
+]
+
+pub bits_over : (now whole : Netlist) (d : Dir) (within outside : ℕ) (bits : List NetId) (signals : List Signal) (k : ℕ) → length signals ≤ k → BitsLeft now whole d within outside bits signals k → now ≡ whole
 bits_over now whole d within outside bits signals k past h =
-    joins_done now whole (subst (λ (js : List Join). JoinsLeft now js whole) (ap (λ (bs : List NetId). port_joins d (map (moved_net within) bs) (map (moved outside) (drop k signals))) (drop_past bits k past)) h)
+    joins_done now whole (subst (λ (js : List Join). JoinsLeft now js whole) (ap (λ (ss : List Signal). port_joins d (map (moved_net within) (drop k bits)) (map (moved outside) ss)) (drop_past signals k past) ∙ no_bits d (map (moved_net within) (drop k bits))) h)
+
+-- what holds of all holds of the one at a place
+pub all_at : {X : Type 0} (P : X → Type 0) (xs : List X) (k : ℕ) (x : X) → All P xs → slice_get xs k ≡ Some x → P x
+all_at P xs k x all at = subst P (get_or_from_slice_get xs k x x at) (All-get_or P xs k x (slice_get_within xs k x at) all)
 
 -- ---- the joins of one port after another
 
@@ -150,3 +162,13 @@ port_more now new whole outside within connections ports k p less is more h = jo
 
 pub ports_over : (now whole : Netlist) (outside within : ℕ) (connections : List Connection) (ports : List Port) (k : ℕ) → length ports ≤ k → PortsJoined now whole outside within connections ports k → now ≡ whole
 ports_over now whole outside within connections ports k past h = joins_done now whole (subst (λ (js : List Join). JoinsLeft now js whole) (ap (connection_joins outside within connections) (drop_past ports k past)) h)
+
+-- ---- the joins of a port that is connected, and of one that is not
+
+pub connected : {X E : Type 0} (old new : Netlist) (d : Dir) (bits : List NetId) (outside : ℕ) (signals joined : List Signal) (r : Result X E) → joined ≡ signals → OnOk r (new ≡ with_joins old (port_joins d bits (map (moved outside) signals))) → OnOk r (new ≡ with_joins old (port_joins d bits (map (moved outside) joined) ++ []))
+connected old new d bits outside signals joined (Ok x) same is = is ∙ ap (λ (ss : List Signal). with_joins old (port_joins d bits (map (moved outside) ss))) (sym same) ∙ ap (with_joins old) (sym (append-nil (port_joins d bits (map (moved outside) joined))))
+connected old new d bits outside signals joined (Err e) same is = is
+
+pub unconnected : (old : Netlist) (d : Dir) (bits : List NetId) (outside : ℕ) (joined : List Signal) → joined ≡ [] → old ≡ with_joins old (port_joins d bits (map (moved outside) joined) ++ [])
+unconnected old d bits outside joined none =
+    sym (ap (λ (ss : List Signal). with_joins old (port_joins d bits (map (moved outside) ss) ++ [])) none ∙ ap (λ (js : List Join). with_joins old (js ++ [])) (no_bits d bits) ∙ ap (λ (js : List Join). record old { joins = js }) (append-nil old.joins))

@@ -85,6 +85,7 @@ pub record IsItemIn (n : Netlist) (first : ℕ) (i : Item) : Type 0 where
   pub count : ℕ
   pub sound : IsItem n.library count i
   pub within : first + count ≤ length n.nets
+  pub few : length n.nets ≤ MAX_NETS
 
 -- ---- how many steps are left
 

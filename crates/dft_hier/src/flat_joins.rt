@@ -1,6 +1,6 @@
 //! Joins and instances of modules by the numbers and names of the flat design.
 
-ghost use Rattle.std.specs.Prelude.{◌≡◌, ◌<◌, ◌+◌, ◌^◌, ◌++◌, [], ◌∷◌, Some, map, option_map, slice_get, IfOk, OnOk};
+ghost use Rattle.std.specs.Prelude.{◌≡◌, ◌<◌, ◌+◌, ◌^◌, ◌++◌, [], ◌∷◌, None, Some, ◌⊎◌, map, option_map, slice_get, IfOk, IfSome, IfNone, OnOk};
 ghost use Rattle.std.specs.List.{All};
 ghost use Rattle.dft_hier.specs.Flat as spec;
 ghost use Rattle.dft_hier.specs.Flat.{add_instances, bit_joins, connection_joins, moved_instance, moved_join, port_joins};
@@ -114,11 +114,19 @@ fn add_bit_join(
     }
 }
 
-// The signal at a place.
-fn signal_at(signals: &[Signal], place: usize) -> Option<Signal>
-    ensures { result ≡ slice_get signals.now place }
+// The bit and the signal at a place, where both are there.
+fn pair_at(bits: &[NetId], signals: &[Signal], place: usize) -> Option<(NetId, Signal)>
+    ensures bit { IfSome result (λ pair. slice_get bits.now place ≡ Some pair.0) }
+    ensures signal { IfSome result (λ pair. slice_get signals.now place ≡ Some pair.1) }
+    ensures none { IfNone result ((slice_get bits.now place ≡ None) ⊎ (slice_get signals.now place ≡ None)) }
 {
-    signals.get(place).copied()
+    match bits.get(place).copied() {
+        Some(bit) => match signals.get(place).copied() {
+            Some(signal) => Some((bit, signal)),
+            None => None,
+        },
+        None => None,
+    }
 }
 
 // Adds the joins of a port's bits from the left, where the first net outside and the first inside have these numbers.
@@ -134,10 +142,10 @@ fn add_port_joins(
     requires fits { AreJoinsOf builder.old (port_joins port.now.dir (map (spec.moved_net within) port.now.bits) (map (spec.moved outside) signals.now)) }
     ensures { OnOk result (builder.new ≡ with_joins builder.old (port_joins port.now.dir (map (spec.moved_net within) port.now.bits) (map (spec.moved outside) signals.now))) }
 {
-    for (place, bit) in port.bits.as_slice().iter().enumerate() {
-        match signal_at(signals, place) {
-            Some(signal) => {
-                let inner = moved_net(within, *bit);
+    for place in 0..signals.len() {
+        match pair_at(port.bits.as_slice(), signals, place) {
+            Some((bit, signal)) => {
+                let inner = moved_net(within, bit);
                 let outer = moved(outside, signal);
                 add_bit_join(builder, port.dir, inner, outer)?;
             }
