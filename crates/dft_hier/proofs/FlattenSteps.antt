@@ -16,7 +16,9 @@ use Rattle.dft_hier.specs.Laid.{IsTopOf, flat_at, flat_in, told_of}
 use Rattle.dft_hier.specs.Numbers.{children_of}
 use Rattle.dft_hier.specs.Reach.{Graph, AreWithin, IsOrder, IsFirstOnCircle, NoCircle}
 use Rattle.dft_hier.specs.Refusals.{first_unknown, first_misfit, NoneInItself, IsFirstInItself, IsFlat, IsFlatRefused, Part, Whole, CannotFlatten}
-use Rattle.dft_hier.specs.TopNumbers.{IsTop}
+use Rattle.dft_hier.specs.TopNumbers.{IsTop, TellsTops}
+use Rattle.dft_hier.specs.Fitting.{TellsMisfit}
+use Rattle.dft_hier.proofs.RefusalLemmas.{tops_told, misfit_told}
 use Rattle.dft_hier.proofs.ModuleLemmas.{none_in_itself, first_in_itself, top_is}
 use Rattle.dft_hier.proofs.NumberLemmas.{graph_count, graph_within}
 use Rattle.dft_hier.proofs.ReachLemmas.{ordered_apart}
@@ -81,3 +83,14 @@ unfinished_told ms library k grown (netlist.MultipleDrivers net) t built is = Wh
 unfinished_told ms library k grown (netlist.Loop net) t built is = Whole t.joinable (sym (ap (flat_in ms library) t.at) ∙ built) is
 unfinished_told ms library k grown (netlist.DuplicateName name) t built is = Whole t.joinable (sym (ap (flat_in ms library) t.at) ∙ built) is
 unfinished_told ms library k grown (netlist.TooMany what limit) t built is = Whole t.joinable (sym (ap (flat_in ms library) t.at) ∙ built) is
+
+-- ---- refusals of the top and of connections
+
+pub tops_refused : (ms : List Module) (g : Graph) (library : List Cell) (error : HierError) → HaveOwnNames ms → first_unknown ms ≡ None → NoneInItself ms ms → g ≡ children_of ms → TellsTops g error → CannotFlatten ms library error
+tops_refused ms g library error own known apart is told = tops_told ms library error own known apart (subst (λ (x : Graph). TellsTops x error) is told)
+
+pub misfit_refused : (ms : List Module) (g : Graph) (library : List Cell) (k : ℕ) (error : HierError) → HaveOwnNames ms → first_unknown ms ≡ None → NoneInItself ms ms → g ≡ children_of ms → IsTop g k → k < length g → TellsMisfit (first_misfit ms (all_subs ms)) error → CannotFlatten ms library error
+misfit_refused ms g library k error own known apart is top live told =
+    let size = count_of ms g is in
+    let m = module_at ms k (omega arith) in
+    misfit_told ms library error m.0 (record { known = known; apart = apart; one = top_is ms k m.0 own (subst (λ (x : Graph). IsTop x k) is top) m.1 }) told
