@@ -28,5 +28,6 @@ pub mod FlattenSteps
 pub mod NewNames
 pub mod ConnectLemmas
 pub mod EnterLemmas
+pub mod AddLemmas
 pub mod OneDesign
 mod FlatExamples
