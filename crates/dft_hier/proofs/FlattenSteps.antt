@@ -9,15 +9,18 @@ use Rattle.dft_netlist.specs.Netlist.{Netlist}
 use Rattle.dft_netlist.specs.Finishing.{IsFinished, CannotFinish}
 use Rattle.dft_netlist_text.specs.NetlistText.{Grown}
 use Rattle.dft_modules.specs.Modules.{Module}
+use Rattle.dft_modules.specs.Sound.{AreModules}
+use Rattle.dft_hier.specs.declared.weights.Weight.{Weight}
 use Rattle.dft_hier.specs.declared.error.HierError.{HierError}
 use Rattle.dft_hier.specs.Growing.{IsRefusal}
 use Rattle.dft_hier.specs.Hierarchy.{all_subs, HaveOwnNames}
-use Rattle.dft_hier.specs.Laid.{IsTopOf, flat_at, flat_in, told_of}
+use Rattle.dft_hier.specs.Laid.{IsTopOf, IsLaidOut, flat_at, flat_in, told_of}
 use Rattle.dft_hier.specs.Numbers.{children_of}
 use Rattle.dft_hier.specs.Reach.{Graph, AreWithin, IsOrder, IsFirstOnCircle, NoCircle}
 use Rattle.dft_hier.specs.Refusals.{first_unknown, first_misfit, NoneInItself, IsFirstInItself, IsFlat, IsFlatRefused, Part, Whole, CannotFlatten}
 use Rattle.dft_hier.specs.TopNumbers.{IsTop, TellsTops}
 use Rattle.dft_hier.specs.Fitting.{TellsMisfit}
+use Rattle.dft_hier.specs.Weights.{Live, AreWeights, AreLive}
 use Rattle.dft_hier.proofs.RefusalLemmas.{tops_told, misfit_told}
 use Rattle.dft_hier.proofs.ModuleLemmas.{none_in_itself, first_in_itself, top_is}
 use Rattle.dft_hier.proofs.NumberLemmas.{graph_count, graph_within}
@@ -94,3 +97,16 @@ misfit_refused ms g library k error own known apart is top live told =
     let size = count_of ms g is in
     let m = module_at ms k (omega arith) in
     misfit_told ms library error m.0 (record { known = known; apart = apart; one = top_is ms k m.0 own (subst (λ (x : Graph). IsTop x k) is top) m.1 }) told
+
+-- ---- what stands for the walks
+
+pub hierarchy_laid : (ms : List Module) (g : Graph) (library : List Cell) (order : List ℕ) (k : ℕ) (weights : List Weight) (items : List Live) → AreModules library ms → g ≡ children_of ms → IsOrder g order → IsTopOf ms k → AreWeights ms g weights → AreLive ms g weights items →
+    IsLaidOut library ms weights items
+hierarchy_laid ms g library order k weights items sound is ordered top weighed live = record {
+  sound = sound;
+  known = top.joinable.hierarchy.known;
+  apart = ordered_circle ms g order is ordered;
+  fitting = top.joinable.fitting;
+  weights = subst (λ (x : Graph). AreWeights ms x weights) is weighed;
+  items = subst (λ (x : Graph). AreLive ms x weights items) is live;
+}

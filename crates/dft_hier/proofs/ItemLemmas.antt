@@ -139,3 +139,33 @@ connections_fit n outer inner outside within connections [] a b live is = tt
 connections_fit n outer inner outside within connections (p ∷ ports) a b live is =
     all_both (λ (j : Join). IsJoinOf n j.target j.source) (port_joins p.dir (map (moved_net within) p.bits) (map (moved outside) (joined_to connections p.name))) (connection_joins outside within connections ports)
     (port_fits n outer inner outside within p.dir p.bits (joined_to connections p.name) a b live.0 (is p.name)) (connections_fit n outer inner outside within connections ports a b live.1 is)
+
+-- ---- an item of a module's own, in a netlist in which it can stand
+
+pub own_target : (n : Netlist) (first : ℕ) (i : Item) (j : Join) → i ≡ item.Join j → IsItemIn n first i → first + j.target.0 < 2 ^ 32
+own_target n first i j is h =
+    let sound : IsAJoin h.count j.target j.source = subst (λ (x : Item). IsItem n.library h.count x) is h.sound in
+    let live = sound.target_live in
+    let within = h.within in
+    let few = h.few in
+    omega arith
+
+pub own_source : (n : Netlist) (first : ℕ) (i : Item) (j : Join) → i ≡ item.Join j → IsItemIn n first i → IsWritable first j.source
+own_source n first i j is h =
+    let sound : IsAJoin h.count j.target j.source = subst (λ (x : Item). IsItem n.library h.count x) is h.sound in
+    let within = h.within in
+    let few = h.few in
+    writable first h.count j.source (omega arith) sound.source_live
+
+pub own_join : (n : Netlist) (first : ℕ) (i : Item) (j : Join) → i ≡ item.Join j → IsItemIn n first i → IsJoinOf n (moved_net first j.target) (moved first j.source)
+own_join n first i j is h = join_fits h.count (length n.nets) first j h.within (subst (λ (x : Item). IsItem n.library h.count x) is h.sound)
+
+pub own_cell : (n : Netlist) (first : ℕ) (prefix : Text) (i : Item) (c : Instance) → i ≡ item.Cell c → IsItemIn n first i → IsInstanceIn n (moved_instance prefix first c)
+own_cell n first prefix i c is h = moved_fits n.library h.count (length n.nets) first prefix c h.within (subst (λ (x : Item). IsItem n.library h.count x) is h.sound)
+
+pub own_pins : (n : Netlist) (first : ℕ) (i : Item) (c : Instance) → i ≡ item.Cell c → IsItemIn n first i → AreWritable first c.pins
+own_pins n first i c is h =
+    let sound : IsInstance n.library h.count c.name c.cell c.pins = subst (λ (x : Item). IsItem n.library h.count x) is h.sound in
+    let within = h.within in
+    let few = h.few in
+    pins_writable first h.count c.pins (omega arith) sound.live

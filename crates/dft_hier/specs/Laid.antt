@@ -10,12 +10,13 @@ use Rattle.dft_modules.specs.Sound.{AreModules}
 use Rattle.dft_hier.specs.declared.error.HierError.{HierError}
 use Rattle.dft_hier.specs.declared.error.HierError.TheVariants as told
 use Rattle.dft_hier.specs.declared.flat_nets.Hierarchy.{Hierarchy}
+use Rattle.dft_hier.specs.declared.weights.Weight.{Weight}
 use Rattle.dft_hier.specs.Flat.{Parts, no_parts, flat_parts, flat_netlist}
 use Rattle.dft_hier.specs.Numbers.{children_of}
 use Rattle.dft_hier.specs.Reach.{NoCircle}
 use Rattle.dft_hier.specs.Refusals.{IsJoinable, first_misfit, first_unknown}
 use Rattle.dft_hier.specs.Hierarchy.{all_subs}
-use Rattle.dft_hier.specs.Weights.{AreLive, AreWeights}
+use Rattle.dft_hier.specs.Weights.{AreLive, AreWeights, Live}
 
 -- the module of this number is the top of a hierarchy that can be joined
 pub record IsTopOf (ms : List Module) (number : ℕ) : Type 0 where
@@ -24,13 +25,16 @@ pub record IsTopOf (ms : List Module) (number : ℕ) : Type 0 where
   pub joinable : IsJoinable ms top
 
 -- sound modules that can be joined, with their weights and live items
-pub record IsLaid (library : List Cell) (h : Hierarchy) : Type 0 where
-  pub sound : AreModules library h.modules.now
-  pub known : first_unknown h.modules.now ≡ None
-  pub apart : NoCircle (children_of h.modules.now)
-  pub fitting : first_misfit h.modules.now (all_subs h.modules.now) ≡ None
-  pub weights : AreWeights h.modules.now (children_of h.modules.now) h.weights.now
-  pub items : AreLive h.modules.now (children_of h.modules.now) h.weights.now h.items.now
+pub record IsLaidOut (library : List Cell) (ms : List Module) (all_weights : List Weight) (all_items : List Live) : Type 0 where
+  pub sound : AreModules library ms
+  pub known : first_unknown ms ≡ None
+  pub apart : NoCircle (children_of ms)
+  pub fitting : first_misfit ms (all_subs ms) ≡ None
+  pub weights : AreWeights ms (children_of ms) all_weights
+  pub items : AreLive ms (children_of ms) all_weights all_items
+
+abbrev pub IsLaid : (library : List Cell) → Hierarchy → Type 0
+IsLaid library h = IsLaidOut library h.modules.now h.weights.now h.items.now
 
 -- the name of a module, and the flat netlist where it is the top, by its number
 abbrev pub name_in : Option Module → Text
