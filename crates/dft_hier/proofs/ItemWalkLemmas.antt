@@ -85,6 +85,9 @@ module _ (ms : List Module) (items : List Live) (weights : List Weight) (library
   items_end whole s n none h =
       sym h.rest ∙ ap (λ (way : List Visit). adds (pending_parts ms items weights s.prefix (reverse way)) n) none ∙ ap (λ (js : List Join). Ok (record n { joins = js })) (append-nil n.joins)
 
+  pub top_prefix : (whole : Grown) (s : ItemStand) (v : Visit) (n : Netlist) → IsItemWalk ms items weights library whole (and_visit s v) n → v.prefix ≤ length s.prefix
+  top_prefix whole s v n h = (the_back whole s v n h).0.1
+
   pub top_visit : (whole : Grown) (s : ItemStand) (v : Visit) (n : Netlist) → IsItemWalk ms items weights library whole (and_visit s v) n → IsSpan ms items weights (length n.nets) v
   top_visit whole s v n h = (the_back whole s v n h).0.0
 

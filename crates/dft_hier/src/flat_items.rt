@@ -1,7 +1,7 @@
 //! The joins and instances of a flat design: the items of a module in order, and in place of a module instance the joins of
 //! its connections and the items of its module, without recursion.
 
-ghost use Rattle.std.specs.Prelude.{◌≡◌, ◌<◌, ◌+◌, ◌^◌, [], Some, length, slice_get, IfOk, IfSome, IfNone, OnOk};
+ghost use Rattle.std.specs.Prelude.{◌≡◌, ◌<◌, ◌≤◌, ◌+◌, ◌^◌, [], Some, length, take, slice_get, IfOk, IfSome, IfNone, OnOk};
 ghost use Rattle.dft_hier.specs.FlatItems.{live_items_at, own_parts};
 ghost use Rattle.dft_hier.specs.Growing.{Grows, IsPrefix};
 ghost use Rattle.dft_hier.specs.ItemWalks.{IsItemIn, adds, and_visit, at_top, gone_into, item_way_size};
@@ -75,11 +75,12 @@ impl ItemWalk {
         self.way.pop()
     }
 
-    // The prefix of the last module on the way.
-    fn prefix(&self) -> &[u8]
-        ensures { result.now ≡ self.now.prefix }
+    // The prefix of a module on the way, which has so many bytes.
+    fn prefix(&self, size: usize) -> &[u8]
+        requires { size ≤ length self.now.prefix }
+        ensures { result.now ≡ take size self.now.prefix }
     {
-        &self.prefix
+        &self.prefix[..size]
     }
 
     // A visit more.
@@ -145,6 +146,7 @@ fn pass_own(
     requires laid { AreItemsLaid builder.old.library hierarchy.now.modules.now hierarchy.now.items.now hierarchy.now.weights.now }
     requires stands { Stands hierarchy.now builder.old (and_visit walk.old visit) }
     requires next { slice_get (live_items_at hierarchy.now.items.now visit.number) visit.item ≡ Some (LiveItem.Own place) }
+    requires small { visit.item + 1 < 2 ^ 64 }
     ensures walks { Walks hierarchy.now (and_visit walk.old visit) builder.old result walk.new builder.new }
     ensures fewer { OnOk result (item_way_size hierarchy.now.modules.now hierarchy.now.items.now walk.new.way < item_way_size hierarchy.now.modules.now hierarchy.now.items.now (and_visit walk.old visit).way) }
 {
@@ -155,9 +157,9 @@ fn pass_own(
         next: visit.next,
         prefix: visit.prefix,
     })?;
-    let item = &hierarchy.modules[visit.number].items()[place];
-    let prefix = &walk.prefix()[..visit.prefix];
-    add_own(alloc, builder, prefix, visit.first, item)
+    let items = hierarchy.modules[visit.number].items();
+    let prefix = walk.prefix(visit.prefix);
+    add_own(alloc, builder, prefix, visit.first, &items[place])
 }
 
 // Past a module instance, and into its module: adds the joins of its connections.
@@ -172,6 +174,7 @@ fn pass_sub(
     requires laid { AreItemsLaid builder.old.library hierarchy.now.modules.now hierarchy.now.items.now hierarchy.now.weights.now }
     requires stands { Stands hierarchy.now builder.old (and_visit walk.old visit) }
     requires next { slice_get (live_items_at hierarchy.now.items.now visit.number) visit.item ≡ Some (LiveItem.Sub live) }
+    requires small { visit.item + 1 < 2 ^ 64 }
     ensures walks { Walks hierarchy.now (and_visit walk.old visit) builder.old result walk.new builder.new }
     ensures fewer { OnOk result (item_way_size hierarchy.now.modules.now hierarchy.now.items.now walk.new.way < item_way_size hierarchy.now.modules.now hierarchy.now.items.now (and_visit walk.old visit).way) }
 {
@@ -221,12 +224,33 @@ fn pass(
     requires laid { AreItemsLaid builder.old.library hierarchy.now.modules.now hierarchy.now.items.now hierarchy.now.weights.now }
     requires stands { Stands hierarchy.now builder.old (and_visit walk.old visit) }
     requires next { slice_get (live_items_at hierarchy.now.items.now visit.number) visit.item ≡ Some live }
+    requires small { visit.item + 1 < 2 ^ 64 }
     ensures walks { Walks hierarchy.now (and_visit walk.old visit) builder.old result walk.new builder.new }
     ensures fewer { OnOk result (item_way_size hierarchy.now.modules.now hierarchy.now.items.now walk.new.way < item_way_size hierarchy.now.modules.now hierarchy.now.items.now (and_visit walk.old visit).way) }
 {
     match live {
         LiveItem::Own(place) => pass_own(alloc, hierarchy, builder, walk, visit, place),
         LiveItem::Sub(sub) => pass_sub(alloc, hierarchy, builder, walk, visit, sub),
+    }
+}
+
+// One step from a module that was taken from the way: past an item, into an instance, or back.
+fn step(
+    alloc: Global,
+    hierarchy: &Hierarchy<'_>,
+    builder: &mut DesignBuilder,
+    walk: &mut ItemWalk,
+    visit: Visit,
+) -> Result<(), NetlistError>
+    requires laid { AreItemsLaid builder.old.library hierarchy.now.modules.now hierarchy.now.items.now hierarchy.now.weights.now }
+    requires stands { Stands hierarchy.now builder.old (and_visit walk.old visit) }
+    ensures walks { Walks hierarchy.now (and_visit walk.old visit) builder.old result walk.new builder.new }
+    ensures fewer { OnOk result (item_way_size hierarchy.now.modules.now hierarchy.now.items.now walk.new.way < item_way_size hierarchy.now.modules.now hierarchy.now.items.now (and_visit walk.old visit).way) }
+{
+    let live = hierarchy.items[visit.number].items();
+    match item_at(live, visit.item) {
+        Some(next) => pass(alloc, hierarchy, builder, walk, visit, next),
+        None => Ok(()),
     }
 }
 
@@ -244,10 +268,7 @@ pub fn add_items(
 {
     let mut walk = ItemWalk::at(alloc, top, hierarchy.modules[top].nets().len())?;
     while let Some(visit) = walk.pop() {
-        let live = hierarchy.items[visit.number].items();
-        if let Some(next) = item_at(live, visit.item) {
-            pass(alloc, hierarchy, builder, &mut walk, visit, next)?;
-        }
+        step(alloc, hierarchy, builder, &mut walk, visit)?;
     }
     Ok(())
 }

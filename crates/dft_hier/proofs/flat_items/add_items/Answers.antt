@@ -1,0 +1,32 @@
+use Rattle.std.proofs.Common.{◌≡◌, ◌++◌, ◌∷◌, [], List, sym, ap, subst, ◌∙◌}
+use Rattle.std.proofs.lemmas.Result.{err_from_is_err_and}
+use Rattle.dft_cells.specs.declared.cell.Cell.{Cell}
+use Rattle.dft_hier.specs.ItemWalks.{ItemStand, IsItemWalk, adds, item_way_size}
+use Rattle.dft_hier.specs.ItemsLaid.{AreItemsLaid}
+use Rattle.dft_hier.specs.Laid.{parts_at}
+use Rattle.dft_hier.proofs.ItemsLaidLemmas.{laid_items}
+use Rattle.dft_hier.proofs.ItemWalkLemmas.{items_end}
+use Rattle.dft_hier.proofs.flat_items.add_items.Goals as goal
+
+pub step-requires-clause-laid : goal.step-requires-clause-laid
+step-requires-clause-laid c =
+    let h = c.args.hierarchy.now in
+    let l = c.requires.laid in
+    subst (λ (library : List Cell). AreItemsLaid library h.modules.now h.items.now h.weights.now) (sym c.loop-visit.invariant.over)
+    (laid_items c.args.builder.now.library h.modules.now h.weights.now h.items.now l.sound l.known l.apart l.weights l.items)
+
+pub step-requires-clause-stands : goal.step-requires-clause-stands
+step-requires-clause-stands c =
+    let h = c.args.hierarchy.now in
+    let whole = adds (parts_at h.modules.now c.args.top) c.args.builder.now in
+    let walk = subst (λ (s : ItemStand). IsItemWalk h.modules.now h.items.now h.weights.now c.args.builder.now.library whole s c.loop-visit.builder) c.in-Some.ensures.some c.loop-visit.invariant in
+    record { whole = whole; walk = subst (λ (library : List Cell). IsItemWalk h.modules.now h.items.now h.weights.now library whole _ c.loop-visit.builder) (sym c.loop-visit.invariant.over) walk }
+
+pub loop-visit-smaller : goal.loop-visit-smaller
+loop-visit-smaller c = rw c.in-Some.ensures.some c.in_ok-step.ensures.fewer
+
+pub returns : goal.returns
+returns c =
+    let h = c.args.hierarchy.now in
+    let whole = adds (parts_at h.modules.now c.args.top) c.args.builder.now in
+    items_end h.modules.now h.items.now h.weights.now c.args.builder.now.library whole c.loop-visit.walk c.loop-visit.builder c.in_default.ensures.none c.loop-visit.invariant
