@@ -1,18 +1,19 @@
 //! The joins and instances of a flat design: the items of a module in order, and in place of a module instance the joins of
 //! its connections and the items of its module, without recursion.
 
-ghost use Rattle.std.specs.Prelude.{◌≡◌, ◌<◌, ◌≤◌, ◌+◌, ◌^◌, [], Some, length, take, slice_get, IfOk, IfSome, IfNone, OnOk};
+ghost use Rattle.std.specs.Prelude.{◌≡◌, ◌<◌, ◌≤◌, ◌+◌, ◌^◌, [], Some, length, take, slice_get, slice_index_or, IfOk, IfSome, IfNone, OnOk};
 ghost use Rattle.dft_hier.specs.FlatItems.{live_items_at, own_parts};
 ghost use Rattle.dft_hier.specs.Growing.{Grows, IsPrefix};
 ghost use Rattle.dft_hier.specs.ItemWalks.{IsItemIn, adds, and_visit, at_top, gone_into, item_way_size};
 ghost use Rattle.dft_hier.specs.ItemsWalked.{Stands, Walks};
 ghost use Rattle.dft_hier.specs.ItemsLaid.{AreItemsLaid};
 ghost use Rattle.dft_hier.specs.Laid.{IsLaid, parts_at};
+ghost use Rattle.dft_hier.specs.Weights.{no_weight};
 
 use crate::children::sub_in;
 use crate::flat_joins::{add_cell, add_connections, add_join};
 use crate::flat_nets::{Hierarchy, go_inside};
-use crate::weights::{LiveItem, LiveSub};
+use crate::weights::{LiveItem, LiveSub, Weight};
 use dft_base::Name;
 use dft_modules::Item;
 use dft_netlist::{DesignBuilder, NetlistError};
@@ -162,6 +163,14 @@ fn pass_own(
     add_own(alloc, builder, prefix, visit.first, &items[place])
 }
 
+// How many nets a module has with all below it.
+fn nets_at(weights: &[Weight], number: usize) -> usize
+    requires { number < length weights.now }
+    ensures { result ≡ (slice_index_or weights.now number no_weight).nets }
+{
+    weights[number].nets
+}
+
 // Past a module instance, and into its module: adds the joins of its connections.
 fn pass_sub(
     alloc: Global,
@@ -182,23 +191,19 @@ fn pass_sub(
     match sub_in(&items[live.item]) {
         Some(sub) => {
             let inner = &hierarchy.modules[live.child];
+            let ports = inner.ports();
             let connections = sub.connections.as_slice();
-            add_connections(
-                alloc,
-                builder,
-                visit.first,
-                visit.next,
-                inner.ports(),
-                connections,
-            )?;
+            add_connections(alloc, builder, visit.first, visit.next, ports, connections)?;
+            let below = nets_at(hierarchy.weights, live.child);
             walk.push(Visit {
                 number: visit.number,
                 first: visit.first,
                 item: visit.item + 1,
-                next: visit.next + hierarchy.weights[live.child].nets,
+                next: visit.next + below,
                 prefix: visit.prefix,
             })?;
-            walk.go_into(visit, &sub.name, live.child, inner.nets().len())?;
+            let names = inner.nets();
+            walk.go_into(visit, &sub.name, live.child, names.len())?;
             Ok(())
         }
         None => unreachable!(),
