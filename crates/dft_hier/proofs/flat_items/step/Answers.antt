@@ -1,5 +1,6 @@
 use Rattle.std.proofs.Common.{◌≡◌, ◌<◌, ◌≤◌, ◌+◌, ◌^◌, length, Some, None, slice_get, sym, ap, ◌∙◌, arith, rules}
 use Rattle.std.proofs.lemmas.Option.{slice_get_within}
+use Rattle.dft_hier.specs.Weights.{Live}
 use Rattle.dft_hier.proofs.ItemWalkLemmas.{items_back, back_fewer}
 use Rattle.dft_hier.proofs.PassLemmas.{visited, item_next, items_over}
 use Rattle.dft_hier.proofs.flat_items.step.Goals as goal
@@ -28,7 +29,7 @@ pass-requires-clause-next c =
     let there = visited h.modules.now h.items.now h.weights.now c.args.builder.now.library st.whole c.args.walk.now c.args.visit c.args.builder.now st.walk in
     let count = c.requires.laid.count in
     let less : c.args.visit.number < length c.args.hierarchy.now.items.now = omega arith in
-    item_next h.items.now c.args.visit.number c.args.visit.item c.index-hierarchy-visit.result c.items-live.result.now c.in-Some.next less c.index-hierarchy-visit.is c.items-live.ensures (sym c.item_at.ensures ∙ c.in-Some.is)
+    item_next h.items.now c.args.visit.number c.args.visit.item c.index-hierarchy-visit.result c.items-live.result.now c.in-Some.next less c.index-hierarchy-visit.is (c.items-live.ensures ∙ ap (λ (x : Live). x.items) (sym c.index-hierarchy-visit.is)) (sym c.item_at.ensures ∙ c.in-Some.is)
 
 pub pass-requires-clause-small : goal.pass-requires-clause-small
 pass-requires-clause-small c =
@@ -43,7 +44,7 @@ returns-in-None-clause-walks c =
     let there = visited h.modules.now h.items.now h.weights.now c.args.builder.now.library st.whole c.args.walk.now c.args.visit c.args.builder.now st.walk in
     let count = c.requires.laid.count in
     let less : c.args.visit.number < length c.args.hierarchy.now.items.now = omega arith in
-    let past = items_over h.items.now c.args.visit.number c.args.visit.item c.index-hierarchy-visit.result c.items-live.result.now less c.index-hierarchy-visit.is c.items-live.ensures (sym c.item_at.ensures ∙ c.in-None.is) in
+    let past = items_over h.items.now c.args.visit.number c.args.visit.item c.index-hierarchy-visit.result c.items-live.result.now less c.index-hierarchy-visit.is (c.items-live.ensures ∙ ap (λ (x : Live). x.items) (sym c.index-hierarchy-visit.is)) (sym c.item_at.ensures ∙ c.in-None.is) in
     λ whole walk. items_back h.modules.now h.items.now h.weights.now c.args.builder.now.library whole c.args.walk.now c.args.visit c.args.builder.now past walk
 
 pub returns-in-None-clause-fewer : goal.returns-in-None-clause-fewer

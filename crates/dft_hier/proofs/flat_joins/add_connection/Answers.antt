@@ -22,20 +22,20 @@ pub add_port_joins-requires-clause-signals : goal.add_port_joins-requires-clause
 add_port_joins-requires-clause-signals c =
     let found : look_up c.args.numbers.now c.args.port.now.name ≡ Some c.in-Some.number = sym (rw c.as_slice.ensures.bytes at c.find.ensures) ∙ c.in-Some.is in
     let same = joined_some c.args.numbers.now c.args.connections.now c.args.port.now.name c.in-Some.number c.index-connections-number.result c.requires.numbers found c.index-connections-number.is in
-    subst (λ (ss : List Signal). AreWritable c.args.outside ss) (same ∙ sym c.as_slice-signals.ensures) c.requires.signals
+    subst (λ (ss : List Signal). AreWritable c.args.outside ss) (same ∙ ap (λ x. x.signals) c.index-connections-number.is ∙ sym c.as_slice-signals.ensures) c.requires.signals
 
 pub add_port_joins-requires-clause-fits : goal.add_port_joins-requires-clause-fits
 add_port_joins-requires-clause-fits c =
     let found : look_up c.args.numbers.now c.args.port.now.name ≡ Some c.in-Some.number = sym (rw c.as_slice.ensures.bytes at c.find.ensures) ∙ c.in-Some.is in
     let same = joined_some c.args.numbers.now c.args.connections.now c.args.port.now.name c.in-Some.number c.index-connections-number.result c.requires.numbers found c.index-connections-number.is in
-    subst (λ (ss : List Signal). AreJoinsOf c.args.builder.now (port_joins c.args.port.now.dir (map (moved_net c.args.within) c.args.port.now.bits) (map (moved c.args.outside) ss))) (same ∙ sym c.as_slice-signals.ensures)
+    subst (λ (ss : List Signal). AreJoinsOf c.args.builder.now (port_joins c.args.port.now.dir (map (moved_net c.args.within) c.args.port.now.bits) (map (moved c.args.outside) ss))) (same ∙ ap (λ x. x.signals) c.index-connections-number.is ∙ sym c.as_slice-signals.ensures)
     (subst (λ (js : List Join). AreJoinsOf c.args.builder.now js) (append-nil _) c.requires.fits)
 
 pub returns-in-Some : goal.returns-in-Some
 returns-in-Some c =
     let found : look_up c.args.numbers.now c.args.port.now.name ≡ Some c.in-Some.number = sym (rw c.as_slice.ensures.bytes at c.find.ensures) ∙ c.in-Some.is in
     let same = joined_some c.args.numbers.now c.args.connections.now c.args.port.now.name c.in-Some.number c.index-connections-number.result c.requires.numbers found c.index-connections-number.is in
-    connected c.args.builder.now c.add_port_joins.new.builder c.args.port.now.dir (map (moved_net c.args.within) c.args.port.now.bits) c.args.outside c.as_slice-signals.result.now (joined_to c.args.connections.now c.args.port.now.name) c.add_port_joins.result (same ∙ sym c.as_slice-signals.ensures) c.add_port_joins.ensures
+    connected c.args.builder.now c.add_port_joins.new.builder c.args.port.now.dir (map (moved_net c.args.within) c.args.port.now.bits) c.args.outside c.as_slice-signals.result.now (joined_to c.args.connections.now c.args.port.now.name) c.add_port_joins.result (same ∙ ap (λ x. x.signals) c.index-connections-number.is ∙ sym c.as_slice-signals.ensures) c.add_port_joins.ensures
 
 pub returns-in-None : goal.returns-in-None
 returns-in-None c =

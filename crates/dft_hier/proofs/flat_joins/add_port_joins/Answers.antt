@@ -8,13 +8,13 @@ use Rattle.dft_hier.specs.Moving.{IsWritable, AreJoinsOf, with_joins}
 use Rattle.dft_hier.proofs.JoinLemmas.{joins_begin, bit_here, bit_more, bits_end, bits_over, all_at}
 use Rattle.dft_hier.proofs.flat_joins.add_port_joins.Goals as goal
 
-pub moved_net-requires : goal.moved_net-requires
-moved_net-requires c =
+pub moved_net-inner-requires : goal.moved_net-inner-requires
+moved_net-inner-requires c =
     let at : slice_get c.args.port.now.bits c.loop-place.place ≡ Some c.in-Some.bit = rw c.as_slice.ensures at c.in-Some.ensures.bit in
     all_at (λ (b : NetId). c.args.within + b.0 < 2 ^ 32) c.args.port.now.bits c.loop-place.place c.in-Some.bit c.requires.bits at
 
-pub moved-requires : goal.moved-requires
-moved-requires c = all_at (λ (s : Signal). IsWritable c.args.outside s) c.args.signals.now c.loop-place.place c.in-Some.signal c.requires.signals c.in-Some.ensures.signal
+pub moved-outer-requires : goal.moved-outer-requires
+moved-outer-requires c = all_at (λ (s : Signal). IsWritable c.args.outside s) c.args.signals.now c.loop-place.place c.in-Some.signal c.requires.signals c.in-Some.ensures.signal
 
 pub add_bit_join-requires : goal.add_bit_join-requires
 add_bit_join-requires c =

@@ -8,7 +8,7 @@ top-requires c = within_of c.args.modules.now c.args.children.now c.requires.chi
 
 pub returns-in_err-number-clause-refused : goal.returns-in_err-number-clause-refused
 returns-in_err-number-clause-refused c =
-    let p = err_from_is_err_and c.from_residual-in_err-number.result c.from_residual-in_err-number.ensures.1 in
+    let p = err_from_is_err_and c.from_residual.result c.from_residual.ensures.1 in
     rw (p.1, p.2) (λ library. tops_refused c.args.modules.now c.args.children.now library c.in_err-number.field-0.0 c.requires.names c.requires.known c.requires.apart c.requires.children c.in_err-number.ensures.refused)
 
 pub returns-in_err-check_all-clause-refused : goal.returns-in_err-check_all-clause-refused
