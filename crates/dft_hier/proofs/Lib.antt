@@ -9,6 +9,7 @@ pub mod FitLemmas
 pub mod ModuleLemmas
 pub mod HeightLemmas
 pub mod PartLemmas
+pub mod PassLemmas
 pub mod WeightLemmas
 pub mod LiveLemmas
 pub mod LiveSteps
