@@ -87,13 +87,15 @@ dead_module library ms (suc depth) m sound (Rises each) is dead =
     let none = no_nets m.nets own.0 in
     let size : length m.nets ≡ 0 = ap (λ (xs : List Text). length xs) none in
     let items : (k : ℕ) (i : Item) → slice_get m.items k ≡ Some i → IsItem library 0 i = λ k i at. (
-        let P : Item → Type 0 = λ (x : Item). IsItem library (length m.nets) x in
-        subst (λ (n : ℕ). IsItem library n i) size (subst P (get_or_from_slice_get m.items k i i at) (All-get_or P m.items k i (slice_get_within m.items k i at) is.items))) in
+    let P : Item → Type 0 = λ (x : Item). IsItem library (length m.nets) x in
+    subst (λ (n : ℕ). IsItem library n i) size (subst P (get_or_from_slice_get m.items k i i at) (All-get_or P m.items k i (slice_get_within m.items k i at) is.items))) in
     let below : (place : ℕ) (s : SubInstance) → slice_get (subs_of m.items) place ≡ Some s → (prefix : Text) (outside first : ℕ) → sub_parts (parts_within depth ms) prefix outside first s (find_module ms s.of) ≡ no_parts = λ place s at prefix outside first.
-        by place s at (find_module ms s.of) refl (sub_dead (lives_in depth ms) ms (subs_of m.items) place s both.1 at) prefix outside first
-        (λ x found lives. dead_module library ms depth x sound (each place s x at found) (found_sound library ms ms s.of x sound found) lives) in
-    ((λ prefix first. ap (λ (names : List Text). and_parts (record { nets = map (λ name. prefix ++ name) names; joins = []; instances = [] }) (item_parts (parts_within depth ms) ms prefix first (first + length m.nets) m.items)) none
-        ∙ dead_items library ms (parts_within depth ms) prefix first (first + length m.nets) m.items items own.1 below), none)
+    by place s at (find_module ms s.of) refl (sub_dead (lives_in depth ms) ms (subs_of m.items) place s both.1 at) prefix outside first
+    (λ x found lives. dead_module library ms depth x sound (each place s x at found) (found_sound library ms ms s.of x sound found) lives) in (
+      (λ prefix first. ap (λ (names : List Text). and_parts (record { nets = map (λ name. prefix ++ name) names; joins = []; instances = [] }) (item_parts (parts_within depth ms) ms prefix first (first + length m.nets) m.items)) none
+          ∙ dead_items library ms (parts_within depth ms) prefix first (first + length m.nets) m.items items own.1 below),
+      none,
+    )
   where
     by : (place : ℕ) (s : SubInstance) → slice_get (subs_of m.items) place ≡ Some s → (o : Option Module) → find_module ms s.of ≡ o → sub_lives (lives_in depth ms) o ≡ false → (prefix : Text) (outside first : ℕ) →
         ((x : Module) → find_module ms s.of ≡ Some x → lives_in depth ms x ≡ false → ((prefix : Text) (first : ℕ) → parts_within depth ms prefix first x ≡ no_parts) × (x.nets ≡ [])) →

@@ -67,7 +67,7 @@ entered ms items whole s v l name m names prefix n new t r laid next at named re
     let nets : names ≡ at.below.nets = are ∙ ap (λ (x : Module). x.nets) below in
     let pre : prefix ≡ q = kept ∙ ap (λ (x : NetStand). x.prefix) stand in
     let own : add_nets (map (λ x. prefix ++ x) names) n ≡ add_nets (map (λ x. inside (take v.prefix s.prefix) at.sub.name ++ x) at.below.nets) n =
-        ap (λ (p : Text). add_nets (map (λ x. p ++ x) names) n) (pre ∙ ap (inside (take v.prefix s.prefix)) named) ∙ ap (λ (ns : List Text). add_nets (map (λ x. inside (take v.prefix s.prefix) at.sub.name ++ x) ns) n) nets in
+    ap (λ (p : Text). add_nets (map (λ x. p ++ x) names) n) (pre ∙ ap (inside (take v.prefix s.prefix)) named) ∙ ap (λ (ns : List Text). add_nets (map (λ x. inside (take v.prefix s.prefix) at.sub.name ++ x) ns) n) nets in
     let there : t ≡ gone_on s v at.sub.name l.child = stand ∙ ap (λ (x : Text). gone_on s v x l.child) named in
     let gives = laid.gives l.child at.below at.below_at in
     let is = instance_of ms items v l at in

@@ -150,7 +150,7 @@ misfit_here ms items children k next i s m error less is sub found h t =
     let rest : List Item = drop (k + 1) items in
     let cut : subs_of (drop k items) ≡ s ∷ subs_of rest = ap (λ (xs : List Item). subs_of xs) (drop_next items k i less is) ∙ subs_some i rest s sub in
     let whole : option_or (find (λ c. not (fits m.ports c)) s.connections) (first_misfit ms (subs_of rest)) ≡ first_misfit ms (subs_of items) =
-        sym (h.misfit ∙ ap (first_misfit ms) cut ∙ ap (λ (o : Option Module). option_or (find (λ c. not (fits (ports_of o) c)) s.connections) (first_misfit ms (subs_of rest))) found) in
+    sym (h.misfit ∙ ap (first_misfit ms) cut ∙ ap (λ (o : Option Module). option_or (find (λ c. not (fits (ports_of o) c)) s.connections) (first_misfit ms (subs_of rest))) found) in
     subst (λ (o : Option Connection). TellsMisfit o error) whole (or_tells (find (λ c. not (fits m.ports c)) s.connections) (first_misfit ms (subs_of rest)) error t)
 
 pub checked_all : (ms : List Module) (items : List Item) (children : List ℕ) (k next : ℕ) → length items ≤ k → CheckedSoFar ms items children k next → first_misfit ms (subs_of items) ≡ None

@@ -42,9 +42,9 @@ short g number above none trail within live all =
     apart i j a b same h = elim h [
       | inl e ↦ e
       | inr ne ↦ elim (cases_lt i j) [
-          | inl less ↦ absurd (trail_apart g number above i j none trail less b same)
-          | inr more ↦ absurd (trail_apart g number above j i none trail (omega (arith, more, ne)) a (sym same))
-        ]
+        | inl less ↦ absurd (trail_apart g number above i j none trail less b same)
+        | inr more ↦ absurd (trail_apart g number above j i none trail (omega (arith, more, ne)) a (sym same))
+      ]
     ]
 
 tall_below : (g : Graph) (depth number : ℕ) (above : List ℕ) → NoCircle g → AreWithin (length g) g → IsTrail g number above → number < length g → ((k : ℕ) → k < length above → get_or above k 0 < length g) → length above + depth ≡ length g → IsTall g depth number

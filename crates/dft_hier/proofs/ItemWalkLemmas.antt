@@ -111,8 +111,8 @@ module _ (ms : List Module) (items : List Live) (weights : List Weight) (library
       let rest : Parts = live_parts (parts_within (length ms) ms) ms weights p v.first v.next (items_at ms v.number) (drop (v.item + 1) (live_items_at items v.number)) in
       let back : Parts = pending_parts ms items weights s.prefix (reverse s.way) in
       let cut : live_parts (parts_within (length ms) ms) ms weights p v.first v.next (items_at ms v.number) (drop v.item (live_items_at items v.number)) ≡ and_parts own rest =
-          ap (live_parts (parts_within (length ms) ms) ms weights p v.first v.next (items_at ms v.number)) (drop_at (live_items_at items v.number) v.item (Own place) at)
-          ∙ ap (λ (o : Option Item). and_parts (own_parts p v.first o) rest) there in
+      ap (live_parts (parts_within (length ms) ms) ms weights p v.first v.next (items_at ms v.number)) (drop_at (live_items_at items v.number) v.item (Own place) at)
+      ∙ ap (λ (o : Option Item). and_parts (own_parts p v.first o) rest) there in
       sym (adds_append own (and_parts rest back) n) ∙ ap (λ (x : Parts). adds x n) (sym (parts_assoc own rest back)) ∙ ap (λ (x : Parts). adds (and_parts x back) n) (sym cut) ∙ b.1
 
   pub own_passed : (whole : Grown) (s : ItemStand) (v : Visit) (n new : Netlist) (i : Item) (place : ℕ) → slice_get (live_items_at items v.number) v.item ≡ Some (Own place) → slice_get (items_at ms v.number) place ≡ Some i →
@@ -174,14 +174,14 @@ module _ (ms : List Module) (items : List Live) (weights : List Weight) (library
       let few = h.few in
       let gives : parts_within (length ms) ms q v.next m ≡ and_parts own child = laid.gives l.child m is.below_at q v.next (omega (arith, total.1)) in
       let named : named_parts (parts_within (length ms) ms) p v.first v.next (slice_get (items_at ms v.number) l.item) (slice_get ms l.child) ≡ and_parts conn (and_parts own child) =
-          ap (λ (o : Option Item). named_parts (parts_within (length ms) ms) p v.first v.next o (slice_get ms l.child)) is.item_at
-          ∙ ap (sub_parts (parts_within (length ms) ms) p v.first v.next is.sub) is.below_at ∙ ap (λ (x : Parts). and_parts conn x) gives in
+      ap (λ (o : Option Item). named_parts (parts_within (length ms) ms) p v.first v.next o (slice_get ms l.child)) is.item_at
+      ∙ ap (sub_parts (parts_within (length ms) ms) p v.first v.next is.sub) is.below_at ∙ ap (λ (x : Parts). and_parts conn x) gives in
       let cut : live_parts (parts_within (length ms) ms) ms weights p v.first v.next (items_at ms v.number) (drop v.item (live_items_at items v.number)) ≡ and_parts (and_parts conn (and_parts own child)) rest =
-          ap (live_parts (parts_within (length ms) ms) ms weights p v.first v.next (items_at ms v.number)) (drop_at (live_items_at items v.number) v.item (Sub l) at) ∙ ap (λ (x : Parts). and_parts x rest) named in
+      ap (live_parts (parts_within (length ms) ms) ms weights p v.first v.next (items_at ms v.number)) (drop_at (live_items_at items v.number) v.item (Sub l) at) ∙ ap (λ (x : Parts). and_parts x rest) named in
       let same : take v.prefix q ≡ p = kept s.prefix is.sub.name v.prefix b.0.1 in
       let backs : back ≡ pending_parts ms items weights q (reverse s.way) = pending_same ms items weights (length n.nets) s.prefix q v.prefix (reverse s.way) (sym same) b.0.2 in
       let fronts : live_parts (parts_within (length ms) ms) ms weights (take (length q) q) v.next (v.next + length m.nets) (items_at ms l.child) (live_items_at items l.child) ≡ child =
-          ap (λ (x : Text). live_parts (parts_within (length ms) ms) ms weights x v.next (v.next + length m.nets) (items_at ms l.child) (live_items_at items l.child)) (take_all (length q) q (omega arith)) in
+      ap (λ (x : Text). live_parts (parts_within (length ms) ms) ms weights x v.next (v.next + length m.nets) (items_at ms l.child) (live_items_at items l.child)) (take_all (length q) q (omega arith)) in
       let rests : live_parts (parts_within (length ms) ms) ms weights (take v.prefix q) v.first (v.next + below) (items_at ms v.number) others ≡ rest = ap (λ (x : Text). live_parts (parts_within (length ms) ms) ms weights x v.first (v.next + below) (items_at ms v.number) others) same in
       ap (λ (x : Parts). adds (and_parts x back) n) cut
       ∙ ap (λ (x : Parts). adds x n) (parts_assoc (and_parts conn (and_parts own child)) rest back ∙ parts_assoc conn (and_parts own child) (and_parts rest back) ∙ ap (λ (x : Parts). and_parts conn x) (parts_assoc own child (and_parts rest back)))
@@ -211,9 +211,11 @@ module _ (ms : List Module) (items : List Live) (weights : List Weight) (library
       let longer = length-append (take v.prefix s.prefix ++ is.sub.name) (47 ∷ []) in
       let kept_size = length-take-le v.prefix s.prefix b.0.1 in
       let back : reverse ((s.way ++ w ∷ []) ++ c ∷ []) ≡ c ∷ w ∷ reverse s.way = back-push (s.way ++ w ∷ []) c ∙ ap (λ (xs : List Visit). c ∷ xs) (back-push s.way w) in
-      let spans : AreSpans ms items weights (length n.nets) (length q) (c ∷ w ∷ reverse s.way) =
-          (record { m = m; at = is.below_at; own = omega (arith, total.1, split); rest = omega (arith, total.1, split) }, (omega arith),
-          (record { m = span.m; at = span.at; own = span.own; rest = omega (arith, total.0) }, (omega arith), b.0.2)) in
+      let spans : AreSpans ms items weights (length n.nets) (length q) (c ∷ w ∷ reverse s.way) = (
+        record { m = m; at = is.below_at; own = omega (arith, total.1, split); rest = omega (arith, total.1, split) },
+        (omega arith),
+        (record { m = span.m; at = span.at; own = span.own; rest = omega (arith, total.0) }, (omega arith), b.0.2),
+      ) in
       record {
         spans = subst (λ (k : ℕ). AreSpans ms items weights k (length q) (reverse ((s.way ++ w ∷ []) ++ c ∷ []))) (sym size) (subst (AreSpans ms items weights (length n.nets) (length q)) (sym back) spans);
         printed = printed;

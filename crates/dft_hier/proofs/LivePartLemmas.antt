@@ -112,9 +112,9 @@ live_parts_from give ms weights prefix first next all place (item.Sub s ∷ item
     by c there_is true lives is (Some m) found rest more few_here few_more =
         let there_m : slice_get ms c ≡ Some m = is ∙ found in
         let count : length (sub_parts give prefix first next s (find_module ms s.of)).nets ≡ (get_or weights c no_weight).nets =
-            ap (λ (o : Option Module). length (sub_parts give prefix first next s o).nets) found ∙ exact c m there_m prefix first next s (subst (λ (o : Option Module). length (sub_parts give prefix first next s o).nets ≤ MAX_NETS) found few_here) in
+        ap (λ (o : Option Module). length (sub_parts give prefix first next s o).nets) found ∙ exact c m there_m prefix first next s (subst (λ (o : Option Module). length (sub_parts give prefix first next s o).nets ≤ MAX_NETS) found few_here) in
         let named : named_parts give prefix first next (slice_get all place) (slice_get ms c) ≡ sub_parts give prefix first next s (find_module ms s.of) =
-            ap (λ (o : Option Item). named_parts give prefix first next o (slice_get ms c)) at ∙ ap (sub_parts give prefix first next s) is in
+        ap (λ (o : Option Item). named_parts give prefix first next o (slice_get ms c)) at ∙ ap (sub_parts give prefix first next s) is in
         ap (λ (n : ℕ). and_parts (named_parts give prefix first next (slice_get all place) (slice_get ms c)) (live_parts give ms weights prefix first (next + n) all (items_from weights (place + 1) items rest))) (sym count)
         ∙ ap (λ (p : Parts). and_parts p (live_parts give ms weights prefix first (next + length (sub_parts give prefix first next s (find_module ms s.of)).nets) all (items_from weights (place + 1) items rest))) named
         ∙ ap (λ (p : Parts). and_parts (sub_parts give prefix first next s (find_module ms s.of)) p) (more (next + length (sub_parts give prefix first next s (find_module ms s.of)).nets) few_more)

@@ -32,7 +32,7 @@ own_live weights items children place next old new i less is none more h =
     let cut = drop_next items place i less is in
     let l = ap (λ (xs : List Item). length (subs_of xs)) cut ∙ ap (λ (xs : List SubInstance). length xs) (subs_none i rest none) in
     let given : live_from weights place (i ∷ rest) (drop next children) old ≡ live_from weights (place + 1) rest (drop next children) (and_own place old) =
-        ap (λ (o : Option SubInstance). live_from weights (place + 1) rest (left_by o (drop next children)) (and_item weights place (child_for o (drop next children)) old)) none in
+    ap (λ (o : Option SubInstance). live_from weights (place + 1) rest (left_by o (drop next children)) (and_item weights place (child_for o (drop next children)) old)) none in
     record {
       same = ap (live_from weights (place + 1) rest (drop next children)) more ∙ sym given ∙ ap (λ (xs : List Item). live_from weights place xs (drop next children) old) (sym cut) ∙ h.same;
       left = (let a = h.left in omega arith);
@@ -56,8 +56,8 @@ sub_live weights items children place next child old new i s less is sub at more
     let live = child_there weights items children place next old i s less is sub h in
     let ahead : drop next children ≡ child ∷ drop (next + 1) children = drop_next children next child live at in
     let given : live_from weights place (i ∷ rest) (drop next children) old ≡ live_from weights (place + 1) rest (drop (next + 1) children) (and_sub (get_or weights child no_weight) (record { item = place; child = child }) old) =
-        ap (λ (o : Option SubInstance). live_from weights (place + 1) rest (left_by o (drop next children)) (and_item weights place (child_for o (drop next children)) old)) sub
-        ∙ ap (λ (cs : List ℕ). live_from weights (place + 1) rest (drop 1 cs) (and_item weights place (slice_get cs 0) old)) ahead in
+    ap (λ (o : Option SubInstance). live_from weights (place + 1) rest (left_by o (drop next children)) (and_item weights place (child_for o (drop next children)) old)) sub
+    ∙ ap (λ (cs : List ℕ). live_from weights (place + 1) rest (drop 1 cs) (and_item weights place (slice_get cs 0) old)) ahead in
     record {
       same = ap (live_from weights (place + 1) rest (drop (next + 1) children)) more ∙ sym given ∙ ap (λ (xs : List Item). live_from weights place xs (drop next children) old) (sym cut) ∙ h.same;
       left = (let a = h.left in omega arith);

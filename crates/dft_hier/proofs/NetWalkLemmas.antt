@@ -66,7 +66,7 @@ pending_split ms items p v back l name m at named gives within nested =
     let same : take v.prefix q ≡ take v.prefix p = kept p name v.prefix within in
     let rest : List Text = live_nets N ms (take v.prefix p) (items_at ms v.number) others in
     let here : live_nets N ms (take v.prefix p) (items_at ms v.number) (drop v.next (live_at items v.number)) ≡ (own ++ child) ++ rest =
-        ap (live_nets N ms (take v.prefix p) (items_at ms v.number)) (drop_at (live_at items v.number) v.next l at) ∙ ap (λ (ns : List Text). ns ++ rest) (named (take v.prefix p) ∙ gives q) in
+    ap (live_nets N ms (take v.prefix p) (items_at ms v.number)) (drop_at (live_at items v.number) v.next l at) ∙ ap (λ (ns : List Text). ns ++ rest) (named (take v.prefix p) ∙ gives q) in
     let below : pending ms items p back ≡ pending ms items q back = pending_same ms items p q v.prefix back (sym same) nested in
     let front : live_nets N ms (take (length q) q) (items_at ms l.child) (live_at items l.child) ≡ child = ap (λ (x : Text). live_nets N ms x (items_at ms l.child) (live_at items l.child)) (take_all (length q) q (omega arith)) in
     let back_rest : live_nets N ms (take v.prefix q) (items_at ms v.number) others ≡ rest = ap (λ (x : Text). live_nets N ms x (items_at ms v.number) others) same in

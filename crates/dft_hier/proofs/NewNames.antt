@@ -36,7 +36,7 @@ pub own_names : (library : List Cell) (ms : List Module) → AreNew library [] m
 own_names library ms new a b m other at there same = elim (cases_eq a b) [
   | inl e ↦ e
   | inr ne ↦ elim (cases_lt a b) [
-      | inl less ↦ absurd (differ library ms a b m other new at there less same)
-      | inr more ↦ absurd (differ library ms b a other m new there at (omega (arith, more, ne)) (sym same))
-    ]
+    | inl less ↦ absurd (differ library ms a b m other new at there less same)
+    | inr more ↦ absurd (differ library ms b a other m new there at (omega (arith, more, ne)) (sym same))
+  ]
 ]

@@ -109,11 +109,11 @@ sub_entered ms items weights library whole s v n new l m sub ports connections b
     let size : count ≡ length is.below.nets = counted ∙ ap (λ (x : Module). length x.nets) inner in
     let named : sub.name ≡ is.sub.name = ap (λ (x : SubInstance). x.name) same in
     let there : t ≡ gone_into (and_visit s (passed_by v (get_or weights l.child no_weight).nets)) v is.sub.name l.child (length is.below.nets) =
-        stand ∙ ap (λ (b : ℕ). gone_into (and_visit s (passed_by v b)) v sub.name l.child count) weighs
-        ∙ ap (λ (x : Text). gone_into (and_visit s (passed_by v (get_or weights l.child no_weight).nets)) v x l.child count) named
-        ∙ ap (λ (k : ℕ). gone_into (and_visit s (passed_by v (get_or weights l.child no_weight).nets)) v is.sub.name l.child k) size in
+    stand ∙ ap (λ (b : ℕ). gone_into (and_visit s (passed_by v b)) v sub.name l.child count) weighs
+    ∙ ap (λ (x : Text). gone_into (and_visit s (passed_by v (get_or weights l.child no_weight).nets)) v x l.child count) named
+    ∙ ap (λ (k : ℕ). gone_into (and_visit s (passed_by v (get_or weights l.child no_weight).nets)) v is.sub.name l.child k) size in
     let grown : new ≡ with_joins n (connection_joins v.first v.next is.sub.connections is.below.ports) =
-        added ∙ ap (λ (ps : List Port). with_joins n (connection_joins v.first v.next connections ps)) all ∙ ap (λ (cs : List Connection). with_joins n (connection_joins v.first v.next cs is.below.ports)) own in
+    added ∙ ap (λ (ps : List Port). with_joins n (connection_joins v.first v.next connections ps)) all ∙ ap (λ (cs : List Connection). with_joins n (connection_joins v.first v.next cs is.below.ports)) own in
     subst (λ (x : ItemStand). IsItemWalk ms items weights library whole x new) (sym there)
     (sub_passed ms items weights library whole s v n new l is laid at grown (subst (λ (x : ItemStand). IsPrefix x.prefix) there printed) walk)
 

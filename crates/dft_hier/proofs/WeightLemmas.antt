@@ -30,9 +30,9 @@ stands_or [] k = inr (stands_none k)
 stands_or (x ∷ xs) k = elim (cases_eq x k) [
   | inl e ↦ inl (record { place = 0; at = ap (λ (n : ℕ). Some n) e })
   | inr ne ↦ elim (stands_or xs k) [
-      | inl more ↦ inl (stands_more x xs k more)
-      | inr none ↦ inr (λ h. elim (stands_cases x xs k h) [ inl e ↦ ne e | inr more ↦ none more ])
-    ]
+    | inl more ↦ inl (stands_more x xs k more)
+    | inr none ↦ inr (λ h. elim (stands_cases x xs k h) [ inl e ↦ ne e | inr more ↦ none more ])
+  ]
 ]
 
 -- the modules of the order so far have their weights
@@ -77,7 +77,7 @@ weighed_next ms g order done number m children w old o at there are is few h =
       | inr ne ↦ get_or-set_other old number k w no_weight ne
     ] in
     let same : (place k : ℕ) (x : Module) → place < done + 1 → slice_get order place ≡ Some k → weight_by x (children_at g k) new ≡ weight_by x (children_at g k) old = λ place k x less is_.
-        ap (with_all (alone x)) (weights_same old new (children_at g k) (λ child below. kept child (shorter order place done child (omega (arith, less)) (o.after place k child is_ below)))) in
+    ap (with_all (alone x)) (weights_same old new (children_at g k) (λ child below. kept child (shorter order place done child (omega (arith, less)) (o.after place k child is_ below)))) in
     record {
       count = length-set old number w ∙ h.count;
       bounded = bounded old number w few h.bounded;

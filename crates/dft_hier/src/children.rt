@@ -64,10 +64,7 @@ pub fn sub_in(item: &Item) -> Option<&SubInstance>
 }
 
 /// The modules by their names.
-pub fn module_numbers<'a>(
-    alloc: Global,
-    modules: &'a [Module],
-) -> Result<Numbered<'a>, AllocError>
+pub fn module_numbers<'a>(alloc: Global, modules: &'a [Module]) -> Result<Numbered<'a>, AllocError>
     ensures { IfOk result (λ numbers. Finds numbers (module_names modules.now)) }
 {
     let mut numbers = Numbered::new(alloc);
@@ -102,11 +99,7 @@ fn add_child(
 }
 
 // The modules of a module's instances. Refused for the first that is not there.
-fn children_in(
-    alloc: Global,
-    owner: &Module,
-    numbers: &Numbered<'_>,
-) -> Result<Children, HierError>
+fn children_in(alloc: Global, owner: &Module, numbers: &Numbered<'_>) -> Result<Children, HierError>
     ensures ok { IfOk result (λ children. children ≡ found_subs numbers.now (subs_of owner.now.items)) }
     ensures known { IfOk result (λ children. first_lost numbers.now (subs_of owner.now.items) ≡ None) }
     ensures refused { IfErr result (TellsLost (first_lost numbers.now (subs_of owner.now.items))) }

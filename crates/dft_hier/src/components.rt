@@ -22,11 +22,7 @@ fn no_parents(alloc: Global, count: usize) -> Result<Vec<Children>, AllocError>
 }
 
 // A module has these instances.
-fn add_parent(
-    parents: &mut [Children],
-    number: usize,
-    children: &[usize],
-) -> Result<(), AllocError>
+fn add_parent(parents: &mut [Children], number: usize, children: &[usize]) -> Result<(), AllocError>
     requires live { number < length parents.old }
     requires below { AreBelow (length parents.old) children.now }
     requires within { AreWithin (length parents.old) parents.old }

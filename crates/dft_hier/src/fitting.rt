@@ -27,10 +27,7 @@ pub fn port_numbers<'a>(alloc: Global, owner: &'a Module) -> Result<Numbered<'a>
 }
 
 /// The ports of each module by their names.
-pub fn all_ports<'a>(
-    alloc: Global,
-    modules: &'a [Module],
-) -> Result<Vec<Numbered<'a>>, AllocError>
+pub fn all_ports<'a>(alloc: Global, modules: &'a [Module]) -> Result<Vec<Numbered<'a>>, AllocError>
     ensures { IfOk result (λ ports. ArePortsFound modules.now ports.items) }
 {
     let mut all = Vec::with_capacity(alloc, modules.len())?;

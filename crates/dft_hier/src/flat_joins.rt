@@ -51,11 +51,7 @@ fn moved_pins(alloc: Global, first: usize, pins: &[Signal]) -> Result<PinSignals
 }
 
 // The name of an instance behind a prefix, if it has one.
-fn moved_name(
-    alloc: Global,
-    prefix: &[u8],
-    name: &Option<Name>,
-) -> Result<Option<Name>, AllocError>
+fn moved_name(alloc: Global, prefix: &[u8], name: &Option<Name>) -> Result<Option<Name>, AllocError>
     requires { IsPrefix prefix.now }
     ensures { IfOk result (λ whole. whole ≡ option_map (λ own. prefix.now ++ own) name.now) }
 {

@@ -75,11 +75,7 @@ fn top_of(
 }
 
 // Adds these ports.
-fn add_ports(
-    alloc: Global,
-    builder: &mut DesignBuilder,
-    ports: &[Port],
-) -> Result<(), NetlistError>
+fn add_ports(alloc: Global, builder: &mut DesignBuilder, ports: &[Port]) -> Result<(), NetlistError>
     requires { HasOnlyPorts builder.old }
     ensures { Grows (spec.add_ports ports.now builder.old) result builder.new }
 {
