@@ -42,6 +42,12 @@ parts_assoc a b c =
     ∙ ap (λ (js : List Join). record { nets = a.nets ++ (b.nets ++ c.nets); joins = js; instances = (a.instances ++ b.instances) ++ c.instances }) (append_assoc a.joins b.joins c.joins)
     ∙ ap (λ (is : List Instance). record { nets = a.nets ++ (b.nets ++ c.nets); joins = a.joins ++ (b.joins ++ c.joins); instances = is }) (append_assoc a.instances b.instances c.instances)
 
+parts_nil : (a : Parts) → and_parts a no_parts ≡ a
+parts_nil a =
+    ap (λ (ns : List Text). record { nets = ns; joins = a.joins ++ []; instances = a.instances ++ [] }) (append-nil a.nets)
+    ∙ ap (λ (js : List Join). record { nets = a.nets; joins = js; instances = a.instances ++ [] }) (append-nil a.joins)
+    ∙ ap (λ (is : List Instance). record { nets = a.nets; joins = a.joins; instances = is }) (append-nil a.instances)
+
 -- ---- spans and prefixes
 
 spans_less : (ms : List Module) (items : List Live) (weights : List Weight) (nets limit more : ℕ) (back : List Visit) → limit ≤ more → AreSpans ms items weights nets limit back → AreSpans ms items weights nets more back
@@ -265,7 +271,7 @@ module _ (ms : List Module) (items : List Live) (weights : List Weight) (library
         printed = λ k d less. absurd (omega (arith, less));
         few = few;
         over = same;
-        rest = sym (ap (λ (x : Parts). adds x n) gives
-            ∙ ap (λ (k : ℕ). adds (live_parts (parts_within (length ms) ms) ms weights [] 0 k (items_at ms top) (live_items_at items top)) n) e)
-            ∙ refl;
+        rest = ap (λ (x : Parts). adds x n) (parts_nil (live_parts (parts_within (length ms) ms) ms weights [] 0 (length m.nets) (items_at ms top) (live_items_at items top)))
+            ∙ sym (ap (λ (x : Parts). adds x n) gives
+            ∙ ap (λ (k : ℕ). adds (live_parts (parts_within (length ms) ms) ms weights [] 0 k (items_at ms top) (live_items_at items top)) n) e);
       }

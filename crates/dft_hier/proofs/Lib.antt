@@ -30,5 +30,6 @@ pub mod NewNames
 pub mod ConnectLemmas
 pub mod EnterLemmas
 pub mod AddLemmas
+pub mod StartLemmas
 pub mod OneDesign
 mod FlatExamples

@@ -82,8 +82,8 @@ with_subs depth ms weights (s ∷ subs) w nets lives is exact = by (number_of ms
         ∙ ap (λ (o : Option Module). record { nets = at_most (nets + length (sub_nets (nets_in depth ms) [] s o)); lives = lives || sub_lives (lives_in depth ms) o }) (sym found)
 
     whole : (o : Option Module) → find_module ms s.of ≡ o →
-        record { nets = at_most (nets + length (sub_nets (nets_in depth ms) [] s o) + length more_nets); lives = (lives || sub_lives (lives_in depth ms) o) || more_lives }
-        ≡ record { nets = at_most (nets + length (sub_nets (nets_in depth ms) [] s (find_module ms s.of) ++ more_nets)); lives = lives || (sub_lives (lives_in depth ms) (find_module ms s.of) || more_lives) }
+        ◌≡◌ {A = Weight} (record { nets = at_most (nets + length (sub_nets (nets_in depth ms) [] s o) + length more_nets); lives = (lives || sub_lives (lives_in depth ms) o) || more_lives })
+        (record { nets = at_most (nets + length (sub_nets (nets_in depth ms) [] s (find_module ms s.of) ++ more_nets)); lives = lives || (sub_lives (lives_in depth ms) (find_module ms s.of) || more_lives) })
     whole o found =
         let l = length-append (sub_nets (nets_in depth ms) [] s o) more_nets in
         let sum : nets + length (sub_nets (nets_in depth ms) [] s o) + length more_nets ≡ nets + length (sub_nets (nets_in depth ms) [] s o ++ more_nets) = omega arith in
@@ -142,11 +142,11 @@ nets-append give ms prefix items (l ∷ xs) ys =
 abbrev pub GivesNone : (give : NetsGiving) (ms : List Module) (weights : List Weight) → Type 0
 GivesNone give ms weights = (k : ℕ) (m : Module) → slice_get ms k ≡ Some m → nat_lt 0 (get_or weights k no_weight).nets ≡ false → (prefix : Text) → give prefix m ≡ []
 
-first_child : (ms : List Module) (s : SubInstance) (subs : List SubInstance) (children : List ℕ) → number_of ms s.of ∷ numbers ms subs ≡ map Some children → (c : ℕ) × ((rest : List ℕ) × ((children ≡ c ∷ rest) × (number_of ms s.of ≡ Some c) × (numbers ms subs ≡ map Some rest)))
+pub first_child : (ms : List Module) (s : SubInstance) (subs : List SubInstance) (children : List ℕ) → number_of ms s.of ∷ numbers ms subs ≡ map Some children → (c : ℕ) × ((rest : List ℕ) × ((children ≡ c ∷ rest) × (number_of ms s.of ≡ Some c) × (numbers ms subs ≡ map Some rest)))
 first_child ms s subs [] e = absurd (let f : ⊥ = cc in f)
 first_child ms s subs (c ∷ rest) e = (c, (rest, (refl, cc, cc)))
 
-live_nets_from : (give : NetsGiving) (ms : List Module) (weights : List Weight) (prefix : Text) (all : List Item) (place : ℕ) (items : List Item) (children : List ℕ) (live : Live) → GivesNone give ms weights →
+pub live_nets_from : (give : NetsGiving) (ms : List Module) (weights : List Weight) (prefix : Text) (all : List Item) (place : ℕ) (items : List Item) (children : List ℕ) (live : Live) → GivesNone give ms weights →
     ((j : ℕ) → slice_get all (place + j) ≡ slice_get items j) → numbers ms (subs_of items) ≡ map Some children →
     live_nets give ms prefix all (live_from weights place items children live).with_nets ≡ live_nets give ms prefix all live.with_nets ++ subs_nets give ms prefix (subs_of items)
 live_nets_from give ms weights prefix all place [] children live none there paired = sym (append-nil (live_nets give ms prefix all live.with_nets))

@@ -22,7 +22,7 @@ sub_nets_same : (give : Giving) (nets : NetsGiving) (prefix : Text) (outside fir
 sub_nets_same give nets prefix outside first s None same = refl
 sub_nets_same give nets prefix outside first s (Some m) same = same (inside prefix s.name) first m
 
-item_nets_same : (give : Giving) (nets : NetsGiving) (ms : List Module) (prefix : Text) (first next : ℕ) (items : List Item) → ((prefix : Text) (first : ℕ) (m : Module) → (give prefix first m).nets ≡ nets prefix m) →
+pub item_nets_same : (give : Giving) (nets : NetsGiving) (ms : List Module) (prefix : Text) (first next : ℕ) (items : List Item) → ((prefix : Text) (first : ℕ) (m : Module) → (give prefix first m).nets ≡ nets prefix m) →
     (item_parts give ms prefix first next items).nets ≡ subs_nets nets ms prefix (subs_of items)
 item_nets_same give nets ms prefix first next [] same = refl
 item_nets_same give nets ms prefix first next (item.Join j ∷ items) same = item_nets_same give nets ms prefix first next items same

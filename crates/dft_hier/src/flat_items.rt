@@ -271,6 +271,7 @@ pub fn add_items(
     requires nets { length builder.old.nets ≡ length (parts_at hierarchy.now.modules.now top).nets }
     ensures { Grows (adds (parts_at hierarchy.now.modules.now top) builder.old) result builder.new }
 {
+    builder.net_count();
     let mut walk = ItemWalk::at(alloc, top, hierarchy.modules[top].nets().len())?;
     while let Some(visit) = walk.pop() {
         step(alloc, hierarchy, builder, &mut walk, visit)?;

@@ -146,6 +146,22 @@ fn told(error: NetlistError) -> HierError
     }
 }
 
+// The flat netlist of a hierarchy as a design.
+fn finished(
+    alloc: Global,
+    hierarchy: &Hierarchy<'_>,
+    library: Library,
+    top: usize,
+) -> Result<Design, NetlistError>
+    requires laid { IsLaid library hierarchy.now }
+    requires top { IsTopOf hierarchy.now.modules.now top }
+    ensures flat { IfOk result (λ design. IsFlat hierarchy.now.modules.now library design) }
+    ensures refused { IfErr result (λ error. CannotFlatten hierarchy.now.modules.now library (told_of error)) }
+{
+    let builder = built(alloc, hierarchy, library, top)?;
+    builder.finish()
+}
+
 // The design of modules that can be joined, in an order in which each stands behind those below it.
 fn design(
     alloc: Global,
@@ -170,8 +186,8 @@ fn design(
         items: &items,
         weights: &weights,
     };
-    match built(alloc, &hierarchy, library, top) {
-        Ok(builder) => builder.finish().map_err(told),
+    match finished(alloc, &hierarchy, library, top) {
+        Ok(design) => Ok(design),
         Err(error) => Err(told(error)),
     }
 }

@@ -21,8 +21,8 @@ offset_bounds-hierarchy-visit c =
     let less : c.args.visit.number < length c.args.hierarchy.now.modules.now = visited h.modules.now h.items.now h.weights.now c.args.builder.now.library st.whole c.args.walk.now c.args.visit c.args.builder.now st.walk in
     search rules
 
-pub prefix-requires : goal.prefix-requires
-prefix-requires c =
+pub prefix-prefix-requires : goal.prefix-prefix-requires
+prefix-prefix-requires c =
     let h = c.args.hierarchy.now in
     let st = c.requires.stands in
     rw c.in_ok-push.ensures (prefix_within h.modules.now h.items.now h.weights.now c.args.builder.now.library st.whole c.args.walk.now c.args.visit c.args.builder.now st.walk)
@@ -48,7 +48,7 @@ pub add_own-requires-clause-prefix : goal.add_own-requires-clause-prefix
 add_own-requires-clause-prefix c =
     let st = c.requires.stands in
     let all : IsPrefix c.push.new.self.prefix = subst (λ (s : ItemStand). IsPrefix s.prefix) (sym c.in_ok-push.ensures) st.walk.printed in
-    rw c.prefix.ensures (All-take (λ b. (33 ≤ b) × (b ≤ 126)) c.args.visit.prefix c.push.new.self.prefix all)
+    rw c.prefix-prefix.ensures (All-take (λ b. (33 ≤ b) × (b ≤ 126)) c.args.visit.prefix c.push.new.self.prefix all)
 
 pub add_own-requires-clause-fits : goal.add_own-requires-clause-fits
 add_own-requires-clause-fits c =
@@ -64,8 +64,8 @@ returns-clause-walks c =
     let st = c.requires.stands in
     let less = visited h.modules.now h.items.now h.weights.now c.args.builder.now.library st.whole c.args.walk.now c.args.visit c.args.builder.now st.walk in
     let at = own_at h.modules.now c.args.visit.number c.args.place c.items-items.result.now c.index-items-place.result (read_items h.modules.now c.args.visit.number c.index-hierarchy-visit.result c.items-items.result.now less c.index-hierarchy-visit.is (c.items-items.ensures ∙ ap (λ (m : Module). m.items) (sym c.index-hierarchy-visit.is))) (c.requires.laid.owns c.args.visit.number c.args.visit.item c.args.place c.requires.next) c.index-items-place.is in
-    λ whole walk. own_walked h.modules.now h.items.now h.weights.now c.args.builder.now.library whole c.args.walk.now c.args.visit c.args.builder.now c.add_own.new.builder c.index-items-place.result c.args.place c.prefix.result.now c.push.new.self c.add_own.result
-    c.requires.next at (c.prefix.ensures ∙ ap (λ (s : ItemStand). take c.args.visit.prefix s.prefix) c.in_ok-push.ensures) c.in_ok-push.ensures c.add_own.ensures walk
+    λ whole walk. own_walked h.modules.now h.items.now h.weights.now c.args.builder.now.library whole c.args.walk.now c.args.visit c.args.builder.now c.add_own.new.builder c.index-items-place.result c.args.place c.prefix-prefix.result.now c.push.new.self c.add_own.result
+    c.requires.next at (c.prefix-prefix.ensures ∙ ap (λ (s : ItemStand). take c.args.visit.prefix s.prefix) c.in_ok-push.ensures) c.in_ok-push.ensures c.add_own.ensures walk
 
 pub returns-clause-fewer : goal.returns-clause-fewer
 returns-clause-fewer c =

@@ -15,7 +15,7 @@ pub returns-in_err-add_ports : goal.returns-in_err-add_ports
 returns-in_err-add_ports c =
     let h = c.args.hierarchy.now in
     let m = top_read h.modules.now c.args.top c.index-hierarchy-top.result c.requires.top c.index-hierarchy-top.is in
-    let p = err_from_is_err_and c.from_residual-in_err-add_ports.result c.from_residual-in_err-add_ports.ensures.1 in
+    let p = err_from_is_err_and c.from_residual.result c.from_residual.ensures.1 in
     rw (p.1, p.2) (ports_refused h.modules.now c.args.builder.now.library c.args.top c.args.builder.now c.ports.result.now c.in_err-add_ports.field-0.0 c.requires.top c.requires.none (c.ports.ensures ∙ ap (λ x. x.ports) (sym c.index-hierarchy-top.is) ∙ ap (λ x. x.ports) m) c.in_err-add_ports.ensures)
 
 pub returns-in_err-add_other_nets : goal.returns-in_err-add_other_nets
