@@ -13,5 +13,5 @@ finished-requires-clause-laid c =
     rw (c.deref-2.ensures.value, c.deref-3.ensures.value)
     (hierarchy_laid c.args.modules.now c.args.children.now c.args.library c.args.order.now c.args.top c.in_ok-weights.weights.items c.in_ok-items.items.items c.requires.sound c.requires.children c.requires.order c.requires.top c.in_ok-weights.ensures live)
 
-pub returns-in-Err-clause-refused : goal.returns-in-Err-clause-refused
-returns-in-Err-clause-refused c = rw c.told.ensures c.in-Err.ensures.refused
+pub returns-clause-refused : goal.returns-clause-refused
+returns-clause-refused c = rw c.told.ensures c.in-Err.ensures.refused
