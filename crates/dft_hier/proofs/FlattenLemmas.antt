@@ -89,7 +89,7 @@ pub ports_done : (ports : List Port) (k : ℕ) (start now : Netlist) → length 
 ports_done ports k start now past h = sym h.rest ∙ ap (λ (ps : List Port). add_ports ps now) (drop_past ports k past)
 
 -- ports that were added have their bits' nets, and nothing else
-ports_nets : (ports : List Port) (n m : Netlist) → add_ports ports n ≡ Ok m → (length m.nets ≡ length n.nets + length (bit_names_of ports)) × (m.joins ≡ n.joins) × (m.library ≡ n.library)
+pub ports_nets : (ports : List Port) (n m : Netlist) → add_ports ports n ≡ Ok m → (length m.nets ≡ length n.nets + length (bit_names_of ports)) × (m.joins ≡ n.joins) × (m.library ≡ n.library)
 ports_nets [] n m e = let f : n ≡ m = cc in ((let g = ap (λ (x : Netlist). length x.nets) f in omega arith), ap (λ (x : Netlist). x.joins) (sym f), ap (λ (x : Netlist). x.library) (sym f))
 ports_nets (p ∷ ports) n m e = by (port_refusal n p.name p.range) e (ports_nets ports)
   where
@@ -134,7 +134,7 @@ behind_ports ms items number m library start ports gives is none added =
 
 -- ---- what is there after each step
 
-nets_keep : (names : List Text) (n m : Netlist) → add_nets names n ≡ Ok m → (length m.nets ≡ length n.nets + length names) × (m.library ≡ n.library)
+pub nets_keep : (names : List Text) (n m : Netlist) → add_nets names n ≡ Ok m → (length m.nets ≡ length n.nets + length names) × (m.library ≡ n.library)
 nets_keep [] n m e = let f : n ≡ m = cc in ((let g = ap (λ (x : Netlist). length x.nets) f in omega arith), ap (λ (x : Netlist). x.library) (sym f))
 nets_keep (name ∷ names) n m e = by (net_refusal n name) e (nets_keep names (record n { nets = n.nets ++ name ∷ [] }) m)
   where

@@ -32,4 +32,7 @@ pub mod EnterLemmas
 pub mod AddLemmas
 pub mod StartLemmas
 pub mod OneDesign
+pub mod SpotLemmas
+pub mod InstanceSpotLemmas
+pub mod OneForOne
 mod FlatExamples

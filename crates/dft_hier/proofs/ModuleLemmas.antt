@@ -56,7 +56,7 @@ some_named (x ∷ ms) (suc k) m at = by (bytes_eq x.name m.name) (some_named ms 
     by true more = (x, refl)
     by false more = more
 
-module_at : (ms : List Module) (k : ℕ) → k < length ms → (m : Module) × (slice_get ms k ≡ Some m)
+pub module_at : (ms : List Module) (k : ℕ) → k < length ms → (m : Module) × (slice_get ms k ≡ Some m)
 module_at [] k less = absurd (omega (arith, less))
 module_at (m ∷ ms) zero less = (m, refl)
 module_at (m ∷ ms) (suc k) less = module_at ms k (omega (arith, less))
@@ -105,7 +105,7 @@ child_named ms (s ∷ subs) k m h at = by (number_of ms s.of) refl h (child_name
       | inr rest ↦ or_right (bytes_eq s.of m.name) (list_any (λ (s : SubInstance). bytes_eq s.of m.name) subs) (more rest at)
     ]
 
-child_known : (ms : List Module) (subs : List SubInstance) (k : ℕ) → StandsIn (numbers_of_subs ms subs) k → (name : Text) × (number_of ms name ≡ Some k)
+pub child_known : (ms : List Module) (subs : List SubInstance) (k : ℕ) → StandsIn (numbers_of_subs ms subs) k → (name : Text) × (number_of ms name ≡ Some k)
 child_known ms [] k h = absurd (stands_none k h)
 child_known ms (s ∷ subs) k h = by (number_of ms s.of) refl h (child_known ms subs k)
   where

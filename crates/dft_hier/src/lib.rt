@@ -18,4 +18,4 @@ mod weights;
 
 pub use error::HierError;
 pub use flattening::flatten;
-pub use laws::texts_give_one_design;
+pub use laws::{flat_designs_are_one_for_one, texts_give_one_design};
