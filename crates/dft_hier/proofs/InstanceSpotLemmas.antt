@@ -119,8 +119,9 @@ instances_all ms (suc depth) m (Rises each) base [] target at is less =
     subst (λ (p : Path). Among (instance_spots_within (suc depth) ms base m) (spot p at)) (sym (append-nil base)) r
 instances_all ms (suc depth) m (Rises each) base (place ∷ path) target at is less =
     let b = module_below ms path target (slice_get (subs_of m.items) place) is in
+    let start : place ≡ 0 + place = omega arith in
     let rest = instances_all ms depth b.inner (each place b.sub b.inner b.at b.found) (below base place) path target at b.rest less in
-    let deep = deep_among (instance_spots_within depth ms) ms base 0 0 place m.items b.sub b.inner (spot (below base place ++ path) at) b.at b.found rest in
+    let deep = deep_among (instance_spots_within depth ms) ms base 0 0 place m.items b.sub b.inner (spot (below base place ++ path) at) b.at b.found (subst (λ (n : ℕ). Among (instance_spots_within depth ms (below base n) b.inner) (spot (below base place ++ path) at)) start rest) in
     subst (λ (p : Path). Among (instance_spots_within (suc depth) ms base m) (spot p at)) (append_assoc base (place ∷ []) path) deep
 
 -- ---- each has its cell

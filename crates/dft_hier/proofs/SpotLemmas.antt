@@ -204,8 +204,9 @@ nets_all ms (suc depth) m (Rises each) base [] target at is less =
     subst (λ (p : Path). Among (net_spots_within (suc depth) ms base m) (spot p at)) (sym (append-nil base)) r
 nets_all ms (suc depth) m (Rises each) base (place ∷ path) target at is less =
     let b = module_below ms path target (slice_get (subs_of m.items) place) is in
+    let start : place ≡ 0 + place = omega arith in
     let rest = nets_all ms depth b.inner (each place b.sub b.inner b.at b.found) (below base place) path target at b.rest less in
-    let r = subs_among (net_spots_within depth ms) ms base 0 place (subs_of m.items) b.sub b.inner (spot (below base place ++ path) at) b.at b.found rest in
+    let r = subs_among (net_spots_within depth ms) ms base 0 place (subs_of m.items) b.sub b.inner (spot (below base place ++ path) at) b.at b.found (subst (λ (n : ℕ). Among (net_spots_within depth ms (below base n) b.inner) (spot (below base place ++ path) at)) start rest) in
     let deep = among_right (own_from base 0 (length m.nets)) (subs_spots (net_spots_within depth ms) ms base 0 (subs_of m.items)) r.number (spot (below base place ++ path) at) r.at in
     subst (λ (p : Path). Among (net_spots_within (suc depth) ms base m) (spot p at)) (append_assoc base (place ∷ []) path) deep
 
