@@ -1,6 +1,5 @@
 -- All that the top and the modules below it give is added.
-use Rattle.std.proofs.Common.{ℕ, ◌+◌, ◌<◌, ◌≤◌, ◌≡◌, List, [], ◌∷◌, ◌++◌, length, drop, get_or, Option, Some, Result, Ok, Err, slice_get, refl, sym, ap, subst, arith, ◌∙◌}
-use Rattle.std.specs.Result.{MatchResult}
+use Rattle.std.proofs.Common.{ℕ, ◌<◌, ◌≡◌, List, length, drop, get_or, Option, Some, Result, Ok, sym, ap, subst, ◌∙◌}
 use Rattle.std.proofs.lemmas.Option.{slice_get_within, slice_get-get_or}
 use Rattle.dft_base.specs.Lexing.{Text}
 use Rattle.dft_cells.specs.declared.cell.Cell.{Cell}
@@ -11,7 +10,7 @@ use Rattle.dft_netlist.specs.Building.{empty_netlist}
 use Rattle.dft_netlist_text.specs.NetlistText.{Grown, and_grown, add_nets}
 use Rattle.dft_modules.specs.Modules.{Module}
 use Rattle.dft_modules.specs.Sound.{AreModules}
-use Rattle.dft_hier.specs.Flat.{Parts, add_ports, add_parts, flat_parts}
+use Rattle.dft_hier.specs.Flat.{add_ports, add_parts, flat_parts}
 use Rattle.dft_hier.specs.FlatNets.{nets_below, IsNetLaid}
 use Rattle.dft_hier.specs.Growing.{Grows, IsRefusal}
 use Rattle.dft_hier.specs.ItemWalks.{adds}

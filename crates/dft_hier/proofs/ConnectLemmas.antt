@@ -1,10 +1,9 @@
 -- What the connections of an instance that comes next may be joined to.
-use Rattle.std.proofs.Common.{ℕ, ◌+◌, ◌<◌, ◌≤◌, ◌≡◌, ◌^◌, List, length, get_or, Option, Some, slice_get, refl, sym, ap, subst, arith, ◌∙◌}
+use Rattle.std.proofs.Common.{◌+◌, ◌≤◌, ◌≡◌, List, length, Option, Some, slice_get, refl, sym, ap, subst, arith, ◌∙◌}
 use Rattle.std.specs.List.{All}
 use Rattle.std.proofs.lemmas.List.Elements.{All-get_or, All-from_recursion}
 use Rattle.std.proofs.lemmas.Option.{slice_get_within, get_or_from_slice_get}
 use Rattle.dft_cells.specs.declared.cell.Cell.{Cell}
-use Rattle.dft_netlist.specs.declared.limits.TheConstants.{MAX_NETS}
 use Rattle.dft_netlist.specs.declared.port.Port.{Port}
 use Rattle.dft_netlist.specs.Netlist.{Netlist}
 use Rattle.dft_netlist_text.specs.NetlistText.{Grown}
@@ -17,7 +16,7 @@ use Rattle.dft_hier.specs.declared.weights.Weight.{Weight}
 use Rattle.dft_hier.specs.declared.weights.LiveSub.{LiveSub}
 use Rattle.dft_hier.specs.declared.weights.LiveItem.TheVariants.{Sub}
 use Rattle.dft_hier.specs.Flat.{joined_to, connection_joins}
-use Rattle.dft_hier.specs.FlatNets.{items_in, items_at, IsSubAt}
+use Rattle.dft_hier.specs.FlatNets.{items_in, IsSubAt}
 use Rattle.dft_hier.specs.FlatItems.{live_items_at}
 use Rattle.dft_hier.specs.ItemWalks.{ItemStand, and_visit, IsItemWalk}
 use Rattle.dft_hier.specs.ItemsLaid.{AreItemsLaid}

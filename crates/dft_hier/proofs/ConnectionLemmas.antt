@@ -1,31 +1,25 @@
 -- The joins of an instance's connections can stand in the flat netlist.
-use Rattle.std.proofs.Common.{ℕ, zero, suc, ◌+◌, ◌-◌, ◌<◌, ◌≤◌, ◌≡◌, ◌^◌, Bool, true, false, cond, List, [], ◌∷◌, ◌++◌, length, get_or, map, find, Option, None, Some, slice_get, refl, sym, ap, subst, arith, ◌∙◌, length-append}
+use Rattle.std.proofs.Common.{ℕ, zero, suc, ◌+◌, ◌<◌, ◌≤◌, ◌≡◌, ◌^◌, Bool, true, false, cond, List, [], ◌∷◌, ◌++◌, length, get_or, map, find, Some, slice_get, refl, sym, ap, subst, arith, length-append}
 use Rattle.std.specs.List.{All, AllByRecursion}
 use Rattle.std.specs.Str.{bytes_eq}
 use Rattle.std.proofs.lemmas.List.Elements.{All-get_or, All-from_recursion, recursion_from_All}
-use Rattle.std.proofs.lemmas.Option.{slice_get_within, slice_get-get_or, get_or_from_slice_get}
 use Rattle.dft_base.specs.Lexing.{Text}
 use Rattle.dft_base.specs.Ranges.{going_up}
 use Rattle.dft_cells.specs.declared.cell.Cell.{Cell}
 use Rattle.dft_netlist.specs.declared.ids.NetId.{NetId}
-use Rattle.dft_netlist.specs.declared.limits.TheConstants.{MAX_NETS}
 use Rattle.dft_netlist.specs.declared.port.Port.{Port}
 use Rattle.dft_netlist.specs.declared.instance.Signal.{Signal}
-use Rattle.dft_netlist.specs.declared.instance.Signal.TheVariants as signal
 use Rattle.dft_netlist.specs.Names.{bit_names}
-use Rattle.dft_netlist.specs.NetNumbers.{nets_from}
-use Rattle.dft_netlist.specs.Netlist.{Netlist}
-use Rattle.dft_netlist.specs.Sound.{IsLive, bits_of, bit_names_of}
-use Rattle.dft_netlist_text.specs.NetlistText.{Grown}
+use Rattle.dft_netlist.specs.Sound.{bits_of, bit_names_of}
 use Rattle.dft_modules.specs.declared.connections.Connection.{Connection}
 use Rattle.dft_modules.specs.declared.module.SubInstance.{SubInstance}
 use Rattle.dft_modules.specs.declared.module.Item.{Item}
 use Rattle.dft_modules.specs.declared.module.Item.TheVariants as item
 use Rattle.dft_modules.specs.Modules.{Module}
-use Rattle.dft_modules.specs.Sound.{IsModule, IsItem, IsConnectionOf, IsOuterBit, AreModules}
-use Rattle.dft_hier.specs.Flat.{joined_to, signals_of, connection_joins}
-use Rattle.dft_hier.specs.Moving.{AreJoinsOf, AreWritable, AreBitsWritable}
-use Rattle.dft_hier.proofs.ItemLemmas.{connections_fit, writable}
+use Rattle.dft_modules.specs.Sound.{IsModule, IsItem, IsConnectionOf, IsOuterBit}
+use Rattle.dft_hier.specs.Flat.{joined_to, signals_of}
+use Rattle.dft_hier.specs.Moving.{AreWritable, AreBitsWritable}
+use Rattle.dft_hier.proofs.ItemLemmas.{writable}
 
 -- ---- the bits of ports
 

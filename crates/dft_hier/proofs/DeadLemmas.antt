@@ -1,9 +1,9 @@
 -- Modules where nothing stands give nothing, and their instances join nothing.
-use Rattle.std.proofs.Common.{ℕ, zero, suc, ◌+◌, ◌-◌, ◌<◌, ◌≤◌, ◌≡◌, ◌⊎◌, Bool, true, false, ◌||◌, cond, nat_lt, List, [], ◌∷◌, ◌++◌, length, get_or, map, Option, None, Some, slice_get, refl, sym, ap, subst, arith, ◌∙◌, append-nil, length-append, true≢false}
-use Rattle.std.specs.List.{All, list_any}
+use Rattle.std.proofs.Common.{ℕ, zero, suc, ◌+◌, ◌≡◌, Bool, true, false, ◌||◌, cond, nat_lt, List, [], ◌∷◌, ◌++◌, length, map, Option, None, Some, slice_get, refl, sym, ap, subst, arith, ◌∙◌, length-append, true≢false}
+use Rattle.std.specs.List.{list_any}
 use Rattle.std.proofs.lemmas.List.{nil_from_length}
 use Rattle.std.proofs.lemmas.List.Elements.{All-get_or}
-use Rattle.std.proofs.lemmas.Option.{slice_get_within, slice_get-get_or, get_or_from_slice_get}
+use Rattle.std.proofs.lemmas.Option.{slice_get_within, get_or_from_slice_get}
 use Rattle.std.proofs.lemmas.Bool.Decides.{nat_tests}
 use Rattle.std.specs.Str.{bytes_eq}
 use Rattle.dft_base.specs.Lexing.{Text}
@@ -11,9 +11,8 @@ use Rattle.dft_cells.specs.declared.cell.Cell.{Cell}
 use Rattle.dft_netlist.specs.declared.ids.NetId.{NetId}
 use Rattle.dft_netlist.specs.declared.port.Port.{Port}
 use Rattle.dft_netlist.specs.declared.instance.Join.{Join}
-use Rattle.dft_netlist.specs.declared.instance.Signal.{Signal}
 use Rattle.dft_netlist.specs.Names.{bit_names}
-use Rattle.dft_netlist.specs.Sound.{IsAJoin, bit_names_of}
+use Rattle.dft_netlist.specs.Sound.{bit_names_of}
 use Rattle.dft_modules.specs.declared.connections.Connection.{Connection}
 use Rattle.dft_modules.specs.declared.module.SubInstance.{SubInstance}
 use Rattle.dft_modules.specs.declared.module.Item.{Item}

@@ -1,6 +1,5 @@
 -- The flat netlist, from what each of its steps adds.
-use Rattle.std.proofs.Common.{ℕ, zero, suc, ◌+◌, ◌-◌, ◌<◌, ◌≤◌, ◌≡◌, List, [], ◌∷◌, ◌++◌, length, drop, get_or, map, Option, None, Some, Result, Ok, Err, slice_get, refl, sym, ap, subst, arith, ◌∙◌, length-append}
-use Rattle.std.specs.List.{All}
+use Rattle.std.proofs.Common.{ℕ, ◌+◌, ◌<◌, ◌≤◌, ◌≡◌, List, [], ◌∷◌, ◌++◌, length, drop, get_or, map, Option, None, Some, Ok, Err, slice_get, refl, sym, ap, subst, arith, ◌∙◌, length-append}
 use Rattle.std.proofs.lemmas.List.{drop-append-le, length-drop}
 use Rattle.std.proofs.lemmas.List.Elements.{All-get_or}
 use Rattle.std.proofs.lemmas.Option.{slice_get_within, get_or_from_slice_get}
@@ -21,8 +20,8 @@ use Rattle.dft_netlist.proofs.PortLemmas.{nets_from-length, bits_behind}
 use Rattle.dft_netlist_text.specs.NetlistText.{Grown, unless_refused, and_grown, add_port, add_nets}
 use Rattle.dft_modules.specs.Modules.{Module}
 use Rattle.dft_modules.specs.Sound.{IsModule, AreModules}
-use Rattle.dft_hier.specs.Flat.{Parts, add_ports, add_parts, add_instances, flat_parts, flat_netlist}
-use Rattle.dft_hier.specs.FlatNets.{nets_in, nets_below, GivesLive}
+use Rattle.dft_hier.specs.Flat.{add_ports, add_parts, add_instances, flat_parts, flat_netlist}
+use Rattle.dft_hier.specs.FlatNets.{nets_below, GivesLive}
 use Rattle.dft_hier.specs.Growing.{IsRefusal}
 use Rattle.dft_hier.specs.ItemWalks.{adds}
 use Rattle.dft_hier.specs.Laid.{name_in, name_at, flat_in, flat_at}

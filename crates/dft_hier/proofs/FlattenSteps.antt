@@ -1,5 +1,5 @@
 -- The steps of flattening: what the tests of a hierarchy give.
-use Rattle.std.proofs.Common.{ℕ, zero, suc, ◌+◌, ◌<◌, ◌≤◌, ◌≡◌, List, [], ◌∷◌, length, get_or, Option, None, Some, Ok, Err, slice_get, refl, sym, ap, subst, arith, ◌∙◌}
+use Rattle.std.proofs.Common.{ℕ, zero, suc, ◌<◌, ◌≡◌, List, [], ◌∷◌, length, get_or, None, Some, Ok, slice_get, refl, sym, ap, subst, arith, ◌∙◌}
 use Rattle.std.proofs.lemmas.Option.{slice_get-get_or}
 use Rattle.dft_base.specs.Lexing.{Text}
 use Rattle.dft_cells.specs.declared.cell.Cell.{Cell}
@@ -7,7 +7,6 @@ use Rattle.dft_netlist.specs.declared.error.NetlistError.{NetlistError}
 use Rattle.dft_netlist.specs.declared.error.NetlistError.TheVariants as netlist
 use Rattle.dft_netlist.specs.Netlist.{Netlist}
 use Rattle.dft_netlist.specs.Finishing.{IsFinished, CannotFinish}
-use Rattle.dft_netlist_text.specs.NetlistText.{Grown}
 use Rattle.dft_modules.specs.Modules.{Module}
 use Rattle.dft_modules.specs.Sound.{AreModules}
 use Rattle.dft_hier.specs.declared.weights.Weight.{Weight}
@@ -17,7 +16,7 @@ use Rattle.dft_hier.specs.Hierarchy.{all_subs, HaveOwnNames}
 use Rattle.dft_hier.specs.Laid.{IsTopOf, IsLaidOut, flat_at, flat_in, told_of}
 use Rattle.dft_hier.specs.Numbers.{children_of}
 use Rattle.dft_hier.specs.Reach.{Graph, AreWithin, IsOrder, IsFirstOnCircle, NoCircle}
-use Rattle.dft_hier.specs.Refusals.{first_unknown, first_misfit, NoneInItself, IsFirstInItself, IsFlat, IsFlatRefused, Part, Whole, CannotFlatten}
+use Rattle.dft_hier.specs.Refusals.{first_unknown, first_misfit, NoneInItself, IsFirstInItself, IsFlat, Part, Whole, CannotFlatten}
 use Rattle.dft_hier.specs.TopNumbers.{IsTop, TellsTops}
 use Rattle.dft_hier.specs.Fitting.{TellsMisfit}
 use Rattle.dft_hier.specs.Weights.{Live, AreWeights, AreLive}

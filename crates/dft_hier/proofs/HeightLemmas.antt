@@ -1,10 +1,8 @@
 -- Where no module stands below itself, none stands deeper than there are modules.
-use Rattle.std.proofs.Common.{ℕ, zero, suc, ◌+◌, ◌-◌, ◌<◌, ◌≤◌, ◌≡◌, ◌⊎◌, inl, inr, List, [], ◌∷◌, length, get_or, Option, Some, slice_get, refl, sym, ap, subst, arith, ◌∙◌}
-use Rattle.std.specs.List.{All}
-use Rattle.std.proofs.lemmas.Option.{slice_get_within, slice_get-get_or}
+use Rattle.std.proofs.Common.{ℕ, zero, suc, ◌+◌, ◌<◌, ◌≤◌, ◌≡◌, ◌⊎◌, inl, inr, List, [], ◌∷◌, length, get_or, sym, subst, arith}
 use Rattle.std.proofs.lemmas.Bool.{cases_eq, cases_lt}
-use Rattle.indexmap.proofs.IndexTableLemmas.Probe.{Into, OneToOne, pigeonhole}
-use Rattle.dft_hier.specs.Reach.{Graph, AreBelow, AreWithin, StandsIn, children_at, Leads, Child, Deeper, NoCircle}
+use Rattle.indexmap.proofs.IndexTableLemmas.Probe.{pigeonhole}
+use Rattle.dft_hier.specs.Reach.{Graph, AreWithin, StandsIn, children_at, Leads, Child, NoCircle}
 use Rattle.dft_hier.proofs.ReachLemmas.{children_below, leads_on}
 
 -- so many modules stand below each other at most, this one among them

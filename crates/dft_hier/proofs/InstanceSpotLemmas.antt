@@ -1,5 +1,5 @@
 -- Spots of instances: each stands once, each path has its own, and each has its cell.
-use Rattle.std.proofs.Common.{ℕ, zero, suc, ◌+◌, ◌-◌, ◌<◌, ◌≤◌, ◌≡◌, ◌⊎◌, inl, inr, List, [], ◌∷◌, ◌++◌, length, map, Option, None, Some, option_and_then, slice_get, refl, sym, ap, subst, arith, ◌∙◌, length-append, append_assoc, append-nil}
+use Rattle.std.proofs.Common.{ℕ, zero, suc, ◌+◌, ◌<◌, ◌≤◌, ◌≡◌, ◌⊎◌, inl, inr, List, [], ◌∷◌, ◌++◌, length, Option, None, Some, option_and_then, slice_get, refl, sym, ap, subst, arith, ◌∙◌, append_assoc, append-nil}
 use Rattle.dft_base.specs.Lexing.{Text}
 use Rattle.dft_netlist.specs.declared.instance.Instance.{Instance}
 use Rattle.dft_modules.specs.declared.module.SubInstance.{SubInstance}
@@ -7,7 +7,7 @@ use Rattle.dft_modules.specs.declared.module.Item.{Item}
 use Rattle.dft_modules.specs.declared.module.Item.TheVariants as item
 use Rattle.dft_modules.specs.Modules.{Module}
 use Rattle.dft_hier.specs.Hierarchy.{subs_of, cells_of, find_module}
-use Rattle.dft_hier.specs.Flat.{Parts, Giving, sub_parts, item_parts, parts_within, inside, moved_instance}
+use Rattle.dft_hier.specs.Flat.{Parts, Giving, sub_parts, item_parts, parts_within, inside}
 use Rattle.dft_hier.specs.Laws.{IsInstanceAt}
 use Rattle.dft_hier.specs.Paths.{Path, Spot, Finding, module_of, module_at, below, sub_spots, item_spots, instance_spots_within}
 use Rattle.dft_hier.proofs.PartLemmas.{StandsTall, Rises}

@@ -1,9 +1,8 @@
 -- What items add to a flat netlist, one part after another.
-use Rattle.std.proofs.Common.{ℕ, zero, suc, ◌+◌, ◌-◌, ◌<◌, ◌≤◌, ◌≡◌, ◌^◌, Bool, true, false, cond, List, [], ◌∷◌, ◌++◌, length, drop, get_or, map, Option, None, Some, option_map, Result, Ok, Err, slice_get, refl, sym, ap, subst, arith, ◌∙◌, append_assoc, append-nil, length-append}
-use Rattle.std.specs.List.{All, AllByRecursion}
+use Rattle.std.proofs.Common.{ℕ, ◌+◌, ◌<◌, ◌≤◌, ◌≡◌, ◌^◌, Bool, List, [], ◌∷◌, ◌++◌, length, get_or, map, Option, None, Some, option_map, Ok, refl, sym, ap, subst, arith, ◌∙◌, append_assoc}
+use Rattle.std.specs.List.{AllByRecursion}
 use Rattle.std.proofs.lemmas.List.{length-map}
-use Rattle.std.proofs.lemmas.List.Elements.{All-get_or, All-from_get_or}
-use Rattle.std.proofs.lemmas.Option.{slice_get_within, slice_get-get_or, get_or_from_slice_get}
+use Rattle.std.proofs.lemmas.Option.{slice_get-get_or}
 use Rattle.dft_base.specs.Lexing.{Text}
 use Rattle.dft_base.specs.declared.dir.Dir.{Dir}
 use Rattle.dft_base.specs.declared.dir.Dir.TheVariants as dir
@@ -20,15 +19,15 @@ use Rattle.dft_netlist.specs.declared.instance.Signal.TheVariants as signal
 use Rattle.dft_netlist.specs.declared.error.NetlistError.{NetlistError}
 use Rattle.dft_netlist.specs.Netlist.{Netlist}
 use Rattle.dft_netlist.specs.Building.{instance_refusal}
-use Rattle.dft_netlist.specs.Sound.{IsInstance, IsInstanceOf, IsJoinOf, IsAJoin, IsLive, IsConnected, IsCellOf, AreLive as AreLiveSignals, NoConstantOutput}
-use Rattle.dft_netlist_text.specs.NetlistText.{Grown, unless_refused, and_grown}
+use Rattle.dft_netlist.specs.Sound.{IsInstance, IsJoinOf, IsAJoin, IsLive, IsConnected, IsCellOf, AreLive as AreLiveSignals}
+use Rattle.dft_netlist_text.specs.NetlistText.{unless_refused, and_grown}
 use Rattle.dft_modules.specs.declared.connections.Connection.{Connection}
 use Rattle.dft_modules.specs.declared.module.Item.{Item}
 use Rattle.dft_modules.specs.declared.module.Item.TheVariants as item
-use Rattle.dft_modules.specs.Sound.{IsItem, IsConnectionOf, IsOuterBit}
-use Rattle.dft_hier.specs.Flat.{Parts, no_parts, and_parts, add_instances, moved, moved_net, moved_join, moved_instance, bit_joins, port_joins, connection_joins, joined_to}
+use Rattle.dft_modules.specs.Sound.{IsItem, IsOuterBit}
+use Rattle.dft_hier.specs.Flat.{Parts, and_parts, add_instances, moved, moved_net, moved_instance, bit_joins, port_joins, connection_joins, joined_to}
 use Rattle.dft_hier.specs.ItemWalks.{adds, IsItemIn}
-use Rattle.dft_hier.specs.Moving.{AreJoinsOf, AreWritable, AreBitsWritable, IsWritable, IsInstanceIn, with_joins}
+use Rattle.dft_hier.specs.Moving.{AreJoinsOf, AreWritable, IsWritable, IsInstanceIn, with_joins}
 
 -- ---- parts that are added one behind another
 

@@ -1,9 +1,8 @@
 -- A walk through the items below a module: past an item, into an instance, and the whole.
-use Rattle.std.proofs.Common.{ℕ, zero, suc, ◌+◌, ◌-◌, ◌<◌, ◌≤◌, ◌≡◌, ◌^◌, Bool, true, false, min, List, [], ◌∷◌, ◌++◌, length, take, drop, get_or, map, reverse, Option, None, Some, Ok, Err, slice_get, refl, sym, ap, subst, arith, ◌∙◌, length-append, append_assoc, append-nil}
-use Rattle.std.specs.List.{All, AllByRecursion}
+use Rattle.std.proofs.Common.{ℕ, suc, ◌+◌, ◌<◌, ◌≤◌, ◌≡◌, List, [], ◌∷◌, ◌++◌, length, take, drop, get_or, map, reverse, Option, Some, Ok, Err, slice_get, refl, sym, ap, subst, arith, ◌∙◌, length-append, append_assoc, append-nil}
 use Rattle.std.proofs.lemmas.List.{reverse-append, take-append-le, take-take, take_all, length-take-le}
 use Rattle.std.proofs.lemmas.List.Elements.{All-get_or}
-use Rattle.std.proofs.lemmas.Option.{slice_get_within, slice_get-get_or, get_or_from_slice_get}
+use Rattle.std.proofs.lemmas.Option.{slice_get_within, get_or_from_slice_get}
 use Rattle.dft_base.specs.Lexing.{Text}
 use Rattle.dft_base.proofs.ListLemmas.{drop_at, drop_over}
 use Rattle.dft_cells.specs.declared.cell.Cell.{Cell}
@@ -15,19 +14,18 @@ use Rattle.dft_netlist.specs.Netlist.{Netlist}
 use Rattle.dft_netlist_text.specs.NetlistText.{Grown, and_grown}
 use Rattle.dft_modules.specs.declared.module.Item.{Item}
 use Rattle.dft_modules.specs.Modules.{Module}
-use Rattle.dft_modules.specs.Sound.{IsModule, IsItem, AreModules}
+use Rattle.dft_modules.specs.Sound.{IsItem}
 use Rattle.dft_hier.specs.declared.flat_items.Visit.{Visit}
 use Rattle.dft_hier.specs.declared.weights.Weight.{Weight}
 use Rattle.dft_hier.specs.declared.weights.LiveSub.{LiveSub}
 use Rattle.dft_hier.specs.declared.weights.LiveItem.{LiveItem}
 use Rattle.dft_hier.specs.declared.weights.LiveItem.TheVariants.{Own, Sub}
-use Rattle.dft_hier.specs.Hierarchy.{sub_of}
-use Rattle.dft_hier.specs.Flat.{Parts, Giving, no_parts, and_parts, sub_parts, parts_within, inside, connection_joins, add_instances}
+use Rattle.dft_hier.specs.Flat.{Parts, Giving, no_parts, and_parts, sub_parts, parts_within, inside, connection_joins}
 use Rattle.dft_hier.specs.FlatNets.{total_by, items_in, items_at, IsSubAt}
 use Rattle.dft_hier.specs.FlatItems.{own_parts, named_parts, live_parts, nets_of, live_items_at, net_total, step_of, item_size_in}
 use Rattle.dft_hier.specs.Growing.{IsPrefix}
 use Rattle.dft_hier.specs.ItemWalks.{ItemStand, at_top, passed_by, passed_own, visit_at, and_visit, gone_into, adds, pending_parts, IsSpan, AreSpans, IsItemWalk, IsItemIn, item_visit_size, item_way_size}
-use Rattle.dft_hier.specs.ItemsLaid.{AreItemsLaid, IsOwnAt}
+use Rattle.dft_hier.specs.ItemsLaid.{AreItemsLaid}
 use Rattle.dft_hier.specs.Moving.{with_joins}
 use Rattle.dft_hier.specs.Weights.{Live, no_weight}
 use Rattle.dft_hier.proofs.FlattenLemmas.{sound_at}

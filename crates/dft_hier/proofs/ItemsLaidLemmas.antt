@@ -1,39 +1,38 @@
 -- Modules with their weights are laid out for a walk through their items.
-use Rattle.std.proofs.Common.{ℕ, zero, suc, ◌+◌, ◌-◌, ◌<◌, ◌≤◌, ◌≡◌, ◌⊎◌, inl, inr, Bool, true, false, cond, min, List, [], ◌∷◌, ◌++◌, length, drop, get_or, map, Option, None, Some, slice_get, refl, sym, ap, subst, arith, ◌∙◌, append-nil, length-append, true≢false}
+use Rattle.std.proofs.Common.{ℕ, zero, suc, ◌+◌, ◌<◌, ◌≤◌, ◌≡◌, inl, inr, Bool, true, false, cond, List, [], ◌∷◌, ◌++◌, length, drop, get_or, map, Option, None, Some, slice_get, refl, sym, ap, subst, arith, ◌∙◌, length-append}
 use Rattle.std.proofs.lemmas.List.{get_or_past, length-map}
-use Rattle.std.proofs.lemmas.Option.{slice_get_within, slice_get-get_or}
+use Rattle.std.proofs.lemmas.Option.{slice_get_within}
 use Rattle.std.proofs.lemmas.Bool.{cases_lt}
 use Rattle.dft_base.specs.Lexing.{Text}
 use Rattle.dft_cells.specs.declared.cell.Cell.{Cell}
 use Rattle.dft_netlist.specs.declared.instance.Join.{Join}
 use Rattle.dft_netlist.specs.declared.limits.TheConstants.{MAX_NETS}
-use Rattle.dft_modules.specs.declared.module.SubInstance.{SubInstance}
 use Rattle.dft_modules.specs.declared.module.Item.{Item}
 use Rattle.dft_modules.specs.declared.module.Item.TheVariants as item
 use Rattle.dft_modules.specs.Modules.{Module}
-use Rattle.dft_modules.specs.Sound.{AreModules, IsModule}
+use Rattle.dft_modules.specs.Sound.{AreModules}
 use Rattle.dft_hier.specs.declared.weights.Weight.{Weight}
 use Rattle.dft_hier.specs.declared.weights.LiveSub.{LiveSub}
 use Rattle.dft_hier.specs.declared.weights.LiveItem.{LiveItem}
 use Rattle.dft_hier.specs.declared.weights.LiveItem.TheVariants.{Own, Sub}
 use Rattle.dft_hier.specs.Hierarchy.{subs_of, sub_of, find_module}
-use Rattle.dft_hier.specs.Numbers.{number_of, children_of}
+use Rattle.dft_hier.specs.Numbers.{children_of}
 use Rattle.dft_hier.specs.Reach.{Graph, StandsIn, children_at, NoCircle}
 use Rattle.dft_hier.specs.Refusals.{first_unknown}
-use Rattle.dft_hier.specs.Flat.{Parts, Giving, no_parts, and_parts, sub_parts, item_parts, parts_within, inside, connection_joins}
-use Rattle.dft_hier.specs.FlatNets.{total_by, nets_in, subs_nets, sub_nets, items_in, items_at, IsSubAt}
+use Rattle.dft_hier.specs.Flat.{Parts, Giving, no_parts, and_parts, item_parts, parts_within, inside, connection_joins}
+use Rattle.dft_hier.specs.FlatNets.{total_by, nets_in, subs_nets, sub_nets, items_in, IsSubAt}
 use Rattle.dft_hier.specs.FlatItems.{live_parts, nets_of, live_items_at, net_total, GivesParts, step_of, item_size_in}
 use Rattle.dft_hier.specs.ItemsLaid.{AreItemsLaid, IsOwnAt}
-use Rattle.dft_hier.specs.Weights.{AreWeights, AreLive, Live, at_most, no_live, no_weight, live_of}
+use Rattle.dft_hier.specs.Weights.{AreWeights, AreLive, Live, at_most, no_live, no_weight}
 use Rattle.dft_hier.proofs.DeadLemmas.{dead_module, dead_joins}
-use Rattle.dft_hier.proofs.FitLemmas.{numbers, children_of_at, paired_at}
+use Rattle.dft_hier.proofs.FitLemmas.{numbers, paired_at}
 use Rattle.dft_hier.proofs.FlattenLemmas.{sound_at}
 use Rattle.dft_hier.proofs.HeightLemmas.{IsTall, Grows, all_tall}
 use Rattle.dft_hier.proofs.LaidLemmas.{IsLiveSub}
 use Rattle.dft_hier.proofs.LiveLemmas.{exact_weight, first_child}
 use Rattle.dft_hier.proofs.LivePartLemmas.{DeadGive, NetsExact, items_from, own_or_sub, live_items_from, live_parts_from, child_is}
 use Rattle.dft_hier.proofs.NumberLemmas.{module_there, number_within, graph_count, graph_within}
-use Rattle.dft_hier.proofs.PartLemmas.{deep_enough, nets_deep_enough, nets_same, tall_module, count_same, item_nets_same}
+use Rattle.dft_hier.proofs.PartLemmas.{deep_enough, nets_deep_enough, nets_same, tall_module, count_same}
 use Rattle.dft_hier.proofs.ReachLemmas.{stands_more}
 
 -- a live item is one of the module's own, or a module instance

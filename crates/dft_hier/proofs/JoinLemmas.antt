@@ -1,5 +1,5 @@
 -- Joins that are added one list after another.
-use Rattle.std.proofs.Common.{ℕ, zero, suc, ◌+◌, ◌-◌, ◌<◌, ◌≤◌, ◌≡◌, ◌⊎◌, inl, inr, Bool, true, false, cond, List, [], ◌∷◌, ◌++◌, length, drop, get_or, map, find, Option, None, Some, option_and_then, slice_get, OnOk, Result, Ok, Err, refl, sym, ap, subst, arith, ◌∙◌, append_assoc, append-nil}
+use Rattle.std.proofs.Common.{ℕ, zero, suc, ◌+◌, ◌<◌, ◌≤◌, ◌≡◌, ◌⊎◌, inl, inr, Bool, true, false, cond, List, [], ◌∷◌, ◌++◌, length, drop, get_or, map, find, None, Some, option_and_then, slice_get, OnOk, Result, Ok, Err, refl, sym, ap, subst, arith, ◌∙◌, append_assoc, append-nil}
 use Rattle.std.specs.List.{All, AllByRecursion}
 use Rattle.std.specs.Str.{bytes_eq}
 use Rattle.std.proofs.lemmas.List.{get_or-map}
@@ -13,7 +13,7 @@ use Rattle.dft_netlist.specs.declared.instance.Signal.{Signal}
 use Rattle.dft_netlist.specs.declared.instance.Join.{Join}
 use Rattle.dft_netlist.specs.declared.port.Port.{Port}
 use Rattle.dft_netlist.specs.Netlist.{Netlist}
-use Rattle.dft_netlist.specs.Sound.{IsJoinOf, IsAJoin}
+use Rattle.dft_netlist.specs.Sound.{IsJoinOf}
 use Rattle.dft_modules.specs.declared.connections.Connection.{Connection}
 use Rattle.dft_hier.specs.Flat.{bit_joins, connection_joins, joined_to, signals_of, port_joins, moved, moved_net}
 use Rattle.dft_hier.specs.Moving.{AreJoinsOf, with_joins, connection_names}

@@ -1,27 +1,25 @@
 -- Modules with their weights are laid out for a walk through their nets.
-use Rattle.std.proofs.Common.{ℕ, zero, suc, ◌+◌, ◌-◌, ◌<◌, ◌≤◌, ◌≡◌, ◌⊎◌, inl, inr, Bool, true, false, cond, min, nat_lt, List, [], ◌∷◌, ◌++◌, length, drop, get_or, map, Option, None, Some, slice_get, refl, sym, ap, subst, arith, ◌∙◌, append-nil, true≢false}
+use Rattle.std.proofs.Common.{ℕ, zero, suc, ◌+◌, ◌<◌, ◌≤◌, ◌≡◌, inl, inr, Bool, true, false, cond, nat_lt, List, [], ◌∷◌, ◌++◌, length, drop, get_or, map, Option, None, Some, slice_get, refl, sym, ap, subst, arith, ◌∙◌}
 use Rattle.std.proofs.lemmas.List.{get_or_past, nil_from_length}
-use Rattle.std.proofs.lemmas.Option.{slice_get_within, slice_get-get_or}
+use Rattle.std.proofs.lemmas.Option.{slice_get_within}
 use Rattle.std.proofs.lemmas.Bool.{cases_lt}
 use Rattle.std.proofs.lemmas.Bool.Decides.{nat_tests}
 use Rattle.dft_base.specs.Lexing.{Text}
-use Rattle.dft_netlist.specs.declared.limits.TheConstants.{MAX_NETS}
 use Rattle.dft_modules.specs.declared.module.SubInstance.{SubInstance}
 use Rattle.dft_modules.specs.declared.module.Item.{Item}
 use Rattle.dft_modules.specs.declared.module.Item.TheVariants as item
 use Rattle.dft_modules.specs.Modules.{Module}
 use Rattle.dft_hier.specs.declared.weights.Weight.{Weight}
 use Rattle.dft_hier.specs.declared.weights.LiveSub.{LiveSub}
-use Rattle.dft_hier.specs.Hierarchy.{subs_of, sub_of, find_module}
-use Rattle.dft_hier.specs.Numbers.{number_of, numbers_of_subs, children_of}
+use Rattle.dft_hier.specs.Hierarchy.{subs_of}
+use Rattle.dft_hier.specs.Numbers.{number_of, children_of}
 use Rattle.dft_hier.specs.Reach.{Graph, StandsIn, children_at, NoCircle}
 use Rattle.dft_hier.specs.Refusals.{first_unknown}
-use Rattle.dft_hier.specs.Flat.{inside}
-use Rattle.dft_hier.specs.FlatNets.{total_by, NetsGiving, nets_in, subs_nets, live_nets, items_in, items_at, live_at, IsSubAt, GivesLive, size_in, IsNetLaid}
-use Rattle.dft_hier.specs.Weights.{AreWeights, AreLive, Live, at_most, no_live, no_weight, and_own, and_sub, and_item, live_from, live_of}
-use Rattle.dft_hier.proofs.FitLemmas.{numbers, children_of_at, paired_at}
+use Rattle.dft_hier.specs.FlatNets.{total_by, NetsGiving, nets_in, live_nets, items_in, live_at, IsSubAt, GivesLive, size_in, IsNetLaid}
+use Rattle.dft_hier.specs.Weights.{AreWeights, AreLive, Live, no_live, no_weight, and_own, and_sub, and_item, live_from}
+use Rattle.dft_hier.proofs.FitLemmas.{numbers, paired_at}
 use Rattle.dft_hier.proofs.HeightLemmas.{IsTall, Grows, all_tall}
-use Rattle.dft_hier.proofs.LiveLemmas.{GivesNone, exact_weight, live_nets_from, first_child, weight_in}
+use Rattle.dft_hier.proofs.LiveLemmas.{GivesNone, exact_weight, live_nets_from, first_child}
 use Rattle.dft_hier.proofs.NumberLemmas.{module_there, number_within, graph_count, graph_within}
 use Rattle.dft_hier.proofs.PartLemmas.{nets_deep_enough, tall_module, count_same}
 use Rattle.dft_hier.proofs.ReachLemmas.{get_push, stands_more}

@@ -1,26 +1,21 @@
 -- The items of modules that give something: what is left out gives nothing.
-use Rattle.std.proofs.Common.{ℕ, zero, suc, ◌+◌, ◌-◌, ◌<◌, ◌≤◌, ◌≡◌, ◌⊎◌, inl, inr, Bool, true, false, ◌||◌, cond, min, nat_lt, List, [], ◌∷◌, ◌++◌, length, take, drop, get_or, map, find, Option, None, Some, is_some, slice_get, refl, sym, ap, subst, arith, ◌∙◌, length-append, append_assoc, append-nil, true≢false}
+use Rattle.std.proofs.Common.{ℕ, zero, suc, ◌+◌, ◌≡◌, Bool, true, false, ◌||◌, cond, nat_lt, List, [], ◌∷◌, ◌++◌, length, drop, get_or, map, Option, None, Some, is_some, slice_get, refl, sym, ap, subst, arith, ◌∙◌, length-append, append_assoc, append-nil, true≢false}
 use Rattle.std.specs.List.{list_any, cons_option}
-use Rattle.std.proofs.lemmas.Option.{slice_get_within, slice_get-get_or}
-use Rattle.std.proofs.lemmas.Bool.Decides.{nat_tests}
 use Rattle.dft_base.specs.Lexing.{Text}
-use Rattle.dft_netlist.specs.declared.limits.TheConstants.{MAX_NETS}
 use Rattle.dft_modules.specs.declared.module.SubInstance.{SubInstance}
 use Rattle.dft_modules.specs.declared.module.Item.{Item}
 use Rattle.dft_modules.specs.declared.module.Item.TheVariants as item
 use Rattle.dft_modules.specs.Modules.{Module}
 use Rattle.dft_hier.specs.declared.weights.Weight.{Weight}
 use Rattle.dft_hier.specs.declared.weights.LiveSub.{LiveSub}
-use Rattle.dft_hier.specs.Hierarchy.{subs_of, sub_of, find_module}
+use Rattle.dft_hier.specs.Hierarchy.{subs_of, find_module}
 use Rattle.dft_hier.specs.Numbers.{number_of, numbers_of_subs, children_of}
-use Rattle.dft_hier.specs.Reach.{Graph, StandsIn, children_at}
-use Rattle.dft_hier.specs.Refusals.{first_unknown}
+use Rattle.dft_hier.specs.Reach.{StandsIn}
 use Rattle.dft_hier.specs.Flat.{inside}
-use Rattle.dft_hier.specs.FlatNets.{NetsGiving, sub_nets, subs_nets, nets_in, named_nets, live_nets, items_in, items_at, live_at}
-use Rattle.dft_hier.specs.Weights.{AreWeights, AreLive, Live, at_most, alone, is_cell, no_live, no_weight, with_below, with_all, weights_of, weight_by, and_own, and_sub, and_item, child_for, left_by, live_from, live_of}
-use Rattle.dft_hier.proofs.FitLemmas.{numbers, children_of_at, paired_at}
+use Rattle.dft_hier.specs.FlatNets.{NetsGiving, sub_nets, subs_nets, nets_in, named_nets, live_nets}
+use Rattle.dft_hier.specs.Weights.{AreWeights, Live, at_most, alone, is_cell, no_weight, with_below, with_all, weights_of, weight_by, and_own, and_sub, and_item, live_from}
+use Rattle.dft_hier.proofs.FitLemmas.{numbers, children_of_at}
 use Rattle.dft_hier.proofs.HeightLemmas.{IsTall, Grows}
-use Rattle.dft_hier.proofs.ModuleLemmas.{number_there}
 use Rattle.dft_hier.proofs.NumberLemmas.{module_there, some_first}
 use Rattle.dft_hier.proofs.PartLemmas.{count_same}
 use Rattle.dft_hier.proofs.ReachLemmas.{stands_more}

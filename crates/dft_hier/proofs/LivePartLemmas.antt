@@ -1,27 +1,17 @@
 -- What the live items of a module give is what all its items give.
-use Rattle.std.proofs.Common.{ℕ, zero, suc, ◌+◌, ◌-◌, ◌<◌, ◌≤◌, ◌≡◌, ◌⊎◌, inl, inr, Bool, true, false, ◌||◌, cond, min, nat_lt, List, [], ◌∷◌, ◌++◌, length, drop, get_or, map, Option, None, Some, slice_get, refl, sym, ap, subst, arith, ◌∙◌, append-nil, append_assoc, length-append, true≢false}
-use Rattle.std.specs.List.{list_any, AllByRecursion}
-use Rattle.std.proofs.lemmas.List.{nil_from_length}
-use Rattle.std.proofs.lemmas.Option.{slice_get_within, slice_get-get_or}
-use Rattle.std.proofs.lemmas.Bool.Decides.{nat_tests}
+use Rattle.std.proofs.Common.{ℕ, zero, suc, ◌+◌, ◌<◌, ◌≤◌, ◌≡◌, Bool, true, false, cond, List, [], ◌∷◌, ◌++◌, length, drop, get_or, map, Option, None, Some, slice_get, refl, sym, ap, subst, arith, ◌∙◌, append-nil, append_assoc, length-append}
 use Rattle.dft_base.specs.Lexing.{Text}
-use Rattle.dft_cells.specs.declared.cell.Cell.{Cell}
 use Rattle.dft_netlist.specs.declared.limits.TheConstants.{MAX_NETS}
-use Rattle.dft_netlist.specs.declared.port.Port.{Port}
-use Rattle.dft_netlist.specs.declared.instance.Join.{Join}
 use Rattle.dft_modules.specs.declared.module.SubInstance.{SubInstance}
 use Rattle.dft_modules.specs.declared.module.Item.{Item}
 use Rattle.dft_modules.specs.declared.module.Item.TheVariants as item
-use Rattle.dft_modules.specs.declared.connections.Connection.{Connection}
 use Rattle.dft_modules.specs.Modules.{Module}
 use Rattle.dft_hier.specs.declared.weights.Weight.{Weight}
-use Rattle.dft_hier.specs.declared.weights.LiveSub.{LiveSub}
 use Rattle.dft_hier.specs.declared.weights.LiveItem.{LiveItem}
 use Rattle.dft_hier.specs.declared.weights.LiveItem.TheVariants.{Own, Sub}
 use Rattle.dft_hier.specs.Hierarchy.{subs_of, sub_of, find_module}
-use Rattle.dft_hier.specs.Numbers.{number_of}
-use Rattle.dft_hier.specs.Flat.{Parts, Giving, no_parts, and_parts, sub_parts, item_parts, inside, moved_join, moved_instance}
-use Rattle.dft_hier.specs.FlatItems.{own_parts, named_parts, live_parts, nets_of}
+use Rattle.dft_hier.specs.Flat.{Parts, Giving, no_parts, and_parts, sub_parts, item_parts, moved_join, moved_instance}
+use Rattle.dft_hier.specs.FlatItems.{own_parts, named_parts, live_parts}
 use Rattle.dft_hier.specs.Weights.{Live, no_weight, and_item, child_for, left_by, live_from}
 use Rattle.dft_hier.proofs.FitLemmas.{numbers}
 use Rattle.dft_hier.proofs.LiveLemmas.{first_child}

@@ -1,26 +1,25 @@
 -- Modules by their names and by their numbers: which stand below which, and which are tops.
-use Rattle.std.proofs.Common.{ℕ, zero, suc, ◌+◌, ◌-◌, ◌<◌, ◌≤◌, ◌≡◌, ◌==◌, ◌⊎◌, inl, inr, Bool, true, false, not, ◌||◌, cond, List, [], ◌∷◌, ◌++◌, length, take, drop, get_or, map, filter, find, Option, None, Some, option_and_then, slice_get, refl, sym, ap, subst, arith, ◌∙◌, true≢false}
-use Rattle.std.specs.List.{All, list_any, cons_option, range_with_len}
+use Rattle.std.proofs.Common.{ℕ, zero, suc, ◌+◌, ◌<◌, ◌≡◌, ◌==◌, ◌⊎◌, inl, inr, Bool, true, false, not, ◌||◌, cond, List, [], ◌∷◌, ◌++◌, length, take, drop, get_or, map, filter, Option, None, Some, slice_get, refl, sym, ap, subst, arith, ◌∙◌, true≢false}
+use Rattle.std.specs.List.{list_any, cons_option, range_with_len}
 use Rattle.std.specs.Str.{bytes_eq}
-use Rattle.std.proofs.lemmas.List.{take-append-drop, length-take}
-use Rattle.std.proofs.lemmas.List.Elements.{All-from_get_or}
-use Rattle.std.proofs.lemmas.Option.{slice_get_within, slice_get-get_or}
-use Rattle.std.proofs.lemmas.Bool.{cases_eq, cases_lt}
+use Rattle.std.proofs.lemmas.List.{take-append-drop}
+use Rattle.std.proofs.lemmas.Option.{slice_get-get_or}
+use Rattle.std.proofs.lemmas.Bool.{cases_eq}
 use Rattle.std.proofs.lemmas.Bool.Decides.{nat_tests}
 use Rattle.dft_base.specs.Lexing.{Text}
-use Rattle.dft_base.proofs.TextLemmas.{same_text, bytes_eq-self, bytes_eq-comm, differ}
+use Rattle.dft_base.proofs.TextLemmas.{same_text, bytes_eq-self, differ}
 use Rattle.dft_base.proofs.NumberLemmas.{same_number}
 use Rattle.dft_base.proofs.ListLemmas.{drop_at}
 use Rattle.dft_modules.specs.declared.module.SubInstance.{SubInstance}
 use Rattle.dft_modules.specs.Modules.{Module}
 use Rattle.dft_hier.specs.Hierarchy.{subs_of, find_module, has_instance_of, tops, HaveOwnNames}
 use Rattle.dft_hier.specs.Numbers.{first_from, module_names, number_of, numbers_of_subs, children_of}
-use Rattle.dft_hier.specs.Reach.{Graph, StandsIn, children_at, Leads, Child, Deeper, NoCircle, IsFirstOnCircle}
+use Rattle.dft_hier.specs.Reach.{Graph, StandsIn, Leads, Child, Deeper, NoCircle, IsFirstOnCircle}
 use Rattle.dft_hier.specs.Refusals.{IsBelow, Within as BelowWithin, Deeper as BelowDeeper, NoneInItself, IsFirstInItself}
 use Rattle.dft_hier.specs.TopNumbers.{is_instantiated, top_numbers, IsTop}
-use Rattle.dft_hier.proofs.NumberLemmas.{module_there, number_within, named_at, graph_count}
+use Rattle.dft_hier.proofs.NumberLemmas.{module_there, number_within, graph_count}
 use Rattle.dft_hier.proofs.FitLemmas.{children_of_at}
-use Rattle.dft_hier.proofs.ReachLemmas.{stands_cases, stands_none, stands_more, children_below}
+use Rattle.dft_hier.proofs.ReachLemmas.{stands_cases, stands_none, stands_more}
 
 -- ---- the number of a name
 

@@ -1,5 +1,5 @@
 -- A walk through the nets below a module: a step past an instance, and the whole.
-use Rattle.std.proofs.Common.{ℕ, zero, suc, ◌+◌, ◌-◌, ◌<◌, ◌≤◌, ◌≡◌, ◌⊎◌, inl, inr, Bool, true, false, List, [], ◌∷◌, ◌++◌, length, take, drop, get_or, map, reverse, Option, None, Some, Ok, Err, slice_get, refl, sym, ap, subst, arith, ◌∙◌, length-append, append_assoc, append-nil}
+use Rattle.std.proofs.Common.{ℕ, suc, ◌+◌, ◌<◌, ◌≤◌, ◌≡◌, List, [], ◌∷◌, ◌++◌, length, take, drop, map, reverse, Option, Some, Ok, Err, slice_get, refl, sym, ap, subst, arith, ◌∙◌, length-append, append_assoc, append-nil}
 use Rattle.std.proofs.lemmas.List.{reverse-append, take-append-le, take-take, take_all, length-take-le}
 use Rattle.dft_base.specs.Lexing.{Text}
 use Rattle.dft_netlist.specs.Netlist.{Netlist}
@@ -12,7 +12,7 @@ use Rattle.dft_base.proofs.ListLemmas.{drop_at, drop_over}
 use Rattle.dft_netlist.specs.declared.error.NetlistError.{NetlistError}
 use Rattle.dft_hier.specs.Growing.{IsPrefix}
 use Rattle.dft_hier.specs.Flat.{inside}
-use Rattle.dft_hier.specs.FlatNets.{total_by, nets_in, named_nets, sub_nets, live_nets, items_at, live_at, GivesLive, IsSubAt, IsNetLaid, size_in}
+use Rattle.dft_hier.specs.FlatNets.{total_by, nets_in, named_nets, sub_nets, live_nets, items_at, live_at, GivesLive, IsSubAt, size_in}
 use Rattle.dft_hier.specs.NetWalks.{NetStand, at_module, passed, visit_of, gone_on, pending, IsNested, IsNetWalk, visit_size, way_size}
 use Rattle.dft_hier.specs.Weights.{Live}
 

@@ -1,12 +1,10 @@
 -- A text gives one flat design at most.
-use Rattle.std.proofs.Common.{◌≡◌, List, [], ◌∷◌, Ok, refl, sym, ap, subst, ◌∙◌}
+use Rattle.std.proofs.Common.{◌≡◌, List, [], ◌∷◌, Ok, sym, ap, subst, ◌∙◌}
 use Rattle.dft_base.specs.Lexing.{Text}
 use Rattle.dft_cells.specs.declared.cell.Cell.{Cell}
 use Rattle.dft_netlist.specs.Netlist.{Netlist}
-use Rattle.dft_netlist_text.specs.NetlistText.{Grown}
 use Rattle.dft_modules.specs.Modules.{Module}
 use Rattle.dft_hier.specs.Flat.{flat_netlist}
-use Rattle.dft_hier.specs.Hierarchy.{tops}
 use Rattle.dft_hier.specs.Laws.{Gives}
 use Rattle.dft_hier.specs.Refusals.{IsFlat}
 

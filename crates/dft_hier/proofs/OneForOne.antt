@@ -1,5 +1,5 @@
 -- The nets and instances of a flat design are those at all paths, one for one.
-use Rattle.std.proofs.Common.{ℕ, zero, suc, ◌+◌, ◌-◌, ◌<◌, ◌≤◌, ◌≡◌, inl, inr, Bool, true, false, not, cond, List, [], ◌∷◌, ◌++◌, length, drop, get_or, map, filter, Option, None, Some, Ok, Err, slice_get, refl, sym, ap, subst, arith, ◌∙◌, length-append, append_assoc, append-nil}
+use Rattle.std.proofs.Common.{ℕ, suc, ◌≤◌, ◌≡◌, inl, inr, Bool, true, false, not, cond, List, [], ◌∷◌, ◌++◌, length, drop, map, filter, Option, None, Some, Ok, Err, slice_get, refl, sym, ap, subst, arith, ◌∙◌, length-append, append_assoc, append-nil}
 use Rattle.std.specs.List.{list_any}
 use Rattle.std.proofs.lemmas.List.{get_or_past, length-drop, length-map}
 use Rattle.std.proofs.lemmas.Option.{slice_get_within, get_or_from_slice_get}
@@ -16,7 +16,6 @@ use Rattle.dft_netlist.specs.NetNumbers.{nets_from}
 use Rattle.dft_netlist.specs.Sound.{bit_names_of}
 use Rattle.dft_netlist_text.specs.NetlistText.{Grown, unless_refused, and_grown, add_nets}
 use Rattle.dft_modules.specs.Modules.{Module}
-use Rattle.dft_modules.specs.Sound.{IsModule}
 use Rattle.dft_hier.specs.Hierarchy.{subs_of, find_module, has_instance_of}
 use Rattle.dft_hier.specs.Flat.{Parts, add_ports, add_parts, add_instances, flat_parts, flat_netlist}
 use Rattle.dft_hier.specs.FlatNets.{nets_in, subs_nets}

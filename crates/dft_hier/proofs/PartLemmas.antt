@@ -1,15 +1,15 @@
 -- What modules give: their nets, and that it does not hang on how deep a recursion may go.
-use Rattle.std.proofs.Common.{ℕ, zero, suc, ◌+◌, ◌-◌, ◌<◌, ◌≤◌, ◌≡◌, ◌⊎◌, inl, inr, Bool, true, false, List, [], ◌∷◌, ◌++◌, length, map, find, Option, None, Some, slice_get, refl, sym, ap, subst, arith, ◌∙◌, length-append, append_assoc}
+use Rattle.std.proofs.Common.{ℕ, zero, suc, ◌+◌, ◌≡◌, List, [], ◌∷◌, ◌++◌, length, map, Option, None, Some, slice_get, refl, sym, ap, subst, ◌∙◌, length-append}
 use Rattle.std.specs.List.{cons_option}
 use Rattle.dft_base.specs.Lexing.{Text}
 use Rattle.dft_modules.specs.declared.module.SubInstance.{SubInstance}
 use Rattle.dft_modules.specs.declared.module.Item.{Item}
 use Rattle.dft_modules.specs.declared.module.Item.TheVariants as item
 use Rattle.dft_modules.specs.Modules.{Module}
-use Rattle.dft_hier.specs.Hierarchy.{subs_of, sub_of, find_module}
+use Rattle.dft_hier.specs.Hierarchy.{subs_of, find_module}
 use Rattle.dft_hier.specs.Numbers.{number_of, numbers_of_subs, children_of}
-use Rattle.dft_hier.specs.Reach.{Graph, StandsIn, children_at}
-use Rattle.dft_hier.specs.Flat.{Parts, no_parts, and_parts, Giving, sub_parts, item_parts, parts_within, inside, moved_join, moved_instance, connection_joins}
+use Rattle.dft_hier.specs.Reach.{StandsIn, children_at}
+use Rattle.dft_hier.specs.Flat.{Parts, and_parts, Giving, sub_parts, item_parts, parts_within, inside, moved_join, moved_instance, connection_joins}
 use Rattle.dft_hier.specs.FlatNets.{NetsGiving, sub_nets, subs_nets, nets_in}
 use Rattle.dft_hier.proofs.FitLemmas.{children_of_at}
 use Rattle.dft_hier.proofs.HeightLemmas.{IsTall, Grows}

@@ -1,5 +1,5 @@
 -- Past an item of a module's own, past an instance, and back.
-use Rattle.std.proofs.Common.{ℕ, zero, suc, ◌+◌, ◌<◌, ◌≤◌, ◌≡◌, ◌^◌, List, [], ◌∷◌, ◌++◌, length, take, get_or, map, Option, None, Some, Result, Ok, Err, slice_get, OnOk, refl, sym, ap, subst, arith, ◌∙◌}
+use Rattle.std.proofs.Common.{ℕ, zero, suc, ◌+◌, ◌<◌, ◌≤◌, ◌≡◌, ◌^◌, List, [], ◌∷◌, ◌++◌, length, take, get_or, None, Some, Result, Ok, Err, slice_get, OnOk, refl, sym, ap, subst, arith, ◌∙◌}
 use Rattle.std.specs.List.{All}
 use Rattle.std.specs.Result.{MatchResult}
 use Rattle.std.proofs.lemmas.Option.{slice_get_within, slice_get-get_or}
@@ -22,14 +22,14 @@ use Rattle.dft_hier.specs.declared.weights.LiveItem.TheVariants.{Own, Sub}
 use Rattle.dft_hier.specs.FlatNets.{items_in, items_at, IsSubAt}
 use Rattle.dft_hier.specs.FlatItems.{own_parts, live_items_at}
 use Rattle.dft_hier.specs.Growing.{Grows, IsPrefix, IsRefusal}
-use Rattle.dft_hier.specs.ItemWalks.{ItemStand, passed_own, passed_by, visit_at, gone_into, and_visit, adds, IsItemWalk, IsItemIn, item_way_size}
+use Rattle.dft_hier.specs.ItemWalks.{ItemStand, passed_own, passed_by, visit_at, gone_into, and_visit, adds, IsItemWalk, item_way_size}
 use Rattle.dft_hier.specs.ItemsLaid.{AreItemsLaid, IsOwnAt}
 use Rattle.dft_hier.specs.Weights.{Live, no_live, no_weight}
 use Rattle.dft_hier.specs.Moving.{AreJoinsOf, AreBitsWritable, AreWritable, with_joins}
 use Rattle.dft_hier.specs.Flat.{inside, joined_to, connection_joins}
 use Rattle.dft_hier.proofs.ConnectLemmas.{connects}
 use Rattle.dft_hier.proofs.EnterLemmas.{outcome, child_there}
-use Rattle.dft_hier.proofs.ItemWalkLemmas.{top_visit, top_prefix, own_fits, own_passed, own_stops, own_fewer, items_back, back_fewer, sub_total, sub_passed, sub_fewer}
+use Rattle.dft_hier.proofs.ItemWalkLemmas.{top_visit, top_prefix, own_passed, own_stops, own_fewer, sub_total, sub_passed, sub_fewer}
 
 -- the module of a visit is there
 pub visited : (ms : List Module) (items : List Live) (weights : List Weight) (library : List Cell) (whole : Grown) (s : ItemStand) (v : Visit) (n : Netlist) → IsItemWalk ms items weights library whole (and_visit s v) n → v.number < length ms

@@ -1,8 +1,7 @@
 -- Why modules have no flat design, from what each test tells.
-use Rattle.std.proofs.Common.{ℕ, ◌+◌, ◌<◌, ◌≤◌, ◌≡◌, ◌≢◌, List, [], ◌∷◌, length, find, Option, None, Some, slice_get, refl, sym, ap, subst, arith, ◌∙◌}
+use Rattle.std.proofs.Common.{◌≡◌, List, Option, None, Some, refl, ◌∙◌}
 use Rattle.dft_cells.specs.declared.cell.Cell.{Cell}
 use Rattle.dft_modules.specs.declared.connections.Connection.{Connection}
-use Rattle.dft_modules.specs.declared.module.SubInstance.{SubInstance}
 use Rattle.dft_modules.specs.Modules.{Module}
 use Rattle.dft_hier.specs.declared.error.HierError.{HierError}
 use Rattle.dft_hier.specs.declared.error.HierError.TheVariants as told
@@ -10,7 +9,7 @@ use Rattle.dft_hier.specs.Hierarchy.{all_subs, HaveOwnNames}
 use Rattle.dft_hier.specs.Numbers.{children_of, TellsLost}
 use Rattle.dft_hier.specs.Fitting.{TellsMisfit}
 use Rattle.dft_hier.specs.TopNumbers.{TellsTops}
-use Rattle.dft_hier.specs.Refusals.{first_unknown, first_misfit, NoneInItself, IsFirstInItself, TellsFirst, IsHierarchy, CannotFlatten}
+use Rattle.dft_hier.specs.Refusals.{first_unknown, first_misfit, NoneInItself, TellsFirst, IsHierarchy, CannotFlatten}
 use Rattle.dft_hier.proofs.ModuleLemmas.{tops_length}
 
 pub lost_told : (ms : List Module) (library : List Cell) (error : HierError) → TellsLost (first_unknown ms) error → CannotFlatten ms library error

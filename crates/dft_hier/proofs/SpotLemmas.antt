@@ -1,16 +1,13 @@
 -- Spots of nets and instances: each stands once, and each path has its own.
-use Rattle.std.proofs.Common.{ℕ, zero, suc, ◌+◌, ◌-◌, ◌<◌, ◌≤◌, ◌≡◌, ◌⊎◌, inl, inr, List, [], ◌∷◌, ◌++◌, length, map, Option, None, Some, option_and_then, slice_get, refl, sym, ap, subst, arith, ◌∙◌, length-append, append_assoc, append-nil}
+use Rattle.std.proofs.Common.{ℕ, zero, suc, ◌+◌, ◌<◌, ◌≤◌, ◌≡◌, ◌⊎◌, inl, inr, List, [], ◌∷◌, ◌++◌, length, map, Option, None, Some, option_and_then, slice_get, refl, sym, ap, subst, arith, ◌∙◌, length-append, append_assoc, append-nil}
 use Rattle.dft_base.specs.Ranges.{going_up}
 use Rattle.dft_base.specs.Lexing.{Text}
-use Rattle.dft_netlist.specs.declared.instance.Instance.{Instance}
 use Rattle.dft_modules.specs.declared.module.SubInstance.{SubInstance}
-use Rattle.dft_modules.specs.declared.module.Item.{Item}
-use Rattle.dft_modules.specs.declared.module.Item.TheVariants as item
 use Rattle.dft_modules.specs.Modules.{Module}
-use Rattle.dft_hier.specs.Hierarchy.{subs_of, cells_of, find_module}
+use Rattle.dft_hier.specs.Hierarchy.{subs_of, find_module}
 use Rattle.dft_hier.specs.Flat.{inside}
 use Rattle.dft_hier.specs.FlatNets.{NetsGiving, sub_nets, subs_nets, nets_in}
-use Rattle.dft_hier.specs.Paths.{Path, Spot, Finding, module_of, module_at, below, own_spots, sub_spots, subs_spots, net_spots_within, item_spots, instance_spots_within}
+use Rattle.dft_hier.specs.Paths.{Path, Spot, Finding, module_of, module_at, below, sub_spots, subs_spots, net_spots_within}
 use Rattle.dft_hier.proofs.PartLemmas.{StandsTall, Rises}
 
 abbrev pub spot : Path → ℕ → Spot

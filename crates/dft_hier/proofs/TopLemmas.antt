@@ -1,10 +1,10 @@
 -- Marks of modules that some module has an instance of, and the modules without one.
-use Rattle.std.proofs.Common.{ℕ, zero, suc, ◌+◌, ◌-◌, ◌<◌, ◌≤◌, ◌≡◌, ◌≢◌, ◌==◌, ◌⊎◌, inl, inr, Bool, true, false, not, ◌||◌, cond, List, [], ◌∷◌, ◌++◌, length, take, drop, get_or, set, replicate, map, filter, Option, None, Some, slice_get, refl, sym, ap, subst, arith, ◌∙◌, length-set, true≢false}
+use Rattle.std.proofs.Common.{ℕ, zero, suc, ◌+◌, ◌<◌, ◌≤◌, ◌≡◌, ◌==◌, inl, inr, Bool, true, false, not, ◌||◌, cond, List, [], ◌∷◌, ◌++◌, length, take, drop, get_or, set, replicate, filter, refl, sym, ap, arith, ◌∙◌, true≢false}
 use Rattle.std.specs.List.{list_any, range_with_len, count_by}
-use Rattle.std.proofs.lemmas.List.{get_or-set_same, get_or-set_other, take_all, drop_more, length-replicate, drop_all, append-nil}
+use Rattle.std.proofs.lemmas.List.{get_or-set_same, get_or-set_other, take_all, length-replicate, drop_all, append-nil}
 use Rattle.std.proofs.lemmas.List.Sums.{sum_by-cons}
 use Rattle.std.proofs.lemmas.List.Folds.{list_any_more}
-use Rattle.std.proofs.lemmas.Bool.{cases_eq, cases_lt}
+use Rattle.std.proofs.lemmas.Bool.{cases_eq}
 use Rattle.std.proofs.lemmas.Bool.Decides.{nat_tests}
 use Rattle.dft_base.proofs.BitLemmas.{or_false, or_true}
 use Rattle.dft_base.proofs.NumberLemmas.{same_number}

@@ -1,18 +1,16 @@
 -- A walk down through modules: a module is met, a module is finished, and what all of them give.
-use Rattle.std.proofs.Common.{ℕ, zero, suc, ◌+◌, ◌-◌, ◌<◌, ◌≤◌, ◌≡◌, ◌⊎◌, inl, inr, Bool, true, false, not, ◌||◌, ◌&&◌, cond, List, [], ◌∷◌, ◌++◌, length, take, drop, get_or, reverse, replicate, Option, None, Some, slice_get, slice_set, refl, sym, ap, subst, arith, ◌∙◌, length-set, true≢false}
-use Rattle.std.specs.List.{All, list_all}
+use Rattle.std.proofs.Common.{ℕ, zero, suc, ◌+◌, ◌-◌, ◌<◌, ◌≤◌, ◌≡◌, ◌⊎◌, inl, inr, Bool, true, false, not, ◌||◌, ◌&&◌, cond, List, [], ◌∷◌, ◌++◌, length, take, get_or, reverse, replicate, Option, None, Some, slice_get, slice_set, refl, sym, ap, subst, arith, ◌∙◌, length-set, true≢false}
 use Rattle.std.proofs.lemmas.List.{reverse-append, take-append-le, take_at}
 use Rattle.std.proofs.lemmas.List.Elements.{All-from_get_or}
-use Rattle.std.proofs.lemmas.Option.{slice_get_within, slice_get-get_or, slice_get_past, get_or_from_slice_get}
-use Rattle.std.proofs.lemmas.Bool.{cases_eq, cases_lt, and_parts}
-use Rattle.dft_netlist.proofs.DriveLemmas.{get_set_same, get_set_other}
+use Rattle.std.proofs.lemmas.Option.{slice_get_within, slice_get-get_or}
+use Rattle.std.proofs.lemmas.Bool.{cases_lt, and_parts}
 use Rattle.dft_hier.specs.declared.descent.State.{State}
 use Rattle.dft_hier.specs.declared.descent.State.TheVariants.{New, Walked, Finished}
 use Rattle.dft_hier.specs.declared.descent.Visit.{Visit}
-use Rattle.dft_hier.specs.Reach.{Graph, AreBelow, AreWithin, StandsIn, children_at, Leads, Child, Deeper, HasCircle, IsOrder}
+use Rattle.dft_hier.specs.Reach.{Graph, AreBelow, AreWithin, StandsIn, children_at, Leads, Child, HasCircle, IsOrder}
 use Rattle.dft_hier.specs.Descents.{Stand, entered, met, left, stepped, stepped_to, are_finished, is_finished, is_new}
 use Rattle.dft_hier.specs.Walking.{IsOn, LeadsTo, SawBefore, IsWay, IsWalking, IsWalkedTo}
-use Rattle.dft_hier.proofs.ReachLemmas.{stands_left, stands_last, stands_cases, stands_none, stands_push, stands_more, get_push, below_at, children_below, leads_on}
+use Rattle.dft_hier.proofs.ReachLemmas.{stands_left, stands_last, stands_cases, stands_none, stands_more, get_push, children_below, leads_on}
 
 back-push : (way : List Visit) (v : Visit) → reverse (way ++ v ∷ []) ≡ v ∷ reverse way
 back-push way v = reverse-append way (v ∷ [])

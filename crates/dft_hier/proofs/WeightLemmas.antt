@@ -1,20 +1,14 @@
 -- Weights: they are found in an order, and tell how many nets there are and where nothing is.
-use Rattle.std.proofs.Common.{ℕ, zero, suc, ◌+◌, ◌-◌, ◌<◌, ◌≤◌, ◌≡◌, ◌==◌, ◌⊎◌, inl, inr, Bool, true, false, ◌||◌, cond, min, nat_lt, List, [], ◌∷◌, ◌++◌, length, take, drop, get_or, set, replicate, map, find, Option, None, Some, slice_get, refl, sym, ap, subst, arith, ◌∙◌, length-set, length-append, true≢false}
-use Rattle.std.specs.List.{All, list_any, cons_option}
-use Rattle.std.proofs.lemmas.List.{get_or-set_same, get_or-set_other, get_or_past, get_or-replicate, length-replicate, take_all}
-use Rattle.std.proofs.lemmas.List.Elements.{All-get_or}
-use Rattle.std.proofs.lemmas.Option.{slice_get_within, slice_get-get_or}
+use Rattle.std.proofs.Common.{ℕ, zero, suc, ◌+◌, ◌<◌, ◌≤◌, ◌≡◌, ◌⊎◌, inl, inr, List, [], ◌∷◌, length, take, get_or, set, replicate, Some, slice_get, refl, sym, ap, subst, arith, ◌∙◌, length-set}
+use Rattle.std.proofs.lemmas.List.{get_or-set_same, get_or-set_other, get_or-replicate, length-replicate}
+use Rattle.std.proofs.lemmas.Option.{slice_get_within}
 use Rattle.std.proofs.lemmas.Bool.{cases_eq, cases_lt}
-use Rattle.dft_base.specs.Lexing.{Text}
 use Rattle.dft_netlist.specs.declared.limits.TheConstants.{MAX_NETS}
-use Rattle.dft_modules.specs.declared.module.SubInstance.{SubInstance}
 use Rattle.dft_modules.specs.Modules.{Module}
 use Rattle.dft_hier.specs.declared.weights.Weight.{Weight}
-use Rattle.dft_hier.specs.Hierarchy.{subs_of, find_module}
-use Rattle.dft_hier.specs.Numbers.{number_of, numbers_of_subs, children_of}
-use Rattle.dft_hier.specs.Reach.{Graph, AreBelow, StandsIn, children_at, IsOrder}
-use Rattle.dft_hier.specs.Weights.{AreWeights, AreBounded, at_most, alone, is_cell, no_weight, with_below, with_all, weights_of, weight_by}
-use Rattle.dft_hier.proofs.ReachLemmas.{stands_cases, stands_none, stands_more, get_push}
+use Rattle.dft_hier.specs.Reach.{Graph, StandsIn, children_at, IsOrder}
+use Rattle.dft_hier.specs.Weights.{AreWeights, AreBounded, alone, no_weight, with_all, weights_of, weight_by}
+use Rattle.dft_hier.proofs.ReachLemmas.{stands_cases, stands_none, stands_more}
 
 -- ---- the same weights of instances
 

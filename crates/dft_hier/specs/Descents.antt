@@ -1,5 +1,5 @@
 -- A walk down through modules: how far each is, the way to the last that was met, and those that are finished.
-use Rattle.std.specs.Prelude.{ℕ, ◌≡◌, ◌+◌, ◌<◌, Bool, true, false, not, ◌||◌, List, [], ◌∷◌, ◌++◌, length, take, Option, None, Some, slice_get, slice_set, if◌then◌else◌}
+use Rattle.std.specs.Prelude.{ℕ, ◌+◌, Bool, true, false, not, ◌||◌, List, [], ◌∷◌, ◌++◌, Option, None, Some, slice_get, slice_set, if◌then◌else◌}
 use Rattle.std.specs.List.{list_all}
 use Rattle.dft_hier.specs.declared.descent.State.{State}
 use Rattle.dft_hier.specs.declared.descent.State.TheVariants.{New, Walked, Finished}

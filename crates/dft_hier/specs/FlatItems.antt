@@ -1,12 +1,11 @@
 -- The joins and instances of a flat design by the items of modules that give something.
-use Rattle.std.specs.Prelude.{ℕ, suc, zero, ◌≡◌, ◌+◌, ◌≤◌, ◌<◌, List, [], ◌∷◌, ◌++◌, length, map, Option, Some, None, slice_get, slice_index_or}
+use Rattle.std.specs.Prelude.{ℕ, suc, zero, ◌≡◌, ◌+◌, ◌≤◌, List, [], ◌∷◌, ◌++◌, length, map, Option, Some, None, slice_get, slice_index_or}
 use Rattle.dft_base.specs.Lexing.{Text}
 use Rattle.dft_netlist.specs.declared.limits.TheConstants.{MAX_NETS}
 use Rattle.dft_modules.specs.declared.module.Item.{Item}
 use Rattle.dft_modules.specs.declared.module.Item.TheVariants as item
 use Rattle.dft_modules.specs.Modules.{Module}
 use Rattle.dft_hier.specs.declared.weights.Weight.{Weight}
-use Rattle.dft_hier.specs.declared.weights.LiveSub.{LiveSub}
 use Rattle.dft_hier.specs.declared.weights.LiveItem.{LiveItem}
 use Rattle.dft_hier.specs.declared.weights.LiveItem.TheVariants.{Own, Sub}
 use Rattle.dft_hier.specs.Flat.{Parts, Giving, no_parts, and_parts, moved_join, moved_instance, parts_within, sub_parts}

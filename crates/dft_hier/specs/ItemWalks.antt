@@ -1,5 +1,5 @@
 -- A walk through the items below a module: the way down to the items that come next, and the prefix of the last module on it.
-use Rattle.std.specs.Prelude.{ℕ, suc, ◌≡◌, ◌+◌, ◌<◌, ◌≤◌, List, [], ◌∷◌, ◌++◌, length, take, drop, reverse, Some, slice_get}
+use Rattle.std.specs.Prelude.{ℕ, suc, ◌≡◌, ◌+◌, ◌≤◌, List, [], ◌∷◌, ◌++◌, length, take, drop, reverse, Some, slice_get}
 use Rattle.dft_base.specs.Lexing.{Text}
 use Rattle.dft_cells.specs.declared.cell.Cell.{Cell}
 use Rattle.dft_netlist.specs.Netlist.{Netlist}
@@ -10,7 +10,6 @@ use Rattle.dft_modules.specs.declared.module.Item.{Item}
 use Rattle.dft_modules.specs.Sound.{IsItem}
 use Rattle.dft_hier.specs.declared.flat_items.Visit.{Visit}
 use Rattle.dft_hier.specs.declared.weights.Weight.{Weight}
-use Rattle.dft_hier.specs.declared.weights.LiveItem.{LiveItem}
 use Rattle.dft_hier.specs.Flat.{Parts, no_parts, and_parts, add_instances, inside, parts_within}
 use Rattle.dft_hier.specs.FlatItems.{live_parts, nets_of, live_items_at, item_size_in, step_of}
 use Rattle.dft_hier.specs.FlatNets.{items_at, total_by}

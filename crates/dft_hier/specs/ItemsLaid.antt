@@ -4,7 +4,7 @@ use Rattle.dft_cells.specs.declared.cell.Cell.{Cell}
 use Rattle.dft_netlist.specs.declared.limits.TheConstants.{MAX_NETS}
 use Rattle.dft_modules.specs.declared.module.Item.{Item}
 use Rattle.dft_modules.specs.Modules.{Module}
-use Rattle.dft_modules.specs.Sound.{AreModules, IsItem}
+use Rattle.dft_modules.specs.Sound.{AreModules}
 use Rattle.dft_hier.specs.declared.weights.Weight.{Weight}
 use Rattle.dft_hier.specs.declared.weights.LiveItem.TheVariants.{Own, Sub}
 use Rattle.dft_hier.specs.declared.weights.LiveSub.{LiveSub}

@@ -1,5 +1,5 @@
 -- Joins and instances of a module that stand in a flat netlist.
-use Rattle.std.specs.Prelude.{ℕ, ◌+◌, ◌<◌, ◌^◌, List, [], ◌∷◌, ◌++◌, map}
+use Rattle.std.specs.Prelude.{ℕ, ◌+◌, ◌<◌, ◌^◌, List, ◌++◌, map}
 use Rattle.std.specs.List.{All, AllByRecursion}
 use Rattle.dft_base.specs.Lexing.{Text}
 use Rattle.dft_netlist.specs.declared.ids.NetId.{NetId}
@@ -9,7 +9,7 @@ use Rattle.dft_netlist.specs.declared.instance.Signal.{Signal}
 use Rattle.dft_netlist.specs.Netlist.{Netlist}
 use Rattle.dft_netlist.specs.Sound.{IsInstanceOf, IsJoinOf, IsLive}
 use Rattle.dft_modules.specs.declared.connections.Connection.{Connection}
-use Rattle.dft_hier.specs.Flat.{moved, moved_net}
+use Rattle.dft_hier.specs.Flat.{moved}
 
 -- a net's number in the flat netlist can be written
 abbrev pub IsWritable : (first : ℕ) → Signal → Type 0

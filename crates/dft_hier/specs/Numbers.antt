@@ -1,5 +1,5 @@
 -- Modules and ports by numbers: which of a list the first of a name is, and which modules a module has instances of.
-use Rattle.std.specs.Prelude.{ℕ, suc, ◌≡◌, Bool, not, List, [], ◌∷◌, ◌++◌, map, find, Option, None, Some, is_some, option_map, if◌then◌else◌}
+use Rattle.std.specs.Prelude.{ℕ, suc, ◌≡◌, not, List, [], ◌∷◌, ◌++◌, map, find, Option, None, Some, is_some, option_map, if◌then◌else◌}
 use Rattle.std.specs.List.{filter_map}
 use Rattle.std.specs.Str.{bytes_eq}
 use Rattle.dft_base.specs.Lexing.{Text}

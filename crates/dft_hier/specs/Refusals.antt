@@ -20,7 +20,7 @@ use Rattle.dft_modules.specs.declared.module.SubInstance.{SubInstance}
 use Rattle.dft_modules.specs.Modules.{Module}
 use Rattle.dft_hier.specs.declared.error.HierError.{HierError}
 use Rattle.dft_hier.specs.declared.error.HierError.TheVariants as told
-use Rattle.dft_hier.specs.Hierarchy.{subs_of, all_subs, find_module, has_instance_of, tops}
+use Rattle.dft_hier.specs.Hierarchy.{all_subs, find_module, has_instance_of, tops}
 use Rattle.dft_hier.specs.Flat.{flat_netlist}
 
 -- ---- instances of modules that are not there

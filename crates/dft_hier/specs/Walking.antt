@@ -1,5 +1,5 @@
 -- Where a walk down through modules stands.
-use Rattle.std.specs.Prelude.{ℕ, ◌≡◌, ◌+◌, ◌<◌, ◌⊎◌, Bool, true, false, List, [], ◌∷◌, ◌++◌, length, take, reverse, Some, slice_get}
+use Rattle.std.specs.Prelude.{ℕ, ◌≡◌, ◌<◌, ◌⊎◌, true, false, List, [], ◌∷◌, length, take, reverse, Some, slice_get}
 use Rattle.dft_hier.specs.declared.descent.State.{State}
 use Rattle.dft_hier.specs.declared.descent.State.TheVariants.{New, Walked, Finished}
 use Rattle.dft_hier.specs.declared.descent.Visit.{Visit}

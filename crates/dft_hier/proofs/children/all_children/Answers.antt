@@ -1,6 +1,6 @@
 use Rattle.std.proofs.Common.{◌≡◌, ◌++◌, ◌∷◌, [], ℕ, List, cond, is_ok, sym, ap, ◌∙◌}
 use Rattle.std.proofs.lemmas.Result.{err_from_is_err_and}
-use Rattle.dft_hier.proofs.NumberLemmas.{none_so_far, all_next, all_lost, all_found, all_known}
+use Rattle.dft_hier.proofs.NumberLemmas.{all_next, all_lost, all_found, all_known}
 use Rattle.dft_hier.proofs.children.all_children.Goals as goal
 
 pub returns-in_err-children_in-clause-refused : goal.returns-in_err-children_in-clause-refused

@@ -1,5 +1,5 @@
-use Rattle.std.proofs.Common.{◌<◌, ◌≤◌, ◌≡◌, length, get_or, ap, ◌∙◌}
-use Rattle.dft_hier.proofs.NumberLemmas.{no_children, children_next, children_lost, children_found, children_known}
+use Rattle.std.proofs.Common.{◌<◌, ◌≡◌, length, get_or}
+use Rattle.dft_hier.proofs.NumberLemmas.{no_children, children_next, children_found, children_known}
 use Rattle.dft_hier.proofs.children.children_in.Goals as goal
 
 pub loop-item-init : goal.loop-item-init

@@ -1,4 +1,4 @@
-use Rattle.std.proofs.Common.{ap, ◌∙◌}
+use Rattle.std.proofs.Common.{◌∙◌}
 use Rattle.dft_hier.proofs.NumberLemmas.{name_next, name_last}
 use Rattle.dft_hier.proofs.children.module_numbers.Goals as goal
 

@@ -1,5 +1,4 @@
-use Rattle.std.proofs.Common.{◌≡◌, length, refl, sym, subst, ◌∙◌, arith}
-use Rattle.dft_hier.specs.Reach.{IsOrder}
+use Rattle.std.proofs.Common.{refl, sym, ◌∙◌, arith}
 use Rattle.dft_hier.proofs.WalkLemmas.{begins, whole_order, whole_live}
 use Rattle.dft_hier.proofs.descent.descend.Goals as goal
 

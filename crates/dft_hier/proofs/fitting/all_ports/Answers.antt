@@ -1,6 +1,6 @@
-use Rattle.std.proofs.Common.{◌≡◌, ◌++◌, ◌∷◌, [], ℕ, List, cond, is_ok, sym, ap, ◌∙◌}
+use Rattle.std.proofs.Common.{◌≡◌, ◌++◌, ◌∷◌, [], List, cond, is_ok, sym, ap, ◌∙◌}
 use Rattle.dft_hier.specs.Numbers.{Entry}
-use Rattle.dft_hier.proofs.FitLemmas.{no_ports, ports_next, ports_all}
+use Rattle.dft_hier.proofs.FitLemmas.{ports_next, ports_all}
 use Rattle.dft_hier.proofs.fitting.all_ports.Goals as goal
 
 pub loop-owner-preserved : goal.loop-owner-preserved

@@ -1,4 +1,4 @@
-use Rattle.std.proofs.Common.{◌<◌, ◌≤◌, ◌≡◌, length, get_or, ap, ◌∙◌}
+use Rattle.std.proofs.Common.{◌<◌, ◌≡◌, length, get_or}
 use Rattle.dft_hier.proofs.NumberLemmas.{port_next, port_last}
 use Rattle.dft_hier.proofs.fitting.port_numbers.Goals as goal
 

@@ -1,9 +1,9 @@
-use Rattle.std.proofs.Common.{◌≡◌, ◌++◌, ◌∷◌, [], List, length, refl, sym, ap, subst, ◌∙◌}
+use Rattle.std.proofs.Common.{List, length, refl, sym, ap, subst, ◌∙◌}
 use Rattle.std.proofs.lemmas.Result.{err_from_is_err_and}
 use Rattle.dft_base.specs.Lexing.{Text}
 use Rattle.dft_cells.specs.declared.cell.Cell.{Cell}
 use Rattle.dft_modules.specs.Modules.{Module}
-use Rattle.dft_hier.specs.ItemWalks.{ItemStand, IsItemWalk, and_visit, adds, item_way_size}
+use Rattle.dft_hier.specs.ItemWalks.{ItemStand, IsItemWalk, and_visit, adds}
 use Rattle.dft_hier.specs.ItemsLaid.{AreItemsLaid}
 use Rattle.dft_hier.specs.Laid.{parts_at}
 use Rattle.dft_hier.proofs.ItemsLaidLemmas.{laid_items}

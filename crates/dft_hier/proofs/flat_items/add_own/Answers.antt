@@ -1,5 +1,4 @@
-use Rattle.std.proofs.Common.{◌≡◌, ap}
-use Rattle.dft_hier.proofs.ItemLemmas.{own_target, own_source, own_join, own_cell, own_pins}
+use Rattle.dft_hier.proofs.ItemLemmas.{own_target, own_source, own_cell, own_pins}
 use Rattle.dft_hier.proofs.flat_items.add_own.Goals as goal
 
 pub add_join-requires-clause-target : goal.add_join-requires-clause-target

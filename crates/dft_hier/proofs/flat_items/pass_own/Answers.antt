@@ -1,6 +1,5 @@
-use Rattle.std.proofs.Common.{◌≡◌, ◌<◌, ◌≤◌, ◌+◌, List, length, take, Some, sym, ap, subst, ◌∙◌, arith, rules}
+use Rattle.std.proofs.Common.{◌<◌, ◌≤◌, length, take, sym, ap, subst, ◌∙◌, arith, rules}
 use Rattle.std.proofs.lemmas.List.Elements.{All-take}
-use Rattle.dft_base.specs.Lexing.{Text}
 use Rattle.dft_hier.specs.Growing.{IsPrefix}
 use Rattle.dft_modules.specs.Modules.{Module}
 use Rattle.dft_hier.specs.ItemWalks.{ItemStand}

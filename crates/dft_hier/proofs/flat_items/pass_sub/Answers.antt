@@ -1,4 +1,4 @@
-use Rattle.std.proofs.Common.{◌≡◌, ◌<◌, ◌≤◌, ◌+◌, ◌^◌, List, length, take, Some, None, option_copied, refl, sym, ap, subst, ◌∙◌, arith, rules}
+use Rattle.std.proofs.Common.{◌<◌, List, length, option_copied, refl, sym, ap, subst, ◌∙◌, arith, rules}
 use Rattle.dft_base.specs.Lexing.{Text}
 use Rattle.dft_modules.specs.Modules.{Module}
 use Rattle.dft_hier.specs.Growing.{IsPrefix}

@@ -1,4 +1,4 @@
-use Rattle.std.proofs.Common.{◌<◌, ◌≡◌, ◌++◌, List, length, map, Some, None, sym, ap, subst, ◌∙◌, rules, append-nil}
+use Rattle.std.proofs.Common.{◌<◌, ◌≡◌, List, length, map, Some, None, sym, ap, subst, ◌∙◌, rules, append-nil}
 use Rattle.dft_netlist.specs.declared.instance.Join.{Join}
 use Rattle.dft_netlist.specs.declared.instance.Signal.{Signal}
 use Rattle.dft_hier.specs.Flat.{joined_to, moved, moved_net, port_joins}

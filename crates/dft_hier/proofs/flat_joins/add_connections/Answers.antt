@@ -1,5 +1,4 @@
-use Rattle.std.proofs.Common.{sym, ap, ◌∙◌}
-use Rattle.dft_hier.proofs.JoinLemmas.{joins_begin, port_here, port_more, ports_over}
+use Rattle.dft_hier.proofs.JoinLemmas.{port_here, port_more, ports_over}
 use Rattle.dft_hier.proofs.flat_joins.add_connections.Goals as goal
 
 pub add_connection-requires-clause-fits : goal.add_connection-requires-clause-fits

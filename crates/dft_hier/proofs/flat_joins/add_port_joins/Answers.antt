@@ -1,11 +1,8 @@
-use Rattle.std.proofs.Common.{◌≡◌, ◌<◌, ◌+◌, ◌^◌, ◌++◌, Some, None, slice_get, map, List, sym, ap, subst, ◌∙◌, arith}
+use Rattle.std.proofs.Common.{◌≡◌, ◌<◌, ◌+◌, ◌^◌, Some, slice_get}
 use Rattle.dft_netlist.specs.declared.ids.NetId.{NetId}
 use Rattle.dft_netlist.specs.declared.instance.Signal.{Signal}
-use Rattle.dft_netlist.specs.declared.instance.Join.{Join}
-use Rattle.dft_netlist.specs.Netlist.{Netlist}
-use Rattle.dft_hier.specs.Flat.{bit_joins, port_joins, moved, moved_net}
-use Rattle.dft_hier.specs.Moving.{IsWritable, AreJoinsOf, with_joins}
-use Rattle.dft_hier.proofs.JoinLemmas.{joins_begin, bit_here, bit_more, bits_end, bits_over, all_at}
+use Rattle.dft_hier.specs.Moving.{IsWritable}
+use Rattle.dft_hier.proofs.JoinLemmas.{bit_here, bit_more, bits_end, bits_over, all_at}
 use Rattle.dft_hier.proofs.flat_joins.add_port_joins.Goals as goal
 
 pub moved_net-inner-requires : goal.moved_net-inner-requires

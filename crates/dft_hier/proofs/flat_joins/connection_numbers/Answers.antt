@@ -1,4 +1,3 @@
-use Rattle.std.proofs.Common.{ap, ◌∙◌}
 use Rattle.dft_hier.proofs.JoinLemmas.{connection_next, connection_last}
 use Rattle.dft_hier.proofs.flat_joins.connection_numbers.Goals as goal
 

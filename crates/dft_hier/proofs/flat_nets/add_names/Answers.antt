@@ -1,5 +1,5 @@
-use Rattle.std.proofs.Common.{◌++◌, ◌∙◌, sym, ap}
-use Rattle.dft_hier.proofs.GrowLemmas.{name_added, name_refused, names_added}
+use Rattle.std.proofs.Common.{◌++◌}
+use Rattle.dft_hier.proofs.GrowLemmas.{name_added, names_added}
 use Rattle.dft_hier.proofs.flat_nets.add_names.Goals as goal
 
 pub loop-name-preserved : goal.loop-name-preserved

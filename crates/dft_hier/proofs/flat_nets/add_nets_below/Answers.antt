@@ -1,8 +1,8 @@
-use Rattle.std.proofs.Common.{◌++◌, ◌∷◌, [], sym, ap, subst, ◌∙◌}
+use Rattle.std.proofs.Common.{subst}
 use Rattle.std.proofs.lemmas.Result.{err_from_is_err_and}
 use Rattle.dft_netlist_text.specs.NetlistText.{add_nets}
 use Rattle.dft_hier.specs.FlatNets.{nets_below}
-use Rattle.dft_hier.specs.NetWalks.{NetStand, IsNetWalk, way_size}
+use Rattle.dft_hier.specs.NetWalks.{NetStand, IsNetWalk}
 use Rattle.dft_hier.proofs.NetWalkLemmas.{walk_begins, walk_ends, top_visit}
 use Rattle.dft_hier.proofs.flat_nets.add_nets_below.Goals as goal
 

@@ -1,7 +1,4 @@
-use Rattle.std.proofs.Common.{◌≡◌, ◌<◌, ◌++◌, ◌∷◌, [], ℕ, List, length, get_or, map, Option, Some, None, Ok, slice_get, option_copied, cond, sym, ap, subst, ◌∙◌, arith, rules}
-use Rattle.std.proofs.lemmas.Option.{slice_get_within, slice_get-get_or}
-use Rattle.dft_modules.specs.declared.module.Item.{Item}
-use Rattle.dft_modules.specs.declared.module.Item.TheVariants as item
+use Rattle.std.proofs.Common.{◌<◌, length, option_copied, sym, ap, ◌∙◌, arith, rules}
 use Rattle.dft_modules.specs.Modules.{Module}
 use Rattle.dft_hier.proofs.EnterLemmas.{item_there, child_there, sub_is, none_there, entered, fewer}
 use Rattle.dft_hier.proofs.flat_nets.enter.Goals as goal

@@ -1,9 +1,6 @@
-use Rattle.std.proofs.Common.{◌≡◌, ◌<◌, [], length, refl, sym, ap, subst, ◌∙◌, arith}
+use Rattle.std.proofs.Common.{refl, sym, ap, subst, ◌∙◌}
 use Rattle.std.proofs.lemmas.Result.{err_from_is_err_and}
-use Rattle.dft_cells.specs.declared.cell.Cell.{Cell}
-use Rattle.dft_netlist.specs.Netlist.{Netlist}
 use Rattle.dft_netlist.specs.Sound.{HasOnlyPorts}
-use Rattle.dft_hier.specs.Laid.{IsLaid}
 use Rattle.dft_hier.proofs.LaidLemmas.{laid}
 use Rattle.dft_hier.proofs.AddLemmas.{top_live, top_read, ports_refused, own_refused, below_refused, nets_there, all_added}
 use Rattle.dft_hier.proofs.flattening.add_all.Goals as goal

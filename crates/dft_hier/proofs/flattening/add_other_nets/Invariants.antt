@@ -1,5 +1,5 @@
 -- The nets that are left.
-use Rattle.std.proofs.Common.{◌≡◌, ◌≤◌, length, drop}
+use Rattle.std.proofs.Common.{◌≡◌, length, drop}
 use Rattle.dft_netlist_text.specs.NetlistText.{add_nets}
 use Rattle.dft_hier.proofs.flattening.add_other_nets.Given as goal
 

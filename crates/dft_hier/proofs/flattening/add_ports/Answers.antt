@@ -1,4 +1,3 @@
-use Rattle.std.proofs.Common.{sym, ap, ◌∙◌}
 use Rattle.dft_hier.proofs.FlattenLemmas.{ports_next}
 use Rattle.dft_hier.proofs.flattening.add_ports.Goals as goal
 

@@ -1,4 +1,4 @@
-use Rattle.std.proofs.Common.{◌≡◌, sym, ap, ◌∙◌}
+use Rattle.std.proofs.Common.{◌∙◌}
 use Rattle.dft_hier.proofs.FlattenSteps.{within_of, ordered_none, first_named}
 use Rattle.dft_hier.proofs.flattening.ordered.Goals as goal
 

@@ -1,4 +1,3 @@
-use Rattle.std.proofs.Common.{sym, ap, ◌∙◌}
 use Rattle.std.proofs.lemmas.Result.{err_from_is_err_and}
 use Rattle.dft_hier.proofs.FlattenSteps.{within_of, top_found, tops_refused, misfit_refused}
 use Rattle.dft_hier.proofs.flattening.top_of.Goals as goal

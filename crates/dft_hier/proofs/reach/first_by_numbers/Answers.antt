@@ -1,4 +1,3 @@
-use Rattle.std.proofs.Common.{◌≡◌, true, sym, ◌∙◌}
 use Rattle.dft_hier.proofs.ReachLemmas.{first_on_circle}
 use Rattle.dft_hier.proofs.reach.first_by_numbers.Goals as goal
 

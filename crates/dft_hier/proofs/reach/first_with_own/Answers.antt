@@ -1,4 +1,4 @@
-use Rattle.std.proofs.Common.{ℕ, List, [], ◌∙◌, arith}
+use Rattle.std.proofs.Common.{ℕ, List, [], ◌∙◌}
 use Rattle.std.proofs.lemmas.List.{get_or_read}
 use Rattle.dft_hier.proofs.ReachLemmas.{own_next}
 use Rattle.dft_hier.proofs.reach.first_with_own.Goals as goal

@@ -1,6 +1,5 @@
-use Rattle.std.proofs.Common.{◌≡◌, ◌<◌, ℕ, List, [], length, sym, ap, ◌∙◌, arith, rules}
+use Rattle.std.proofs.Common.{◌<◌, ℕ, List, [], length, sym, ◌∙◌, arith, rules}
 use Rattle.std.proofs.lemmas.List.{get_or_read}
-use Rattle.dft_hier.specs.Reach.{AreBelow}
 use Rattle.dft_hier.proofs.SearchLemmas.{begins, goes_on, no, no_more, all_passed, next_live, next_below}
 use Rattle.dft_hier.proofs.reach.is_in_itself.Goals as goal
 

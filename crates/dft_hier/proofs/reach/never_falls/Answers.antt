@@ -1,4 +1,4 @@
-use Rattle.std.proofs.Common.{ℕ, List, [], ◌∙◌, arith}
+use Rattle.std.proofs.Common.{ℕ, List, [], ◌∙◌}
 use Rattle.std.proofs.lemmas.List.{get_or_read}
 use Rattle.dft_hier.proofs.ReachLemmas.{never_next, never_all}
 use Rattle.dft_hier.proofs.reach.never_falls.Goals as goal

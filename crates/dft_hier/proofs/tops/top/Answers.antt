@@ -1,4 +1,4 @@
-use Rattle.std.proofs.Common.{◌≡◌, ◌<◌, List, Bool, length, not, true, false, get_or, sym, ap, subst, ◌∙◌, arith}
+use Rattle.std.proofs.Common.{◌≡◌, List, Bool, not, true, get_or, sym, ap, ◌∙◌}
 use Rattle.std.specs.List.{count_by}
 use Rattle.dft_hier.proofs.TopLemmas.{tops_count, one_top}
 use Rattle.dft_hier.proofs.tops.top.Goals as goal

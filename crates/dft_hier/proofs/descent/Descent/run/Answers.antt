@@ -1,6 +1,6 @@
 use Rattle.std.proofs.Common.{ℕ, ◌+◌, List, [], ◌∙◌}
 use Rattle.std.proofs.lemmas.List.{get_or_read}
-use Rattle.dft_hier.proofs.WalkLemmas.{starts, goes, smaller, top_live, ends}
+use Rattle.dft_hier.proofs.WalkLemmas.{starts, goes, smaller, top_live}
 use Rattle.dft_hier.proofs.descent.Descent.run.Goals as goal
 
 pub loop-visit-init : goal.loop-visit-init

@@ -1,4 +1,4 @@
-use Rattle.std.proofs.Common.{List, ◌∷◌, [], refl, ap, ◌∙◌}
+use Rattle.std.proofs.Common.{List, refl, ap, ◌∙◌}
 use Rattle.std.proofs.lemmas.List.{map-append}
 use Rattle.std.specs.Cow.{cow_slice_items}
 use Rattle.std.specs.Str.{bytes_eq}
