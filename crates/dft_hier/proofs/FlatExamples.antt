@@ -1,9 +1,8 @@
 -- What texts of several modules stand for, worked by hand.
-use Rattle.std.proofs.Common.{true, false, ◌≡◌, refl, codes, Some, None, List, [], ◌∷◌, map}
+use Rattle.std.proofs.Common.{true, ◌≡◌, refl, codes, Some, None, List, [], ◌∷◌, map}
 use Rattle.std.specs.Fmt as fmt
 use Rattle.dft_base.specs.Words as words
 use Rattle.dft_base.specs.Lexing.{place_after, next_place}
-use Rattle.dft_cells.specs.declared.kind.Kind.TheVariants as primitive
 use Rattle.dft_base.specs.declared.dir.Dir.TheVariants as dir
 use Rattle.dft_netlist.specs.declared.instance.Signal.TheVariants as signal
 use Rattle.dft_netlist.specs.declared.instance.CellRef.TheVariants as cell_ref
@@ -12,17 +11,16 @@ use Rattle.dft_netlist_text.specs.Steps.{kind_of, bytes, left, next, same_kind, 
 use Rattle.dft_netlist_text.specs.Expressions.{number, rest_of_range, range, range_if_any, digits, constant, followed, rest_of_select, selection, named_operand, constant_operand, operand, opening, closing, concatenations_from, expression}
 use Rattle.dft_netlist_text.specs.Items.{declared_name, declared_names_from, declared_names, declaration, port_item, wire_item, right_side, net_assignment, net_assignments_from, net_assignments, assign_item, terminal, input_terminals_from, input_terminals, terminals, named_gate, unnamed_gate, one_gate, gates_from, gates, gate_item, connected_pin, pin_signal, pin_content, named_connection, named_connections_from, named_connections, connections, instance, instances_from, instances, cell_item, item, items_from, items}
 use Rattle.dft_netlist_text.specs.NetlistText.{announced_name, announced_names_from, announced_names, declared_port, port_declaration_of, port_declaration, declared_ports_from, declared_ports, header_names, header, heading, module_end}
-use Rattle.dft_netlist.specs.declared.error.Counted.TheVariants as counted
 use Rattle.dft_modules.specs.SubInstances.{named_port, port_content, port_connection, port_connections_from, port_connections, sub_instance, sub_instances_from, sub_instances, sub_item, module_item, module_items_from, module_items, one_module}
 use Rattle.dft_modules.specs.ModuleTexts.{next_module, modules_from, modules_of}
 use Rattle.dft_netlist.specs.declared.error.NetlistError.TheVariants as netlist
-use Rattle.std.specs.Prelude.{pos, Err}
+use Rattle.std.specs.Prelude.{Err}
 use Rattle.dft_hier.specs.Flat.{flat_netlist}
 use Rattle.std.proofs.lemmas.List.Elements.{All-nil}
 use Rattle.dft_base.specs.Lexing.{Text}
 use Rattle.dft_modules.specs.declared.module.Item.TheVariants as item
 use Rattle.dft_modules.specs.Modules.{Module}
-use Rattle.dft_hier.specs.Refusals.{IsBelow, Within, Deeper, IsFirstInItself, first_unknown}
+use Rattle.dft_hier.specs.Refusals.{Within, Deeper, IsFirstInItself}
 use Rattle.dft_hier.proofs.Outcomes.{flat, stands, top_count, misfit}
 
 pub two_inverters_in_a_module :

@@ -5,7 +5,6 @@ use Rattle.dft_cells.specs.Standard.{standard_cells}
 use Rattle.dft_netlist.specs.declared.port.Port.{Port}
 use Rattle.dft_netlist.specs.declared.instance.Instance.{Instance}
 use Rattle.dft_netlist.specs.declared.instance.Join.{Join}
-use Rattle.dft_netlist.specs.Netlist.{Netlist}
 use Rattle.dft_netlist_text.specs.NetlistText.{Grown}
 use Rattle.dft_modules.specs.declared.connections.Connection.{Connection}
 use Rattle.dft_modules.specs.Modules.{Module}
@@ -13,7 +12,7 @@ use Rattle.dft_modules.specs.declared.fault.ModulesFault.{ModulesFault}
 use Rattle.dft_modules.specs.ModuleTexts.{modules_of}
 use Rattle.dft_hier.specs.Hierarchy.{all_subs, tops}
 use Rattle.dft_hier.specs.Flat.{flat_netlist}
-use Rattle.dft_hier.specs.Refusals.{first_unknown, first_misfit}
+use Rattle.dft_hier.specs.Refusals.{first_misfit}
 
 abbrev pub said_by : Result (List Module) ModulesFault → List Module
 said_by (Ok ms) = ms

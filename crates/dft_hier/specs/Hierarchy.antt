@@ -1,5 +1,5 @@
 -- Which modules a text has, and which have instances of which.
-use Rattle.std.specs.Prelude.{Bool, not, List, [], ◌∷◌, ◌++◌, find, filter, Option, Some, None}
+use Rattle.std.specs.Prelude.{◌≡◌, ℕ, Bool, not, List, [], ◌∷◌, ◌++◌, find, filter, Option, Some, None, slice_get}
 use Rattle.std.specs.List.{list_any, filter_map}
 use Rattle.std.specs.Str.{bytes_eq}
 use Rattle.dft_base.specs.Lexing.{Text}
@@ -55,3 +55,7 @@ has_instance_of m name = list_any (λ (s : SubInstance). bytes_eq s.of name) (su
 -- the modules that no module has an instance of
 abbrev pub tops : List Module → List Module
 tops ms = filter (λ (m : Module). not (list_any (λ other. has_instance_of other m.name) ms)) ms
+
+-- no two modules have the same name
+abbrev pub HaveOwnNames : List Module → Type 0
+HaveOwnNames ms = (a b : ℕ) (m other : Module) → slice_get ms a ≡ Some m → slice_get ms b ≡ Some other → m.name ≡ other.name → a ≡ b

@@ -1,5 +1,5 @@
 -- Modules side by side, joined at their ports: what each net's bit is, by its path.
-use Rattle.std.specs.Prelude.{◌≡◌, ℕ, ◌<◌, Bool, true, false, if◌then◌else◌, List, [], ◌∷◌, ◌++◌, length, Option, Some, None, slice_get}
+use Rattle.std.specs.Prelude.{◌≡◌, ℕ, ◌<◌, Bool, true, false, if◌then◌else◌, List, [], ◌∷◌, length, Option, Some, None, slice_get}
 use Rattle.dft_base.specs.declared.dir.Dir.{Dir}
 use Rattle.dft_base.specs.declared.dir.Dir.TheVariants as dir
 use Rattle.dft_cells.specs.declared.kind.Kind.{Kind}
@@ -14,6 +14,7 @@ use Rattle.dft_netlist.specs.Drivers.{Source, Net, Tied, Connection, Driver, sou
 use Rattle.dft_netlist.specs.Drivers as drivers
 use Rattle.dft_netlist.specs.NetDrivers.{times_driven}
 use Rattle.dft_netlist.specs.Traces.{Root, Port as PortRoot, Constant, Other, From, Bit, passed_by_gate}
+use Rattle.dft_netlist.specs.ClockRoots.{ClockRoot, turn_of, turned}
 use Rattle.dft_netlist.specs.Logic as logic
 use Rattle.dft_netlist.specs.Logic.{Ports, Force, Meaning, pin_of, or_loose, domain_of, force_of, scan_of, modelled, flop_meaning, lockup_meaning}
 use Rattle.dft_netlist.specs.Settled.{Sources, bit_from, bit_given}
@@ -93,37 +94,59 @@ pub data HasRoot (ms : List Module) (library : List Cell) (top : Module) (path :
   Traced : {root : Root} → JoinedTraces ms library top path source root → HasRoot ms library top path source root
   Untraced : ((root : Root) → JoinedTraces ms library top path source root → ⊥) → HasRoot ms library top path source Other
 
--- ---- what nets mean, where the roots of sources are given
+-- ---- which clock a net shows, over joined modules
 
-abbrev pub Roots : Type 0
-Roots = Source → Root
+-- A source at a path shows a port's bit of the top or its inverse where buffers, inverters, joins and joined ports lead to it.
+pub data JoinedClocks (ms : List Module) (library : List Cell) (top : Module) : Path → Source → (port : ℕ) → (inverted : Bool) → Type 0 where
+  ClockAtPort : {path : Path} {net : ℕ} → DrivenInside ms library top path net drivers.Input → JoinedClocks ms library top path (Net net) net false
+  ClockThroughGate : {path : Path} {net : ℕ} {kind : Kind} {source : Source} {turns : Bool} {port : ℕ} {inverted : Bool} →
+      DrivenInside ms library top path net (drivers.Gate kind (source ∷ [])) → turn_of kind ≡ Some turns →
+      JoinedClocks ms library top path source port inverted → JoinedClocks ms library top path (Net net) port (turned turns inverted)
+  ClockThroughJoin : {path : Path} {net : ℕ} {source : Source} {port : ℕ} {inverted : Bool} →
+      DrivenInside ms library top path net (drivers.Joined source) → JoinedClocks ms library top path source port inverted → JoinedClocks ms library top path (Net net) port inverted
+  ClockInwards : {path : Path} {place net : ℕ} {to : Signal} {port : ℕ} {inverted : Bool} →
+      Meets ms top path place dir.Input net to → JoinedClocks ms library top path (source_of 0 0 to) port inverted → JoinedClocks ms library top (below path place) (Net net) port inverted
+  ClockOutwards : {path : Path} {place inner net : ℕ} {port : ℕ} {inverted : Bool} →
+      Meets ms top path place dir.Output inner (signal.Net (record { 0 = net })) → JoinedClocks ms library top (below path place) (Net inner) port inverted →
+      JoinedClocks ms library top path (Net net) port inverted
 
-abbrev pub domain_by : Roots → Ports → Option Source → Option ℕ
-domain_by root ports None = None
-domain_by root ports (Some source) = domain_of ports (root source)
+-- the clock that a source shows, or none
+pub data ShowsClock (ms : List Module) (library : List Cell) (top : Module) (path : Path) (source : Source) : Option ClockRoot → Type 0 where
+  Shown : {port : ℕ} {inverted : Bool} → JoinedClocks ms library top path source port inverted → ShowsClock ms library top path source (Some (record { port = port; inverted = inverted }))
+  NotShown : ((port : ℕ) (inverted : Bool) → JoinedClocks ms library top path source port inverted → ⊥) → ShowsClock ms library top path source None
+
+-- ---- what nets mean, where the roots and the clocks of sources are given
+
+pub record Roots : Type 0 where
+  pub root : Source → Root
+  pub clock : Source → Option ClockRoot
+
+abbrev pub domain_by : Roots → Ports → Option Source → Option ClockRoot
+domain_by roots ports None = None
+domain_by roots ports (Some source) = domain_of ports (roots.clock source)
 
 abbrev pub forcing_by : Roots → Ports → (reset preset : Option Source) → Option (Option Force)
-forcing_by root ports (Some reset) preset = force_of ports false (root reset)
-forcing_by root ports None (Some preset) = force_of ports true (root preset)
-forcing_by root ports None None = Some None
+forcing_by roots ports (Some reset) preset = force_of ports false (roots.root reset)
+forcing_by roots ports None (Some preset) = force_of ports true (roots.root preset)
+forcing_by roots ports None None = Some None
 
 -- the modelled flip-flop that an instance is, if it is one
 abbrev pub modelled_by : Roots → Ports → (instance : ℕ) → List Connection → Option logic.Cell
-modelled_by root ports i pins =
-    modelled (domain_by root ports (pin_of role.Clock i pins)) (forcing_by root ports (pin_of role.Reset i pins) (pin_of role.Preset i pins))
+modelled_by roots ports i pins =
+    modelled (domain_by roots ports (pin_of role.Clock i pins)) (forcing_by roots ports (pin_of role.Reset i pins) (pin_of role.Preset i pins))
     (or_loose i (pin_of role.Din i pins)) (scan_of (pin_of role.ScanEnable i pins) (pin_of role.ScanIn i pins))
 
 abbrev pub flip_flop_by : Roots → Netlist → Ports → (instance : ℕ) → Option logic.Cell
-flip_flop_by root n ports i = if is_flip_flop (kind_at n i) then modelled_by root ports i (pins_of n i) else None
+flip_flop_by roots n ports i = if is_flip_flop (kind_at n i) then modelled_by roots ports i (pins_of n i) else None
 
 -- what a net means by its driver
 abbrev pub meaning_by : Roots → Netlist → Ports → (net : ℕ) → Driver → Meaning
-meaning_by root n ports net drivers.Input = if ports.is_clock net then logic.Clock else logic.Input
-meaning_by root n ports net (drivers.Gate kind inputs) = logic.Gate kind inputs
-meaning_by root n ports net (drivers.Joined source) = logic.Joined source
-meaning_by root n ports net (drivers.Flop i inverted) = flop_meaning i inverted (flip_flop_by root n ports i)
-meaning_by root n ports net (drivers.Lockup i) = lockup_meaning i (domain_by root ports (pin_of role.Clock i (pins_of n i))) (or_loose i (pin_of role.Din i (pins_of n i)))
-meaning_by root n ports net drivers.Free = logic.Free
+meaning_by roots n ports net drivers.Input = if ports.is_clock net then logic.Clock else logic.Input
+meaning_by roots n ports net (drivers.Gate kind inputs) = logic.Gate kind inputs
+meaning_by roots n ports net (drivers.Joined source) = logic.Joined source
+meaning_by roots n ports net (drivers.Flop i inverted) = flop_meaning i inverted (flip_flop_by roots n ports i)
+meaning_by roots n ports net (drivers.Lockup i) = lockup_meaning i (domain_by roots ports (pin_of role.Clock i (pins_of n i))) (or_loose i (pin_of role.Din i (pins_of n i)))
+meaning_by roots n ports net drivers.Free = logic.Free
 
 -- ---- settled joined assignments
 
@@ -142,7 +165,8 @@ sources_at s path = record { ports = s.ports; high = s.high; flops = s.flops pat
 -- are equal at both sides, and every other net has its free bit.
 pub record IsJoinedSettled (ms : List Module) (library : List Cell) (top : Module) (ports : Ports) (s : JoinedSources) (bits : Path → ℕ → Bool) : Type 0 where
   pub roots : Path → Roots
-  pub rooted : (path : Path) (source : Source) → HasRoot ms library top path source (roots path source)
+  pub rooted : (path : Path) (source : Source) → HasRoot ms library top path source ((roots path).root source)
+  pub clocked : (path : Path) (source : Source) → ShowsClock ms library top path source ((roots path).clock source)
   pub driven : (path : Path) (m : Module) (net : ℕ) (d : Driver) → module_at ms path top ≡ Some m → DrivenInside ms library top path net d →
       bits path net ≡ bit_given (sources_at s path) (bits path) net (meaning_by (roots path) (alone library path m) ports net d)
   pub inputs : (path : Path) (place net : ℕ) (to : Signal) → Meets ms top path place dir.Input net to → bits (below path place) net ≡ bit_from (sources_at s path) (bits path) (source_of 0 0 to)

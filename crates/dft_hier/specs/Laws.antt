@@ -1,5 +1,5 @@
--- Laws of flat designs. These are statements that nothing proves yet.
-use Rattle.std.specs.Prelude.{◌≡◌, ◌↔◌, None, Ok, ℕ, ◌<◌, ◌≤◌, Bool, List, [], ◌∷◌, length, Some, slice_get}
+-- Laws of flat designs. `FlatIsJoined` and `OneModuleGives` are statements that nothing proves yet.
+use Rattle.std.specs.Prelude.{◌≡◌, ◌↔◌, None, Ok, ℕ, ◌<◌, ◌≤◌, Bool, List, length, Some, slice_get}
 use Rattle.dft_base.specs.Lexing.{Text}
 use Rattle.dft_cells.specs.declared.cell.Cell.{Cell}
 use Rattle.dft_netlist.specs.declared.instance.Instance.{Instance}

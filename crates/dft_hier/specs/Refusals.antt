@@ -20,7 +20,7 @@ use Rattle.dft_modules.specs.declared.module.SubInstance.{SubInstance}
 use Rattle.dft_modules.specs.Modules.{Module}
 use Rattle.dft_hier.specs.declared.error.HierError.{HierError}
 use Rattle.dft_hier.specs.declared.error.HierError.TheVariants as told
-use Rattle.dft_hier.specs.Hierarchy.{subs_of, all_subs, find_module, has_instance_of, tops}
+use Rattle.dft_hier.specs.Hierarchy.{all_subs, find_module, has_instance_of, tops}
 use Rattle.dft_hier.specs.Flat.{flat_netlist}
 
 -- ---- instances of modules that are not there
@@ -49,6 +49,12 @@ pub record IsFirstInItself (ms : List Module) (name : Text) : Type 0 where
   pub named : m.name ≡ name
   pub below : IsBelow ms m.name m.name
   pub first : NoneInItself ms front
+
+-- the first module that stands below itself is told by its name
+abbrev pub TellsFirst : List Module → HierError → Type 0
+TellsFirst ms (told.H3 name) = IsFirstInItself ms name
+TellsFirst ms (told.Memory error) = Unit {0}
+TellsFirst ms _ = ⊥
 
 -- ---- connections that fit no port
 

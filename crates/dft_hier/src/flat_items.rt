@@ -1,151 +1,34 @@
 //! The joins and instances of a flat design: the items of a module in order, and in place of a module instance the joins of
 //! its connections and the items of its module, without recursion.
 
-use crate::flat_nets::{Hierarchy, go_inside, prefixed};
-use crate::numbered::Numbered;
-use crate::weights::LiveItem;
+ghost use Rattle.std.specs.Prelude.{◌≡◌, ◌<◌, ◌≤◌, ◌+◌, ◌^◌, [], Some, length, take, slice_get, slice_index_or, IfOk, IfSome, IfNone, OnOk};
+ghost use Rattle.dft_hier.specs.FlatItems.{live_items_at, own_parts};
+ghost use Rattle.dft_hier.specs.Growing.{Grows, IsPrefix};
+ghost use Rattle.dft_hier.specs.ItemWalks.{IsItemIn, adds, and_visit, at_top, gone_into, item_way_size};
+ghost use Rattle.dft_hier.specs.ItemsWalked.{Stands, Walks};
+ghost use Rattle.dft_hier.specs.ItemsLaid.{AreItemsLaid};
+ghost use Rattle.dft_hier.specs.Laid.{IsLaid, parts_at};
+ghost use Rattle.dft_hier.specs.Weights.{no_weight};
+
+use crate::children::sub_in;
+use crate::flat_joins::{add_cell, add_connections, add_join};
+use crate::flat_nets::{Hierarchy, go_inside};
+use crate::weights::{LiveItem, LiveSub, Weight};
 use dft_base::Name;
-use dft_modules::{Connection, Item, Module, SubInstance};
-use dft_netlist::{
-    DesignBuilder, Dir, Instance, Join, NetId, NetlistError, PinSignals, Port, Signal,
-};
+use dft_modules::Item;
+use dft_netlist::{DesignBuilder, NetlistError};
 use std::alloc::{AllocError, Global};
+use std::marker::Model;
 
 // A module on the way: the number of its first net, its next item, the number of the first net of its next instance with
 // nets, and how long the prefix of its names is.
 #[derive(Clone, Copy, Debug)]
 struct Visit {
-    module: usize,
+    number: usize,
     first: usize,
     item: usize,
     next: usize,
     prefix: usize,
-}
-
-// A net of a module whose first net has this number.
-fn moved_net(first: usize, net: NetId) -> NetId {
-    NetId((first + net.0 as usize) as u32)
-}
-
-fn moved(first: usize, signal: Signal) -> Signal {
-    match signal {
-        Signal::Net(net) => Signal::Net(moved_net(first, net)),
-        Signal::Constant(bit) => Signal::Constant(bit),
-        Signal::Unconnected => Signal::Unconnected,
-    }
-}
-
-fn moved_pins(alloc: Global, first: usize, pins: &[Signal]) -> Result<PinSignals, AllocError> {
-    let mut signals = PinSignals::new(alloc);
-    for pin in pins {
-        signals.push(moved(first, *pin))?;
-    }
-    Ok(signals)
-}
-
-// The name of an instance behind a prefix, if it has one.
-fn moved_name(
-    alloc: Global,
-    prefix: &[u8],
-    name: &Option<Name>,
-) -> Result<Option<Name>, AllocError> {
-    match name {
-        Some(name) => Ok(Some(prefixed(alloc, prefix, name)?)),
-        None => Ok(None),
-    }
-}
-
-// Adds an instance of a cell or a gate.
-fn add_cell(
-    alloc: Global,
-    builder: &mut DesignBuilder,
-    prefix: &[u8],
-    first: usize,
-    instance: &Instance,
-) -> Result<(), NetlistError> {
-    let name = moved_name(alloc, prefix, &instance.name)?;
-    let pins = moved_pins(alloc, first, instance.pins.as_slice())?;
-    builder.instance(name, instance.cell, pins.as_slice())?;
-    Ok(())
-}
-
-// Adds a join.
-fn add_join(builder: &mut DesignBuilder, first: usize, join: Join) -> Result<(), AllocError> {
-    builder.join(moved_net(first, join.target), moved(first, join.source))
-}
-
-// Adds the join of a bit: an input bit takes what is outside, and a net outside takes an output bit.
-fn add_bit_join(
-    builder: &mut DesignBuilder,
-    dir: Dir,
-    bit: NetId,
-    outside: Signal,
-) -> Result<(), AllocError> {
-    match (dir, outside) {
-        (Dir::Input, _) => builder.join(bit, outside),
-        (Dir::Output, Signal::Net(net)) => builder.join(net, Signal::Net(bit)),
-        (Dir::Output, _) => Ok(()),
-    }
-}
-
-// Adds the joins of a port's bits from the left, where the first net outside and the first inside have these numbers.
-fn add_port_joins(
-    builder: &mut DesignBuilder,
-    outside: usize,
-    within: usize,
-    port: &Port,
-    signals: &[Signal],
-) -> Result<(), AllocError> {
-    for (place, signal) in signals.iter().enumerate() {
-        if let Some(bit) = port.bits.as_slice().get(place) {
-            add_bit_join(
-                builder,
-                port.dir,
-                moved_net(within, *bit),
-                moved(outside, *signal),
-            )?;
-        }
-    }
-    Ok(())
-}
-
-// Which connection names each port, by their places.
-fn by_ports(
-    alloc: Global,
-    count: usize,
-    ports: &Numbered<'_>,
-    connections: &[Connection],
-) -> Result<Vec<Option<usize>>, AllocError> {
-    let mut places = vec![in alloc; None; count]?;
-    for (place, connection) in connections.iter().enumerate() {
-        if let Some(port) = ports.find(connection.port.as_slice()) {
-            if places[port].is_none() {
-                places[port] = Some(place);
-            }
-        }
-    }
-    Ok(places)
-}
-
-// Adds the joins of an instance's connections, in the order of its module's ports.
-fn add_connections(
-    alloc: Global,
-    builder: &mut DesignBuilder,
-    outside: usize,
-    within: usize,
-    module: &Module,
-    ports: &Numbered<'_>,
-    sub: &SubInstance,
-) -> Result<(), AllocError> {
-    let connections = sub.connections.as_slice();
-    let places = by_ports(alloc, module.ports().len(), ports, connections)?;
-    for (number, port) in module.ports().iter().enumerate() {
-        if let Some(place) = places[number] {
-            let signals = connections[place].signals.as_slice();
-            add_port_joins(builder, outside, within, port, signals)?;
-        }
-    }
-    Ok(())
 }
 
 // The way down to the items that come next, and the prefix of the last module on it.
@@ -155,12 +38,24 @@ struct ItemWalk {
     prefix: Vec<u8>,
 }
 
+impl Model for ItemWalk {
+    ghost use Rattle.dft_hier.specs.ItemWalks.{ItemStand};
+
+    ghost Value = { ItemStand };
+
+    ghost use Rattle.dft_hier.specs.ItemWalkShown.{item_stand_of};
+
+    ghost view = { item_stand_of };
+}
+
 impl ItemWalk {
-    // At a module whose first net has the number 0.
-    fn at(alloc: Global, module: usize, nets: usize) -> Result<ItemWalk, AllocError> {
+    // At a module with so many nets, the first of which has the number 0.
+    fn at(alloc: Global, number: usize, nets: usize) -> Result<ItemWalk, AllocError>
+        ensures { IfOk result (λ walk. walk ≡ at_top number nets) }
+    {
         let mut way = Vec::new(alloc);
         way.push(Visit {
-            module,
+            number,
             first: 0,
             item: 0,
             next: nets,
@@ -172,104 +67,214 @@ impl ItemWalk {
         })
     }
 
-    // Goes into an instance: adds the joins of its connections first.
-    fn enter(
-        &mut self,
-        alloc: Global,
-        hierarchy: Hierarchy<'_>,
-        builder: &mut DesignBuilder,
-        visit: Visit,
-        child: usize,
-        sub: &SubInstance,
-    ) -> Result<(), NetlistError> {
-        let module = &hierarchy.modules[child];
-        add_connections(
-            alloc,
-            builder,
-            visit.first,
-            visit.next,
-            module,
-            &hierarchy.ports[child],
-            sub,
-        )?;
-        go_inside(&mut self.prefix, visit.prefix, &sub.name)?;
-        self.way
-            .push(Visit {
-                module: child,
-                first: visit.next,
-                item: 0,
-                next: visit.next + module.nets().len(),
-                prefix: self.prefix.len(),
-            })
-            .map_err(AllocError::from)?;
+    // The last visit of the way, which is taken from it.
+    fn pop(&mut self) -> Option<Visit>
+        ensures some { IfSome result (λ visit. self.old ≡ and_visit self.new visit) }
+        ensures none { IfNone result (self.old.way ≡ []) }
+        ensures same { IfNone result (self.new ≡ self.old) }
+    {
+        self.way.pop()
+    }
+
+    // The prefix of a module on the way, which has so many bytes.
+    fn prefix(&self, size: usize) -> &[u8]
+        requires { size ≤ length self.now.prefix }
+        ensures { result.now ≡ take size self.now.prefix }
+    {
+        &self.prefix[..size]
+    }
+
+    // A visit more.
+    fn push(&mut self, visit: Visit) -> Result<(), AllocError>
+        ensures { OnOk result (self.new ≡ and_visit self.old visit) }
+    {
+        self.way.push(visit)?;
         Ok(())
     }
 
-    // Past an item of a module: adds it, or goes into it.
-    fn pass(
+    // Into the module of an instance of a module that was visited.
+    fn go_into(
         &mut self,
-        alloc: Global,
-        hierarchy: Hierarchy<'_>,
-        builder: &mut DesignBuilder,
         visit: Visit,
-        live: LiveItem,
-    ) -> Result<(), NetlistError> {
-        let below = match live.child {
-            Some(child) => hierarchy.weights[child].nets,
-            None => 0,
-        };
-        self.way
-            .push(Visit {
-                module: visit.module,
+        name: &Name,
+        child: usize,
+        nets: usize,
+    ) -> Result<(), AllocError>
+        requires { visit.next + nets < 2 ^ 32 }
+        ensures stand { OnOk result (self.new ≡ gone_into self.old visit name.now child nets) }
+        ensures printed { OnOk result (IsPrefix self.old.prefix → IsPrefix self.new.prefix) }
+    {
+        go_inside(&mut self.prefix, visit.prefix, name)?;
+        self.way.push(Visit {
+            number: child,
+            first: visit.next,
+            item: 0,
+            next: visit.next + nets,
+            prefix: self.prefix.len(),
+        })?;
+        Ok(())
+    }
+}
+
+// Adds an item of a module's own.
+fn add_own(
+    alloc: Global,
+    builder: &mut DesignBuilder,
+    prefix: &[u8],
+    first: usize,
+    item: &Item,
+) -> Result<(), NetlistError>
+    requires prefix { IsPrefix prefix.now }
+    requires fits { IsItemIn builder.old first item.now }
+    ensures { Grows (adds (own_parts prefix.now first (Some item.now)) builder.old) result builder.new }
+{
+    match item {
+        Item::Join(join) => Ok(add_join(builder, first, *join)?),
+        Item::Cell(instance) => add_cell(alloc, builder, prefix, first, instance),
+        Item::Sub(_) => Ok(()),
+    }
+}
+
+// Past an item of a module's own, which is added.
+fn pass_own(
+    alloc: Global,
+    hierarchy: &Hierarchy<'_>,
+    builder: &mut DesignBuilder,
+    walk: &mut ItemWalk,
+    visit: Visit,
+    place: usize,
+) -> Result<(), NetlistError>
+    requires laid { AreItemsLaid builder.old.library hierarchy.now.modules.now hierarchy.now.items.now hierarchy.now.weights.now }
+    requires stands { Stands hierarchy.now builder.old (and_visit walk.old visit) }
+    requires next { slice_get (live_items_at hierarchy.now.items.now visit.number) visit.item ≡ Some (LiveItem.Own place) }
+    requires small { visit.item + 1 < 2 ^ 64 }
+    ensures walks { Walks hierarchy.now (and_visit walk.old visit) builder.old result walk.new builder.new }
+    ensures fewer { OnOk result (item_way_size hierarchy.now.modules.now hierarchy.now.items.now walk.new.way < item_way_size hierarchy.now.modules.now hierarchy.now.items.now (and_visit walk.old visit).way) }
+{
+    walk.push(Visit {
+        number: visit.number,
+        first: visit.first,
+        item: visit.item + 1,
+        next: visit.next,
+        prefix: visit.prefix,
+    })?;
+    let items = hierarchy.modules[visit.number].items();
+    let prefix = walk.prefix(visit.prefix);
+    add_own(alloc, builder, prefix, visit.first, &items[place])
+}
+
+// How many nets a module has with all below it.
+fn nets_at(weights: &[Weight], number: usize) -> usize
+    requires { number < length weights.now }
+    ensures { result ≡ (slice_index_or weights.now number no_weight).nets }
+{
+    weights[number].nets
+}
+
+// Past a module instance, and into its module: adds the joins of its connections.
+fn pass_sub(
+    alloc: Global,
+    hierarchy: &Hierarchy<'_>,
+    builder: &mut DesignBuilder,
+    walk: &mut ItemWalk,
+    visit: Visit,
+    live: LiveSub,
+) -> Result<(), NetlistError>
+    requires laid { AreItemsLaid builder.old.library hierarchy.now.modules.now hierarchy.now.items.now hierarchy.now.weights.now }
+    requires stands { Stands hierarchy.now builder.old (and_visit walk.old visit) }
+    requires next { slice_get (live_items_at hierarchy.now.items.now visit.number) visit.item ≡ Some (LiveItem.Sub live) }
+    requires small { visit.item + 1 < 2 ^ 64 }
+    ensures walks { Walks hierarchy.now (and_visit walk.old visit) builder.old result walk.new builder.new }
+    ensures fewer { OnOk result (item_way_size hierarchy.now.modules.now hierarchy.now.items.now walk.new.way < item_way_size hierarchy.now.modules.now hierarchy.now.items.now (and_visit walk.old visit).way) }
+{
+    let items = hierarchy.modules[visit.number].items();
+    match sub_in(&items[live.item]) {
+        Some(sub) => {
+            let inner = &hierarchy.modules[live.child];
+            let ports = inner.ports();
+            let connections = sub.connections.as_slice();
+            add_connections(alloc, builder, visit.first, visit.next, ports, connections)?;
+            let below = nets_at(hierarchy.weights, live.child);
+            walk.push(Visit {
+                number: visit.number,
                 first: visit.first,
                 item: visit.item + 1,
                 next: visit.next + below,
                 prefix: visit.prefix,
-            })
-            .map_err(AllocError::from)?;
-        match (
-            &hierarchy.modules[visit.module].items()[live.item],
-            live.child,
-        ) {
-            (Item::Join(join), _) => Ok(add_join(builder, visit.first, *join)?),
-            (Item::Cell(instance), _) => {
-                self.prefix.truncate(visit.prefix);
-                add_cell(alloc, builder, &self.prefix, visit.first, instance)
-            }
-            (Item::Sub(sub), Some(child)) => {
-                self.enter(alloc, hierarchy, builder, visit, child, sub)
-            }
-            (Item::Sub(_), None) => Ok(()),
+            })?;
+            let names = inner.nets();
+            walk.go_into(visit, &sub.name, live.child, names.len())?;
+            Ok(())
         }
-    }
-
-    // One step: past the next item of the last module on the way, or back.
-    fn step(
-        &mut self,
-        alloc: Global,
-        hierarchy: Hierarchy<'_>,
-        builder: &mut DesignBuilder,
-    ) -> Result<(), NetlistError> {
-        match self.way.pop() {
-            None => Ok(()),
-            Some(visit) => match hierarchy.items[visit.module].items.get(visit.item) {
-                None => Ok(()),
-                Some(live) => self.pass(alloc, hierarchy, builder, visit, *live),
-            },
-        }
+        None => unreachable!(),
     }
 }
 
-/// Adds the joins and instances of a module and of all below it.
+// The live item at a place.
+fn item_at(live: &[LiveItem], place: usize) -> Option<LiveItem>
+    ensures { result ≡ slice_get live.now place }
+{
+    live.get(place).copied()
+}
+
+// Past an item, or into it.
+fn pass(
+    alloc: Global,
+    hierarchy: &Hierarchy<'_>,
+    builder: &mut DesignBuilder,
+    walk: &mut ItemWalk,
+    visit: Visit,
+    live: LiveItem,
+) -> Result<(), NetlistError>
+    requires laid { AreItemsLaid builder.old.library hierarchy.now.modules.now hierarchy.now.items.now hierarchy.now.weights.now }
+    requires stands { Stands hierarchy.now builder.old (and_visit walk.old visit) }
+    requires next { slice_get (live_items_at hierarchy.now.items.now visit.number) visit.item ≡ Some live }
+    requires small { visit.item + 1 < 2 ^ 64 }
+    ensures walks { Walks hierarchy.now (and_visit walk.old visit) builder.old result walk.new builder.new }
+    ensures fewer { OnOk result (item_way_size hierarchy.now.modules.now hierarchy.now.items.now walk.new.way < item_way_size hierarchy.now.modules.now hierarchy.now.items.now (and_visit walk.old visit).way) }
+{
+    match live {
+        LiveItem::Own(place) => pass_own(alloc, hierarchy, builder, walk, visit, place),
+        LiveItem::Sub(sub) => pass_sub(alloc, hierarchy, builder, walk, visit, sub),
+    }
+}
+
+// One step from a module that was taken from the way: past an item, into an instance, or back.
+fn step(
+    alloc: Global,
+    hierarchy: &Hierarchy<'_>,
+    builder: &mut DesignBuilder,
+    walk: &mut ItemWalk,
+    visit: Visit,
+) -> Result<(), NetlistError>
+    requires laid { AreItemsLaid builder.old.library hierarchy.now.modules.now hierarchy.now.items.now hierarchy.now.weights.now }
+    requires stands { Stands hierarchy.now builder.old (and_visit walk.old visit) }
+    ensures walks { Walks hierarchy.now (and_visit walk.old visit) builder.old result walk.new builder.new }
+    ensures fewer { OnOk result (item_way_size hierarchy.now.modules.now hierarchy.now.items.now walk.new.way < item_way_size hierarchy.now.modules.now hierarchy.now.items.now (and_visit walk.old visit).way) }
+{
+    let live = hierarchy.items[visit.number].items();
+    match item_at(live, visit.item) {
+        Some(next) => pass(alloc, hierarchy, builder, walk, visit, next),
+        None => Ok(()),
+    }
+}
+
+/// Adds the joins and instances of a module and of all below it, whose nets are there.
 pub fn add_items(
     alloc: Global,
-    hierarchy: Hierarchy<'_>,
+    hierarchy: &Hierarchy<'_>,
     builder: &mut DesignBuilder,
     top: usize,
-) -> Result<(), NetlistError> {
+) -> Result<(), NetlistError>
+    requires laid { IsLaid builder.old.library hierarchy.now }
+    requires there { top < length hierarchy.now.modules.now }
+    requires nets { length builder.old.nets ≡ length (parts_at hierarchy.now.modules.now top).nets }
+    ensures { Grows (adds (parts_at hierarchy.now.modules.now top) builder.old) result builder.new }
+{
+    builder.net_count();
     let mut walk = ItemWalk::at(alloc, top, hierarchy.modules[top].nets().len())?;
-    while !walk.way.is_empty() {
-        walk.step(alloc, hierarchy, builder)?;
+    while let Some(visit) = walk.pop() {
+        step(alloc, hierarchy, builder, &mut walk, visit)?;
     }
     Ok(())
 }

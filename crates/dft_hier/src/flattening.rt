@@ -1,59 +1,101 @@
 //! The flat design of modules.
 
-ghost use Rattle.std.specs.Prelude.{IfOk, IfErr};
-ghost use Rattle.dft_hier.specs.Refusals.{IsFlat, CannotFlatten};
+ghost use Rattle.std.specs.Prelude.{◌≡◌, ◌<◌, ◌≤◌, List, None, Some, drop, length, slice_get, IfOk, IfErr, OnOk};
+ghost use Rattle.dft_cells.specs.declared.cell.Cell.{Cell};
+ghost use Rattle.dft_hier.specs.Fitting.{ArePortsFound};
+ghost use Rattle.dft_hier.specs.Flat as spec;
+ghost use Rattle.dft_hier.specs.Growing.{Builds, Grows};
+ghost use Rattle.dft_hier.specs.Hierarchy.{HaveOwnNames};
+ghost use Rattle.dft_hier.specs.Laid.{IsLaid, IsTopOf, flat_at, name_at, told_of};
+ghost use Rattle.dft_hier.specs.Numbers.{children_of};
+ghost use Rattle.dft_hier.specs.Reach.{AreBelow, IsOrder};
+ghost use Rattle.dft_hier.specs.Refusals.{IsFlat, CannotFlatten, NoneInItself, TellsFirst, first_unknown};
 ghost use Rattle.dft_modules.specs.Sound.{AreModules};
+ghost use Rattle.dft_netlist.specs.Building.{empty_netlist};
+ghost use Rattle.dft_netlist.specs.Sound.{HasOnlyPorts};
+ghost use Rattle.dft_netlist_text.specs.NetlistText.{add_nets};
 
 use crate::children::{Children, all_children, module_numbers};
-use crate::descent::{finishes, in_order};
+use crate::descent::descend;
 use crate::error::HierError;
 use crate::fitting::{all_ports, check_all};
 use crate::flat_items::add_items;
 use crate::flat_nets::{Hierarchy, add_nets_below};
+use crate::numbered::Numbered;
 use crate::reach::first_in_itself;
 use crate::tops::top;
 use crate::weights::{all_live_items, weights};
+use dft_base::Name;
 use dft_cells::Library;
 use dft_modules::Module;
-use dft_netlist::{Design, DesignBuilder, NetlistError};
+use dft_netlist::{Design, DesignBuilder, NetlistError, Port};
 use std::alloc::{AllocError, Global};
 
-// Refused with `H3` for the first module that stands below itself.
-fn check_circles(
+// The modules in an order, each behind the modules below it. Refused with `H3` for the first module that stands below itself.
+fn ordered(
     alloc: Global,
     modules: &[Module],
     children: &[Children],
-    finishes: &[usize],
-) -> Result<(), HierError> {
-    match first_in_itself(alloc, children, finishes)? {
-        Some(module) => Err(HierError::H3 {
-            name: modules[module].name().copy(alloc)?,
-        }),
-        None => Ok(()),
+) -> Result<Vec<usize>, HierError>
+    requires names { HaveOwnNames modules.now }
+    requires children { children.now ≡ children_of modules.now }
+    ensures order { IfOk result (λ order. IsOrder children.now order.items) }
+    ensures live { IfOk result (λ order. AreBelow (length children.now) order.items) }
+    ensures apart { IfOk result (λ order. NoneInItself modules.now modules.now) }
+    ensures refused { IfErr result (TellsFirst modules.now) }
+{
+    let walk = descend(alloc, children)?;
+    if walk.circle {
+        let first = first_in_itself(alloc, children, &walk.order)?;
+        return Err(HierError::H3 {
+            name: modules[first].name().copy(alloc)?,
+        });
     }
+    Ok(walk.order)
 }
 
-// Adds the ports of the top, and its other nets.
-fn add_top(
+// The one top, whose hierarchy can be joined. Refused with `H4` or `H5`.
+fn top_of(
     alloc: Global,
-    builder: &mut DesignBuilder,
-    module: &Module,
-) -> Result<(), NetlistError> {
-    for port in module.ports() {
+    modules: &[Module],
+    ports: &[Numbered<'_>],
+    children: &[Children],
+) -> Result<usize, HierError>
+    requires names { HaveOwnNames modules.now }
+    requires known { first_unknown modules.now ≡ None }
+    requires apart { NoneInItself modules.now modules.now }
+    requires children { children.now ≡ children_of modules.now }
+    requires ports { ArePortsFound modules.now ports.now }
+    ensures ok { IfOk result (IsTopOf modules.now) }
+    ensures refused { IfErr result (λ error. (library : List Cell) → CannotFlatten modules.now library error) }
+{
+    let number = top(alloc, children)?;
+    check_all(alloc, modules, ports, children)?;
+    Ok(number)
+}
+
+// Adds these ports.
+fn add_ports(alloc: Global, builder: &mut DesignBuilder, ports: &[Port]) -> Result<(), NetlistError>
+    requires { HasOnlyPorts builder.old }
+    ensures { Grows (spec.add_ports ports.now builder.old) result builder.new }
+{
+    for port in ports {
         builder.port(port.name.copy(alloc)?, port.dir, port.range)?;
     }
-    add_other_nets(alloc, builder, module)
+    Ok(())
 }
 
-// Adds the nets of the top that are no bits of ports.
+// Adds the nets of these names that have none yet.
 fn add_other_nets(
     alloc: Global,
     builder: &mut DesignBuilder,
-    module: &Module,
-) -> Result<(), NetlistError> {
+    names: &[Name],
+) -> Result<(), NetlistError>
+    ensures { Grows (add_nets (drop (length builder.old.nets) names.now) builder.old) result builder.new }
+{
     let bits = builder.net_count() as usize;
-    for name in module.nets().iter().skip(bits) {
-        builder.net(name.copy(alloc)?)?;
+    for number in bits..names.len() {
+        builder.net(names[number].copy(alloc)?)?;
     }
     Ok(())
 }
@@ -61,11 +103,18 @@ fn add_other_nets(
 // Adds all that the top and the modules below it give.
 fn add_all(
     alloc: Global,
-    hierarchy: Hierarchy<'_>,
+    hierarchy: &Hierarchy<'_>,
     builder: &mut DesignBuilder,
     top: usize,
-) -> Result<(), NetlistError> {
-    add_top(alloc, builder, &hierarchy.modules[top])?;
+) -> Result<(), NetlistError>
+    requires laid { IsLaid builder.old.library hierarchy.now }
+    requires top { IsTopOf hierarchy.now.modules.now top }
+    requires none { builder.old ≡ empty_netlist (name_at hierarchy.now.modules.now top) builder.old.library }
+    ensures { Grows (flat_at hierarchy.now.modules.now builder.old.library top) result builder.new }
+{
+    let module = &hierarchy.modules[top];
+    add_ports(alloc, builder, module.ports())?;
+    add_other_nets(alloc, builder, module.nets())?;
     add_nets_below(alloc, hierarchy, builder, top)?;
     add_items(alloc, hierarchy, builder, top)
 }
@@ -73,10 +122,14 @@ fn add_all(
 // The flat netlist of a hierarchy, not finished yet.
 fn built(
     alloc: Global,
-    hierarchy: Hierarchy<'_>,
+    hierarchy: &Hierarchy<'_>,
     library: Library,
     top: usize,
-) -> Result<DesignBuilder, NetlistError> {
+) -> Result<DesignBuilder, NetlistError>
+    requires laid { IsLaid library hierarchy.now }
+    requires top { IsTopOf hierarchy.now.modules.now top }
+    ensures { Builds (flat_at hierarchy.now.modules.now library top) result }
+{
     let name = hierarchy.modules[top].name().copy(alloc)?;
     let mut builder = DesignBuilder::new(alloc, name, library);
     add_all(alloc, hierarchy, &mut builder, top)?;
@@ -84,50 +137,75 @@ fn built(
 }
 
 // How a refusal of the flat netlist is told.
-fn told(error: NetlistError) -> HierError {
+fn told(error: NetlistError) -> HierError
+    ensures { result ≡ told_of error }
+{
     match error {
         NetlistError::Memory(error) => HierError::Memory(error),
         error => HierError::Netlist(error),
     }
 }
 
-// The design of modules of which none stands below itself, where the walk down finished them in this order.
+// The flat netlist of a hierarchy as a design.
+fn finished(
+    alloc: Global,
+    hierarchy: &Hierarchy<'_>,
+    library: Library,
+    top: usize,
+) -> Result<Design, NetlistError>
+    requires laid { IsLaid library hierarchy.now }
+    requires top { IsTopOf hierarchy.now.modules.now top }
+    ensures flat { IfOk result (λ design. IsFlat hierarchy.now.modules.now library design) }
+    ensures refused { IfErr result (λ error. CannotFlatten hierarchy.now.modules.now library (told_of error)) }
+{
+    let builder = built(alloc, hierarchy, library, top)?;
+    builder.finish()
+}
+
+// The design of modules that can be joined, in an order in which each stands behind those below it.
 fn design(
     alloc: Global,
     modules: &[Module],
     children: &[Children],
-    finishes: &[usize],
+    order: &[usize],
+    top: usize,
     library: Library,
-) -> Result<Design, HierError> {
-    let top = top(alloc, children)?;
-    let ports = all_ports(alloc, modules)?;
-    check_all(alloc, modules, &ports, children)?;
-    let order = in_order(alloc, finishes)?;
-    let weights = weights(alloc, modules, children, &order)?;
+) -> Result<Design, HierError>
+    requires sound { AreModules library modules.now }
+    requires children { children.now ≡ children_of modules.now }
+    requires order { IsOrder children.now order.now }
+    requires live { AreBelow (length children.now) order.now }
+    requires top { IsTopOf modules.now top }
+    ensures flat { IfOk result (λ design. IsFlat modules.now library design) }
+    ensures refused { IfErr result (λ error. CannotFlatten modules.now library error) }
+{
+    let weights = weights(alloc, modules, children, order)?;
     let items = all_live_items(alloc, modules, children, &weights)?;
     let hierarchy = Hierarchy {
         modules,
-        ports: &ports,
         items: &items,
         weights: &weights,
     };
-    match built(alloc, hierarchy, library, top) {
-        Ok(builder) => builder.finish().map_err(told),
+    match finished(alloc, &hierarchy, library, top) {
+        Ok(design) => Ok(design),
         Err(error) => Err(told(error)),
     }
 }
 
 /// The flat design of the modules of a text over the cells that it was read with: the one module that no module has an
-/// instance of is its top, and names below instances stand behind their paths, with `/` between. Refused with `H2`, `H3`,
-/// `H4`, `H5` in this order, each for the first in the order of the text, and then as the flat netlist is.
+/// instance of is its top, and names below instances stand behind their paths, with `/` between. No two modules have the same
+/// name. Refused with `H2`, `H3`, `H4`, `H5` in this order, each for the first in the order of the text, and then as the flat
+/// netlist is.
 pub fn flatten(alloc: Global, modules: &[Module], library: Library) -> Result<Design, HierError>
-    requires { AreModules library modules.now }
+    requires sound { AreModules library modules.now }
+    requires names { HaveOwnNames modules.now }
     ensures flat { IfOk result (λ design. IsFlat modules.now library design) }
     ensures refused { IfErr result (λ error. CannotFlatten modules.now library error) }
 {
     let numbers = module_numbers(alloc, modules)?;
     let children = all_children(alloc, modules, &numbers)?;
-    let finishes = finishes(alloc, &children)?;
-    check_circles(alloc, modules, &children, &finishes)?;
-    design(alloc, modules, &children, &finishes, library)
+    let order = ordered(alloc, modules, &children)?;
+    let ports = all_ports(alloc, modules)?;
+    let top = top_of(alloc, modules, &ports, &children)?;
+    design(alloc, modules, &children, &order, top, library)
 }

@@ -7,8 +7,10 @@ mod descent;
 mod error;
 mod fitting;
 mod flat_items;
+mod flat_joins;
 mod flat_nets;
 mod flattening;
+mod laws;
 mod numbered;
 mod reach;
 mod tops;
@@ -16,3 +18,4 @@ mod weights;
 
 pub use error::HierError;
 pub use flattening::flatten;
+pub use laws::{flat_designs_are_one_for_one, texts_give_one_design};

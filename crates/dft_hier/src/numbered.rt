@@ -1,37 +1,64 @@
 //! Names with numbers, which are found by their bytes.
 
+ghost use Rattle.std.specs.Prelude.{◌≡◌, ◌++◌, ◌∷◌, [], None, OnOk};
+ghost use Rattle.dft_hier.specs.Numbers.{look_up, noted};
+
 use indexmap::IndexMap;
-use indexmap::map::Entry;
 use std::alloc::{AllocError, Global};
 use std::borrow::CowSlice;
+use std::marker::Model;
 
-/// Names with numbers. Of two names that are the same the first has its number.
+/// Names with numbers. Of two names that are the same the first has its number. A clause sees them in the order in which they
+/// were added.
 #[derive(Debug, Drop)]
 pub struct Numbered<'a> {
     numbers: IndexMap<CowSlice<'a, u8>, usize>,
 }
 
+impl<'a> Model for Numbered<'a> {
+    ghost use Rattle.std.specs.Prelude.{List};
+    ghost use Rattle.dft_hier.specs.Numbers.{Entry};
+
+    ghost Value = { List Entry };
+
+    ghost use Rattle.dft_hier.specs.NumberedShown.{entries_in};
+
+    ghost view = { entries_in };
+}
+
 impl<'a> Numbered<'a> {
     /// No name yet.
-    pub fn new(alloc: Global) -> Numbered<'a> {
+    pub fn new(alloc: Global) -> Numbered<'a>
+        ensures { result ≡ [] }
+    {
         Numbered {
             numbers: IndexMap::new(alloc),
         }
     }
 
-    /// Gives a name this number, unless it has one.
-    pub fn put(&mut self, name: &'a [u8], number: usize) -> Result<(), AllocError> {
-        match self.numbers.entry(CowSlice::Borrowed(name))? {
-            Entry::Occupied(_) => Ok(()),
-            Entry::Vacant(entry) => {
-                entry.insert(number);
-                Ok(())
-            }
-        }
+    /// The number of a name.
+    pub fn find(&self, name: &[u8]) -> Option<usize>
+        ensures { result ≡ look_up self.now name.now }
+    {
+        self.numbers.get(name).copied()
     }
 
-    /// The number of a name.
-    pub fn find(&self, name: &[u8]) -> Option<usize> {
-        self.numbers.get(name).copied()
+    // Gives a number to a name that has none.
+    fn add(&mut self, name: &'a [u8], number: usize) -> Result<(), AllocError>
+        requires { look_up self.old name.now ≡ None }
+        ensures { OnOk result (self.new ≡ self.old ++ (name.now, number) ∷ []) }
+    {
+        self.numbers.insert(CowSlice::Borrowed(name), number)?;
+        Ok(())
+    }
+
+    /// Gives a name this number, unless it has one.
+    pub fn put(&mut self, name: &'a [u8], number: usize) -> Result<(), AllocError>
+        ensures { OnOk result (self.new ≡ noted self.old name.now number) }
+    {
+        match self.find(name) {
+            Some(_first) => Ok(()),
+            None => self.add(name, number),
+        }
     }
 }

@@ -1,0 +1,75 @@
+-- Modules and ports by numbers: which of a list the first of a name is, and which modules a module has instances of.
+use Rattle.std.specs.Prelude.{ℕ, suc, ◌≡◌, not, List, [], ◌∷◌, ◌++◌, map, find, Option, None, Some, is_some, option_map, if◌then◌else◌}
+use Rattle.std.specs.List.{filter_map}
+use Rattle.std.specs.Str.{bytes_eq}
+use Rattle.dft_base.specs.Lexing.{Text}
+use Rattle.dft_netlist.specs.declared.port.Port.{Port}
+use Rattle.dft_modules.specs.declared.module.SubInstance.{SubInstance}
+use Rattle.dft_modules.specs.Modules.{Module}
+use Rattle.dft_hier.specs.declared.error.HierError.{HierError}
+use Rattle.dft_hier.specs.declared.error.HierError.TheVariants as told
+use Rattle.dft_hier.specs.Hierarchy.{subs_of}
+
+-- ---- names with numbers
+
+-- a name and a number
+abbrev pub Entry : Type 0
+Entry = Text × ℕ
+
+-- the number that stands at a name
+abbrev pub look_up : List Entry → (name : Text) → Option ℕ
+look_up [] name = None
+look_up (e ∷ entries) name = if bytes_eq e.0 name then Some e.1 else look_up entries name
+
+-- a name more, unless something stands at it
+abbrev pub noted_by : Option ℕ → List Entry → (name : Text) → (number : ℕ) → List Entry
+noted_by None entries name number = entries ++ (name, number) ∷ []
+noted_by (Some first) entries name number = entries
+
+abbrev pub noted : List Entry → (name : Text) → (number : ℕ) → List Entry
+noted entries name number = noted_by (look_up entries name) entries name number
+
+-- the number of the first of these names that is this one, where the first of them all has this number
+abbrev pub first_from : (number : ℕ) → List Text → (name : Text) → Option ℕ
+first_from number [] name = None
+first_from number (n ∷ names) name = if bytes_eq n name then Some number else first_from (suc number) names name
+
+-- at each name stands the number of the first that has it
+abbrev pub Finds : List Entry → List Text → Type 0
+Finds entries names = (name : Text) → look_up entries name ≡ first_from 0 names name
+
+-- ---- modules and their instances
+
+abbrev pub module_names : List Module → List Text
+module_names ms = map (λ (m : Module). m.name) ms
+
+abbrev pub port_names : List Port → List Text
+port_names ports = map (λ (p : Port). p.name) ports
+
+-- the number of the first module of a name
+abbrev pub number_of : List Module → Text → Option ℕ
+number_of ms name = first_from 0 (module_names ms) name
+
+-- the numbers of the modules of instances
+abbrev pub found_subs : List Entry → List SubInstance → List ℕ
+found_subs entries subs = filter_map (λ (s : SubInstance). look_up entries s.of) subs
+
+abbrev pub numbers_of_subs : List Module → List SubInstance → List ℕ
+numbers_of_subs ms subs = filter_map (λ (s : SubInstance). number_of ms s.of) subs
+
+-- the first instance whose module is not there
+abbrev pub first_lost : List Entry → List SubInstance → Option SubInstance
+first_lost entries subs = find (λ (s : SubInstance). not (is_some (look_up entries s.of))) subs
+
+-- the numbers of the modules that each module has instances of
+abbrev pub children_among : List Module → List Module → List (List ℕ)
+children_among ms some = map (λ (m : Module). numbers_of_subs ms (subs_of m.items)) some
+
+abbrev pub children_of : List Module → List (List ℕ)
+children_of ms = children_among ms ms
+
+-- an instance of a module that is not there is told by its module's name
+abbrev pub TellsLost : Option SubInstance → HierError → Type 0
+TellsLost lost (told.H2 name) = option_map (λ (s : SubInstance). s.of) lost ≡ Some name
+TellsLost lost (told.Memory error) = Unit {0}
+TellsLost lost _ = ⊥
