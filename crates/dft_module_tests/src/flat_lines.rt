@@ -1,5 +1,7 @@
 //! How a text of several modules is told, for tests: its flat design, or its refusal.
 
+ghost use Rattle.std.specs.Prelude.{◌≤◌, length};
+
 use dft_base::{Name, Place};
 use dft_cells::Library;
 use dft_hier::{HierError, flatten};
@@ -150,7 +152,9 @@ fn design_of(alloc: Global, design: &Design) -> Result<String, AllocError> {
 }
 
 // The flat design of a text over the standard cells, or its refusal.
-fn outcome(alloc: Global, text: &str, library: Library) -> Result<String, AllocError> {
+fn outcome(alloc: Global, text: &str, library: Library) -> Result<String, AllocError>
+    requires { length text.now ≤ MAX_TEXT }
+{
     match read_modules(alloc, text.as_bytes(), &library) {
         Ok(modules) => match flatten(alloc, &modules, library) {
             Ok(design) => design_of(alloc, &design),

@@ -1,5 +1,7 @@
 //! How the modules of a text are told, for tests.
 
+ghost use Rattle.std.specs.Prelude.{◌≤◌, length};
+
 use crate::flat_lines::{modules_error_of, push_instance, push_name, push_signal};
 use dft_base::Dir;
 use dft_cells::Library;
@@ -100,7 +102,9 @@ fn modules_of(alloc: Global, modules: &[Module]) -> Result<String, AllocError> {
     Ok(line)
 }
 
-fn outcome(alloc: Global, text: &[u8], library: &Library) -> Result<String, AllocError> {
+fn outcome(alloc: Global, text: &[u8], library: &Library) -> Result<String, AllocError>
+    requires { length text.now ≤ MAX_TEXT }
+{
     match read_modules(alloc, text, library) {
         Ok(modules) => modules_of(alloc, &modules),
         Err(error) => modules_error_of(alloc, error),
