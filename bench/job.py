@@ -1,9 +1,10 @@
 #!/usr/bin/env python3
-"""Makes a job to time `dft compile` on: job.py SEED CELLS FOLDER [both], or job.py wide CHAINS FOLDER
+"""Makes a job to time `dft compile` on: job.py SEED CELLS FOLDER [both] [twice], or job.py wide CHAINS FOLDER
 
 The first writes the job that `dft generate --seed SEED --size CELLS` makes, of any size: a netlist of CELLS flip-flops in two
 domains, each behind a gate of two of them, 16 chains on two channels, and a cube of up to four bits for each four flip-flops.
-With `both`, every second flip-flop of each domain is on the inverse of its clock.
+With `both`, every second flip-flop of each domain is on the inverse of its clock. With `twice` each cube captures with two pulses
+of its clock.
 
 The second has CHAINS chains (a multiple of 32, at most 1,024) of 64 flip-flops on one clock behind a ring of 128 stages with a channel
 for each 32 chains, loads of 512 cycles, and 2,000 cubes of up to 100 random bits.
@@ -46,7 +47,7 @@ mask_inputs = 2
 """
 
 
-def generated(seed, cells, both):
+def generated(seed, cells, both, twice):
     random = words(seed, 0)
     netlist = ["module gen (clk0, clk1, y);\ninput clk0, clk1;\noutput y;\n"]
     if both:
@@ -57,9 +58,9 @@ def generated(seed, cells, both):
         clock = "inv" if both and c // 2 % 2 else "clk"
         netlist.append(f"DFF f{c} (.CK({clock}{c % 2}), .D(d{c}), .Q(q{c}));\n")
     netlist.append("assign y = q0;\nendmodule\n")
-    cubes = []
+    cubes = ["version 2\n"] if twice else []
     for k in range(cells // 4):
-        cubes.append(f"cube k{k} clk{k % 2}\n")
+        cubes.append(f"cube k{k} clk{k % 2} clk{k % 2}\n" if twice else f"cube k{k} clk{k % 2}\n")
         named = set()
         for word in [next(random) for _ in range(4)]:
             cell = word % cells
@@ -98,7 +99,7 @@ def wide(chains):
 
 def main():
     kind, size, folder = sys.argv[1], int(sys.argv[2]), sys.argv[3]
-    texts = wide(size) if kind == "wide" else generated(int(kind), size, "both" in sys.argv[4:])
+    texts = wide(size) if kind == "wide" else generated(int(kind), size, "both" in sys.argv[4:], "twice" in sys.argv[4:])
     for name, text in zip(("job.v", "job.toml", "job.cubes"), texts):
         with open(f"{folder}/{name}", "w") as out:
             out.writelines(text)

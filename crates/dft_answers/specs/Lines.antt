@@ -5,7 +5,7 @@ use Rattle.dft_base.specs.declared.place.Place.{Place}
 use Rattle.dft_scan.specs.declared.texts.Counts.{Counts}
 use Rattle.dft_compile.specs.declared.texts.Counts as compiled
 use Rattle.dft_answers.specs.declared.answer.Code.{Code}
-use Rattle.dft_answers.specs.declared.answer.Code.TheVariants.{F1, L1, L2, L3, L4, L5, L6, L7, C1, C2, C3, C4, C5, C6, V1, V2, V3, V4, V5, V6, V7, V8, V9, V10, V11, V12, N1, N2, N3, N4, G1, G2, G3, G4, G5, G6, G7, P1, P2, P3, P4, P5, P6, P7, P8, P9, P10, Q1, Q2, Q3, Q4, Q5, Q6, Q7, Q8, Q9, K1, K2, K3, K4, K5, K6}
+use Rattle.dft_answers.specs.declared.answer.Code.TheVariants.{F1, L1, L2, L3, L4, L5, L6, L7, C1, C2, C3, C4, C5, C6, V1, V2, V3, V4, V5, V6, V7, V8, V9, V10, V11, V12, H1, H2, H3, H4, H5, N1, N2, N3, N4, G1, G2, G3, G4, G5, G6, G7, P1, P2, P3, P4, P5, P6, P7, P8, P9, P10, Q1, Q2, Q3, Q4, Q5, Q6, Q7, Q8, Q9, K1, K2, K3, K4, K5, K6}
 use Rattle.dft_answers.specs.declared.answer.Refusal.{Refusal}
 use Rattle.dft_answers.specs.declared.outcome.Outcome.{Outcome}
 use Rattle.dft_answers.specs.declared.outcome.Outcome.TheVariants.{Usage, Refused, Finished}
@@ -41,6 +41,11 @@ code_text V9 = codes "V9"
 code_text V10 = codes "V10"
 code_text V11 = codes "V11"
 code_text V12 = codes "V12"
+code_text H1 = codes "H1"
+code_text H2 = codes "H2"
+code_text H3 = codes "H3"
+code_text H4 = codes "H4"
+code_text H5 = codes "H5"
 code_text N1 = codes "N1"
 code_text N2 = codes "N2"
 code_text N3 = codes "N3"

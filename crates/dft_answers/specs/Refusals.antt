@@ -1,5 +1,5 @@
 -- Refusals, and what the errors of readers, of a scan, of a compilation and of a test of certificates come to.
-use Rattle.std.specs.Prelude.{ℕ, ℤ, List, codes, Option, None, Some}
+use Rattle.std.specs.Prelude.{ℕ, ℤ, pos, List, codes, Option, None, Some}
 use Rattle.dft_base.specs.declared.place.Place.{Place}
 use Rattle.dft_cells.specs.declared.refusal.LibraryError.{LibraryError}
 use Rattle.dft_cells.specs.declared.refusal.LibraryError.TheVariants as library
@@ -9,6 +9,12 @@ use Rattle.dft_netlist.specs.declared.error.NetlistError.{NetlistError}
 use Rattle.dft_netlist.specs.declared.error.NetlistError.TheVariants as netlist
 use Rattle.dft_verilog.specs.declared.error.VerilogError.{VerilogError}
 use Rattle.dft_verilog.specs.declared.error.VerilogError.TheVariants as verilog
+use Rattle.dft_verilog.specs.declared.error.ModulesError.{ModulesError}
+use Rattle.dft_verilog.specs.declared.error.ModulesError.TheVariants as modules
+use Rattle.dft_hier.specs.declared.error.HierError.{HierError}
+use Rattle.dft_hier.specs.declared.error.HierError.TheVariants as hier
+use Rattle.dft_netlist_reader.specs.declared.error.DesignError.{DesignError}
+use Rattle.dft_netlist_reader.specs.declared.error.DesignError.TheVariants as design
 use Rattle.dft_stil_text.specs.declared.error.StilError.{StilError}
 use Rattle.dft_stil_text.specs.declared.error.StilError.TheVariants as stil
 use Rattle.dft_config.specs.declared.error.ConfigError.{ConfigError}
@@ -34,7 +40,7 @@ use Rattle.dft_report_reader.specs.declared.error.ReadError.TheVariants as read
 use Rattle.dft_certify.specs.declared.error.CertifyError.{CertifyError}
 use Rattle.dft_certify.specs.declared.error.CertifyError.TheVariants as certify
 use Rattle.dft_answers.specs.declared.answer.Code.{Code}
-use Rattle.dft_answers.specs.declared.answer.Code.TheVariants.{L1, L2, L3, L4, L5, L6, L7, C1, C2, C3, C4, C5, C6, V1, V2, V3, V4, V5, V6, V7, V8, V9, V10, V11, V12, N1, N2, N3, N4, G1, G2, G3, G4, G5, G6, G7, P1, P2, P3, P4, P5, P6, P8, P9, P10, Q1, Q2, Q3, Q4, Q5, Q6, Q7, Q8, Q9, K1, K2, K3, K4, K5, K6}
+use Rattle.dft_answers.specs.declared.answer.Code.TheVariants.{L1, L2, L3, L4, L5, L6, L7, C1, C2, C3, C4, C5, C6, V1, V2, V3, V4, V5, V6, V7, V8, V9, V10, V11, V12, H1, H2, H3, H4, H5, N1, N2, N3, N4, G1, G2, G3, G4, G5, G6, G7, P1, P2, P3, P4, P5, P6, P8, P9, P10, Q1, Q2, Q3, Q4, Q5, Q6, Q7, Q8, Q9, K1, K2, K3, K4, K5, K6}
 use Rattle.dft_answers.specs.declared.answer.Refusal.{Refusal}
 
 -- ---- refusals by their parts
@@ -99,6 +105,25 @@ verilog_refusal (verilog.V11 place name) = Some (worded V11 place name)
 verilog_refusal (verilog.V12 place name) = Some (worded V12 place name)
 verilog_refusal (verilog.Netlist error) = netlist_refusal error
 verilog_refusal (verilog.Memory error) = None
+
+-- a text of several modules
+abbrev pub modules_refusal : ModulesError → Option Refusal
+modules_refusal (modules.Module error) = verilog_refusal error
+modules_refusal (modules.Repeated name) = Some (named H1 name)
+
+-- modules that have no flat design
+abbrev pub hier_refusal : HierError → Option Refusal
+hier_refusal (hier.H2 name) = Some (named H2 name)
+hier_refusal (hier.H3 name) = Some (named H3 name)
+hier_refusal (hier.H4 count) = Some (measured H4 (pos count))
+hier_refusal (hier.H5 place name) = Some (worded H5 place name)
+hier_refusal (hier.Netlist error) = netlist_refusal error
+hier_refusal (hier.Memory error) = None
+
+-- a netlist text without a design
+abbrev pub design_refusal : DesignError → Option Refusal
+design_refusal (design.Text error) = modules_refusal error
+design_refusal (design.Modules error) = hier_refusal error
 
 abbrev pub stil_refusal : StilError → Option Refusal
 stil_refusal (stil.P1 place) = Some (placed P1 place)

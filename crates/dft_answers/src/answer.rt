@@ -62,7 +62,7 @@ pub enum Code {
     /// A word or directive that the structural part leaves out. Its parts are the place and the word, as at V4, V5, V11
     /// and V12.
     V3,
-    /// A cell that the library has not.
+    /// A cell that the library has not, where a text of one module is read.
     V4,
     /// A pin that the cell has not.
     V5,
@@ -70,7 +70,7 @@ pub enum Code {
     V6,
     /// `inout`.
     V7,
-    /// A second module.
+    /// A second module, where a text of one module is read.
     V8,
     /// The text ends too early.
     V9,
@@ -80,6 +80,16 @@ pub enum Code {
     V11,
     /// A pin that was connected before.
     V12,
+    /// A module has the name of a module before it or of a cell of the library. Its part is the name, as at H2 and H3.
+    H1,
+    /// An instance of a module that is not there.
+    H2,
+    /// A module that has an instance of itself, or below one of its instances.
+    H3,
+    /// The modules that no module has an instance of are none, or several. Its part is how many there are.
+    H4,
+    /// A connection that fits no port of its module. Its parts are the place and the name.
+    H5,
     /// A net has two drivers. Its part is the net's name.
     N1,
     /// The nets have no order. Its part is the name of a net of a loop.

@@ -1,6 +1,6 @@
 //! What the errors of readers, of a scan, of a compilation and of a test of certificates come to.
 
-ghost use Rattle.std.specs.Prelude.{◌≡◌, IfOk, Some};
+ghost use Rattle.std.specs.Prelude.{◌≡◌, IfOk, Some, pos};
 ghost use Rattle.dft_answers.specs.Refusals as spec;
 
 use crate::answer::{Code, Refusal};
@@ -10,7 +10,9 @@ use dft_certify::CertifyError;
 use dft_compile::CompileError;
 use dft_config::ConfigError;
 use dft_cubes::CubeError;
+use dft_hier::HierError;
 use dft_netlist::{Counted, NetlistError};
+use dft_netlist_reader::DesignError;
 use dft_report::ReportError;
 use dft_report_reader::ReadError;
 use dft_rules::RuleError;
@@ -18,7 +20,7 @@ use dft_scan::ScanError;
 use dft_scan_frame::InsertError;
 use dft_stil_text::StilError;
 use dft_stitch::{Counted as Planned, StitchError};
-use dft_verilog::VerilogError;
+use dft_verilog::{ModulesError, VerilogError};
 use std::alloc::{AllocError, Global};
 
 /// The refusal of a library.
@@ -37,8 +39,18 @@ pub fn library_refusal(error: LibraryError) -> Result<Refusal, AllocError>
     })
 }
 
-/// The refusal of a netlist text.
-pub fn verilog_refusal(alloc: Global, error: VerilogError) -> Result<Refusal, AllocError>
+/// The refusal of a netlist text that stands for no design.
+pub fn design_refusal(alloc: Global, error: DesignError) -> Result<Refusal, AllocError>
+    ensures { IfOk result (λ refusal. spec.design_refusal error ≡ Some refusal) }
+{
+    match error {
+        DesignError::Text(error) => modules_refusal(alloc, error),
+        DesignError::Modules(error) => hier_refusal(alloc, error),
+    }
+}
+
+// The refusal of a netlist text, by the first fault of a module.
+fn verilog_refusal(alloc: Global, error: VerilogError) -> Result<Refusal, AllocError>
     ensures { IfOk result (λ refusal. spec.verilog_refusal error ≡ Some refusal) }
 {
     Ok(match error {
@@ -57,6 +69,40 @@ pub fn verilog_refusal(alloc: Global, error: VerilogError) -> Result<Refusal, Al
         VerilogError::Netlist(error) => return netlist_refusal(alloc, error),
         VerilogError::Memory(error) => return Err(error),
     })
+}
+
+// The refusal of a netlist text, which may have several modules.
+fn modules_refusal(alloc: Global, error: ModulesError) -> Result<Refusal, AllocError>
+    ensures { IfOk result (λ refusal. spec.modules_refusal error ≡ Some refusal) }
+{
+    match error {
+        ModulesError::Module(error) => verilog_refusal(alloc, error),
+        ModulesError::Repeated { name } => Ok(Refusal::named(Code::H1, name)),
+    }
+}
+
+// The refusal of modules that have no flat design.
+fn hier_refusal(alloc: Global, error: HierError) -> Result<Refusal, AllocError>
+    ensures { IfOk result (λ refusal. spec.hier_refusal error ≡ Some refusal) }
+{
+    Ok(match error {
+        HierError::H2 { name } => Refusal::named(Code::H2, name),
+        HierError::H3 { name } => Refusal::named(Code::H3, name),
+        HierError::H4 { count } => return tops_refusal(count),
+        HierError::H5 { place, name } => Refusal::worded(Code::H5, place, name),
+        HierError::Netlist(error) => return netlist_refusal(alloc, error),
+        HierError::Memory(error) => return Err(error),
+    })
+}
+
+// The refusal of another number of tops than one.
+fn tops_refusal(count: usize) -> Result<Refusal, AllocError>
+    ensures { IfOk result (λ refusal. refusal ≡ spec.measured Code.H4 (pos count)) }
+{
+    match i64::try_from(count) {
+        Ok(count) => Ok(Refusal::measured(Code::H4, count)),
+        Err(_past) => Err(AllocError),
+    }
 }
 
 // The refusal of a netlist as a whole, or of a part of it.

@@ -194,7 +194,7 @@ all_certified n config rows window cubes placed patterns sound range are given p
     let row = rows_of n config rows in
     let reports = all_reports n config rows.columns row window [] patterns cubes placed given places in
     let within = slice_get_within (cube_reports n config.ring row cubes placed) k entry at in
-    let bare : Cube = record { name = []; domain = 0; cells = []; ports = [] } in
+    let bare : Cube = record { name = []; domains = record { first = 0; second = None }; cells = []; ports = [] } in
     let cube : Cube = get_or cubes k bare in
     let there : slice_get cubes k ≡ Some cube = slice_get-get_or cubes k bare (let count = reports.count in omega (arith, within, count)) in
     let step = step_at rows.columns row window [] patterns cubes placed places k cube there in

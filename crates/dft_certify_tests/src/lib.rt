@@ -6,4 +6,6 @@ mod certificates;
 #[cfg(test)]
 mod generated;
 #[cfg(test)]
+mod hierarchies;
+#[cfg(test)]
 mod words;

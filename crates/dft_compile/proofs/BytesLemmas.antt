@@ -1,8 +1,9 @@
 -- The bytes of the patterns' text are those that are told before any pattern is made.
-use Rattle.std.proofs.Common.{◌≡◌, ℕ, zero, suc, ◌+◌, ◌*◌, ◌^◌, ◌<◌, ◌≤◌, None, List, [], ◌∷◌, ◌++◌, length, map, refl, sym, subst, ap, ◌∙◌, length-append, arith}
+use Rattle.std.proofs.Common.{◌≡◌, ℕ, zero, suc, ◌+◌, ◌*◌, ◌^◌, ◌<◌, ◌≤◌, Option, None, Some, List, [], ◌∷◌, ◌++◌, length, map, get_or, refl, sym, subst, ap, ◌∙◌, length-append, arith}
 use Rattle.std.specs.List.{All, range_with_len}
 use Rattle.std.proofs.lemmas.Grind.{flat_map-append}
 use Rattle.std.proofs.lemmas.List.{length-map}
+use Rattle.std.proofs.lemmas.List.Sums.{sum_by-cons, sum_by-take-le}
 use Rattle.std.proofs.lemmas.List.Elements.{All-nil, All-cons, All-append}
 use Rattle.std.proofs.Math.Nat.{mul-le-mul_right}
 use Rattle.std.proofs.lemmas.Option.{slice_get-get_or}
@@ -17,10 +18,11 @@ use Rattle.dft_equations.specs.LoadRows.{LoadRows}
 use Rattle.dft_stitch.specs.Chains.{plan_of}
 use Rattle.dft_stitch.specs.Limits.{refusal}
 use Rattle.dft_cubes.specs.declared.cube.Merged.{Merged}
+use Rattle.dft_cubes.specs.Domains.{captures_of, listed}
 use Rattle.dft_expect.specs.Captures.{bits_out, output_bits}
 use Rattle.dft_expect.proofs.VectorLemmas.{outputs_count}
 use Rattle.dft_patterns.specs.declared.notes.Note.{Note}
-use Rattle.dft_patterns.specs.declared.notes.NoteKind.TheVariants.{SetUp, Unload}
+use Rattle.dft_patterns.specs.declared.notes.NoteKind.TheVariants.{SetUp}
 use Rattle.dft_patterns.specs.Steadiness.{HaveLength}
 use Rattle.dft_scan_frame.specs.AddedPorts.{NewPort, new_port, numbered, numbered_ports, ports_from}
 use Rattle.dft_scan_hardware.specs.declared.style.Style.TheVariants.{Edt}
@@ -31,9 +33,9 @@ use Rattle.dft_stil_out.specs.WrittenLength.{written_length}
 use Rattle.dft_stil_out.proofs.LengthLemmas.{written_has_length}
 use Rattle.dft_vectors.specs.PatternData.{PatternData}
 use Rattle.dft_vectors.specs.Signals.{bits_in, input_bits, signal_of, signals_of}
-use Rattle.dft_vectors.specs.VectorList.{first_vector, notes_of, pattern_note, vectors_of}
+use Rattle.dft_vectors.specs.VectorList.{captures_in, first_vector, last_note, notes_of, pattern_note, vectors_for, vectors_of}
 use Rattle.dft_encode.specs.Compiled.{ArePatterns, merged_of}
-use Rattle.dft_encode.specs.Laws.{vectors_in, width}
+use Rattle.dft_encode.specs.Laws.{HasOutputs, vectors_in, width}
 use Rattle.dft_stitch.proofs.ChainLimits.{limits}
 use Rattle.dft_stitch.proofs.LengthLemmas.{some_cycle}
 use Rattle.dft_encode.proofs.WidthLemmas.{vectors_wide}
@@ -145,56 +147,76 @@ signal_count n config =
 abbrev Before : ℕ → Note → Type 0
 Before vectors note = note.before < vectors
 
-pattern_before : (cycles from count all : ℕ) → from + count ≤ all → 1 ≤ cycles → All (Before (1 + all * suc cycles + cycles)) (map (pattern_note cycles) (range_with_len from count))
-pattern_before cycles from zero all fits some = All-nil (Before (1 + all * suc cycles + cycles))
-pattern_before cycles from (suc count) all fits some =
-    All-cons (Before (1 + all * suc cycles + cycles)) (pattern_note cycles from) (map (pattern_note cycles) (range_with_len (from + 1) count))
-    (let within : from ≤ all = omega (arith, fits) in let less : from * suc cycles ≤ all * suc cycles = mul-le-mul_right (suc cycles) within in omega (arith, less, some)) (pattern_before cycles (from + 1) count all (omega (arith, fits)) some)
+-- the vectors of the first patterns are among those of all
+first_before : (cycles : ℕ) (captures : List ℕ) (pattern : ℕ) → 1 ≤ cycles → first_vector cycles captures pattern < 1 + vectors_for cycles captures + cycles
+first_before cycles captures pattern some = let less = sum_by-take-le (λ (count : ℕ). cycles + count) captures pattern in omega (arith, less, some)
 
-notes_before : (cycles patterns : ℕ) → 1 ≤ cycles → All (Before (vectors_in cycles patterns)) (notes_of cycles patterns)
-notes_before cycles zero some = All-nil (Before 0)
-notes_before cycles (suc patterns) some =
-    let Fits = Before (1 + suc patterns * suc cycles + cycles) in
-    let last : Note = record { before = first_vector cycles (suc patterns); what = Unload } in
-    let middle = map (pattern_note cycles) (range_with_len 0 (suc patterns)) in
+pattern_before : (cycles : ℕ) (captures : List ℕ) (from count : ℕ) → 1 ≤ cycles → All (Before (1 + vectors_for cycles captures + cycles)) (map (pattern_note cycles captures) (range_with_len from count))
+pattern_before cycles captures from zero some = All-nil (Before (1 + vectors_for cycles captures + cycles))
+pattern_before cycles captures from (suc count) some =
+    All-cons (Before (1 + vectors_for cycles captures + cycles)) (pattern_note cycles captures from) (map (pattern_note cycles captures) (range_with_len (from + 1) count)) (first_before cycles captures from some)
+    (pattern_before cycles captures (from + 1) count some)
+
+notes_before : (cycles : ℕ) (captures : List ℕ) → 1 ≤ cycles → All (Before (vectors_in cycles captures)) (notes_of cycles captures)
+notes_before cycles [] some = All-nil (Before 0)
+notes_before cycles (count ∷ captures) some =
+    let all : List ℕ = count ∷ captures in
+    let Fits = Before (1 + vectors_for cycles all + cycles) in
+    let last : Note = last_note cycles all in
+    let middle = map (pattern_note cycles all) (range_with_len 0 (length all)) in
     All-cons Fits (record { before = 0; what = SetUp }) (middle ++ last ∷ []) (omega arith)
-    (All-append Fits middle (last ∷ []) (pattern_before cycles 0 (suc patterns) (suc patterns) (omega arith) some) (All-cons Fits last [] (omega (arith, some)) (All-nil Fits)))
+    (All-append Fits middle (last ∷ []) (pattern_before cycles all 0 (length all) some) (All-cons Fits last [] (first_before cycles all (length all) some) (All-nil Fits)))
 
 -- ---- the text
 
--- a pattern captures a value for each bit of the design's outputs
-outputs_fit : (n : Netlist) (config : Config) (rows : LoadRows) (merged : List Merged) (list : List PatternData) → ArePatterns n config (plan_of n config) rows merged list → All (λ p. length p.response.outputs ≡ length (output_bits n.ports)) list
+-- a pattern captures a value for each bit of the design's outputs in each of its vectors
+outputs_fit : (n : Netlist) (config : Config) (rows : LoadRows) (merged : List Merged) (list : List PatternData) → ArePatterns n config (plan_of n config) rows merged list → All (HasOutputs n) list
 outputs_fit n config rows merged list are =
-    λ k d less. outputs_count n config (plan_of n config).chains _ _ _ (are.each k _ (slice_get-get_or list k d less)).captured
-
-pub list_count : (n : Netlist) (config : Config) (rows : LoadRows) (merged : List Merged) (list : List PatternData) → ArePatterns n config (plan_of n config) rows merged list → length list ≡ length merged
-list_count n config rows merged list are = sym (length-map list merged_of) ∙ ap length are.merged
+    λ k d less. outputs_count n config (plan_of n config).chains (get_or list k d).merged _ _ (are.each k _ (slice_get-get_or list k d less)).captured
 
 pub vector_count : (n : Netlist) (config : Config) (rows : LoadRows) (merged : List Merged) (list : List PatternData) → ArePatterns n config (plan_of n config) rows merged list →
-    length (vectors_of n config (plan_of n config) list) ≡ vectors_in (plan_of n config).cycles (length list)
+    length (vectors_of n config (plan_of n config) list) ≡ vectors_in (plan_of n config).cycles (captures_in (map merged_of list))
 vector_count n config rows merged list are = (vectors_wide n config (plan_of n config) list (outputs_fit n config rows merged list are)).1
 
-few_vectors : (cycles patterns : ℕ) → cycles ≤ 4096 → patterns ≤ 65536 → vectors_in cycles patterns < 2 ^ 32
-few_vectors cycles zero short few = omega arith
-few_vectors cycles (suc patterns) short few = let most : suc patterns * suc cycles ≤ 65536 * suc cycles = mul-le-mul_right (suc cycles) few in omega (arith, most, short)
+-- a pattern has few captures
+few_listed : (second : Option ℕ) → length (listed second) ≤ 1
+few_listed None = omega arith
+few_listed (Some clock) = omega arith
+
+few_captures : (merged : Merged) → captures_of merged ≤ 2
+few_captures merged = let few = few_listed merged.domains.second in omega (arith, few)
+
+vectors_most : (cycles : ℕ) (merged : List Merged) → vectors_for cycles (captures_in merged) ≤ length merged * (cycles + 2)
+vectors_most cycles [] = omega arith
+vectors_most cycles (m ∷ merged) =
+    let one = sum_by-cons (λ (count : ℕ). cycles + count) (captures_of m) (captures_in merged) in
+    let more : suc (length merged) * (cycles + 2) ≡ cycles + 2 + length merged * (cycles + 2) = grind arith in
+    omega (arith, one, more, few_captures m, vectors_most cycles merged)
+
+few_vectors : (cycles : ℕ) (merged : List Merged) → cycles ≤ 4096 → length merged ≤ 65536 → vectors_in cycles (captures_in merged) < 2 ^ 32
+few_vectors cycles [] short few = omega arith
+few_vectors cycles (m ∷ merged) short few =
+    let most : length (m ∷ merged) * (cycles + 2) ≤ 65536 * (cycles + 2) = mul-le-mul_right (cycles + 2) few in
+    omega (arith, vectors_most cycles (m ∷ merged), most, short)
 
 -- the vectors can be counted
 pub vectors_few : (n : Netlist) (config : Config) (rows : LoadRows) (merged : List Merged) (list : List PatternData) → refusal n config ≡ None → length merged ≤ 65536 → ArePatterns n config (plan_of n config) rows merged list →
     length (pattern_set n config list).vectors < 2 ^ 32
 vectors_few n config rows merged list fits few are =
-    let count = list_count n config rows merged list are in
-    let least = few_vectors (plan_of n config).cycles (length list) (limits n config fits).0 (omega (arith, count, few)) in
+    let count : length (map merged_of list) ≤ 65536 = subst (λ (m : List Merged). length m ≤ 65536) (sym are.merged) few in
+    let least = few_vectors (plan_of n config).cycles (map merged_of list) (limits n config fits).0 count in
     subst (λ (k : ℕ). k < 2 ^ 32) (sym (vector_count n config rows merged list are)) least
 
 pub bytes_told : BytesAreTold
 bytes_told n config rows merged list range are =
     let plan = plan_of n config in
     let vectors = vectors_of n config plan list in
+    let captures : List ℕ = captures_in (map merged_of list) in
     let signals = signals_of (scanned Edt n config) in
     let wide = vectors_wide n config plan list (outputs_fit n config rows merged list are) in
     let fits : HaveLength (length signals) vectors = subst (λ (k : ℕ). HaveLength k vectors) (signal_count n config) wide.0 in
-    let notes : All (λ note. note.before < length vectors) (notes_of plan.cycles (length list)) =
-    subst (λ (k : ℕ). All (Before k) (notes_of plan.cycles (length list))) (sym wide.1) (notes_before plan.cycles (length list) (some_cycle n config range)) in
+    let notes : All (λ note. note.before < length vectors) (notes_of plan.cycles captures) =
+    subst (λ (k : ℕ). All (Before k) (notes_of plan.cycles captures)) (sym wide.1) (notes_before plan.cycles captures (some_cycle n config range)) in
     written_has_length (pattern_set n config list) fits notes
-    ∙ ap (λ k. written_length signals k (notes_of plan.cycles (length list))) wide.1
-    ∙ ap (pattern_bytes n config) (list_count n config rows merged list are)
+    ∙ ap (λ k. written_length signals k (notes_of plan.cycles captures)) wide.1
+    ∙ ap (pattern_bytes n config) are.merged

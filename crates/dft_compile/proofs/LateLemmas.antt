@@ -7,6 +7,7 @@ use Rattle.dft_netlist.specs.Netlist.{Netlist}
 use Rattle.dft_config.specs.Config.{Config}
 use Rattle.dft_equations.specs.LoadRows.{LoadRows}
 use Rattle.dft_cubes.specs.declared.cube.Cube.{Cube}
+use Rattle.dft_cubes.specs.declared.cube.Merged.{Merged}
 use Rattle.dft_merge.specs.declared.placed.Placed.{Placed}
 use Rattle.dft_stil_tokens.specs.declared.blanks.TheConstants.{MAX_TEXT}
 use Rattle.dft_stil_text.specs.declared.error.StilError.{StilError}
@@ -67,28 +68,28 @@ first_is first more (Patterns error) is = ap (λ (o : Option CompileError). firs
 first_is first more (Report error) is = ap (λ (o : Option CompileError). first_failing (o ∷ more)) is
 first_is first more (Memory error) is = _
 
-pub by_patterns : (n : Netlist) (config : Config) (cubes : List Cube) (rows : LoadRows) (placed : List Placed) (patterns : ℕ) (e : CompileError) → IsRefusal (option_map Patterns (too_many (pattern_bytes n config patterns))) e →
-    IsRefusal (late_refusal n config cubes rows placed patterns) e
-by_patterns n config cubes rows placed patterns e is =
-    first_is (option_map Patterns (too_many (pattern_bytes n config patterns))) (option_map Report (too_long (report_text n config rows cubes placed)) ∷ []) e is
+pub by_patterns : (n : Netlist) (config : Config) (cubes : List Cube) (rows : LoadRows) (placed : List Placed) (merged : List Merged) (e : CompileError) → IsRefusal (option_map Patterns (too_many (pattern_bytes n config merged))) e →
+    IsRefusal (late_refusal n config cubes rows placed merged) e
+by_patterns n config cubes rows placed merged e is =
+    first_is (option_map Patterns (too_many (pattern_bytes n config merged))) (option_map Report (too_long (report_text n config rows cubes placed)) ∷ []) e is
 
-pub by_report : (n : Netlist) (config : Config) (cubes : List Cube) (rows : LoadRows) (placed : List Placed) (patterns : ℕ) (e : CompileError) → pattern_bytes n config patterns ≤ MAX_TEXT →
-    IsRefusal (option_map Report (too_long (report_text n config rows cubes placed))) e → IsRefusal (late_refusal n config cubes rows placed patterns) e
-by_report n config cubes rows placed patterns e short is =
+pub by_report : (n : Netlist) (config : Config) (cubes : List Cube) (rows : LoadRows) (placed : List Placed) (merged : List Merged) (e : CompileError) → pattern_bytes n config merged ≤ MAX_TEXT →
+    IsRefusal (option_map Report (too_long (report_text n config rows cubes placed))) e → IsRefusal (late_refusal n config cubes rows placed merged) e
+by_report n config cubes rows placed merged e short is =
     let checks = option_map Report (too_long (report_text n config rows cubes placed)) ∷ [] in
     let P : Option StilError → Type 0 = λ o. IsRefusal (first_failing (option_map Patterns o ∷ checks)) e in
-    subst P (sym (not_many (pattern_bytes n config patterns) short)) (first_is (option_map Report (too_long (report_text n config rows cubes placed))) [] e is)
+    subst P (sym (not_many (pattern_bytes n config merged) short)) (first_is (option_map Report (too_long (report_text n config rows cubes placed))) [] e is)
 
 -- no check fails
-pub late_passed : (n : Netlist) (config : Config) (cubes : List Cube) (rows : LoadRows) (placed : List Placed) (patterns : ℕ) → pattern_bytes n config patterns ≤ MAX_TEXT → length (report_text n config rows cubes placed) ≤ MAX_BYTES →
-    late_refusal n config cubes rows placed patterns ≡ None
-late_passed n config cubes rows placed patterns short few =
+pub late_passed : (n : Netlist) (config : Config) (cubes : List Cube) (rows : LoadRows) (placed : List Placed) (merged : List Merged) → pattern_bytes n config merged ≤ MAX_TEXT → length (report_text n config rows cubes placed) ≤ MAX_BYTES →
+    late_refusal n config cubes rows placed merged ≡ None
+late_passed n config cubes rows placed merged short few =
     let P : Option StilError → Type 0 = λ o. first_failing (option_map Patterns o ∷ option_map Report (too_long (report_text n config rows cubes placed)) ∷ []) ≡ None in
     let Q : Option ReportError → Type 0 = λ o. first_failing (option_map Report o ∷ []) ≡ None in
-    subst P (sym (not_many (pattern_bytes n config patterns) short)) (subst Q (sym (not_long (length (report_text n config rows cubes placed)) few)) refl)
+    subst P (sym (not_many (pattern_bytes n config merged) short)) (subst Q (sym (not_long (length (report_text n config rows cubes placed)) few)) refl)
 
 -- a refusal of a placement
-pub is_late : (n : Netlist) (config : Config) (cubes : List Cube) (p : Placing config (plan_of n config) cubes) (e : CompileError) → IsRefusal (late_refusal n config cubes p.rows p.placed (length p.merged)) e → IsLate n config cubes e
+pub is_late : (n : Netlist) (config : Config) (cubes : List Cube) (p : Placing config (plan_of n config) cubes) (e : CompileError) → IsRefusal (late_refusal n config cubes p.rows p.placed p.merged) e → IsLate n config cubes e
 is_late n config cubes p (Rules error) is = record { placing = p; first = is }
 is_late n config cubes p (Stitch error) is = record { placing = p; first = is }
 is_late n config cubes p (Insert error) is = record { placing = p; first = is }

@@ -1,5 +1,6 @@
 pub mod RefusalLemmas
 pub mod BytesLemmas
+mod CountLemmas
 pub mod ReportLemmas
 pub mod LateLemmas
 pub mod WorkLemmas

@@ -23,7 +23,7 @@ use Rattle.dft_scan_hardware.specs.declared.style.Style.TheVariants.{Edt}
 use Rattle.dft_scan_hardware.specs.Statements.{scanned}
 use Rattle.dft_stil_out.specs.Written.{noted}
 use Rattle.dft_encode.specs.declared.encoding.Encoded.{Encoded}
-use Rattle.dft_encode.specs.Compiled.{Placing}
+use Rattle.dft_encode.specs.Compiled.{Placing, merged_of}
 use Rattle.dft_encode.specs.Encoding.{IsEncoded}
 use Rattle.dft_encode.specs.Counts.{masked_in}
 use Rattle.dft_compile.specs.declared.texts.CompileTexts.{CompileTexts}
@@ -34,7 +34,7 @@ use Rattle.dft_compile.specs.Compilation.{AreTextsOf, IsCompileOf, IsPatternText
 use Rattle.dft_compile.specs.Refusals.{IsLate, IsRefusal, late_refusal, pattern_bytes}
 use Rattle.dft_compile.specs.Reports.{compile_report}
 use Rattle.dft_compile.specs.Texts.{counts_by, counts_of, netlist_text, report_text}
-use Rattle.dft_compile.proofs.BytesLemmas.{bytes_told, list_count, vector_count, vectors_few}
+use Rattle.dft_compile.proofs.BytesLemmas.{bytes_told, vector_count, vectors_few}
 use Rattle.dft_compile.proofs.LateLemmas.{is_late, late_passed}
 
 -- ---- placements
@@ -57,26 +57,26 @@ places_of l m cubes placed new planned is places =
 
 -- the patterns' text is short enough, where its bytes as they are told are few enough
 pub short_text : (n : Netlist) (config : Config) (made : Netlist) (plan : Plan) (rows : LoadRows) (merged : List Merged) (e : Encoded) → IsInRange config → made ≡ scanned Edt n config → plan ≡ plan_of n config → IsEncoded made n config plan rows merged e →
-    pattern_bytes n config (length merged) ≤ MAX_TEXT → length (noted e.set) ≤ MAX_TEXT
+    pattern_bytes n config merged ≤ MAX_TEXT → length (noted e.set) ≤ MAX_TEXT
 short_text n config made plan rows merged e range is planned h short =
     let g : IsEncoded (scanned Edt n config) n config (plan_of n config) rows merged e =
     subst (λ (p : Plan). IsEncoded (scanned Edt n config) n config p rows merged e) planned (subst (λ (w : Netlist). IsEncoded w n config plan rows merged e) is h) in
-    let bytes : length (noted e.set) ≡ pattern_bytes n config (length merged) = ap (λ (p : Patterns). length (noted p)) g.set ∙ bytes_told n config rows merged g.list range g.are in
+    let bytes : length (noted e.set) ≡ pattern_bytes n config merged = ap (λ (p : Patterns). length (noted p)) g.set ∙ bytes_told n config rows merged g.list range g.are in
     omega (arith, bytes, short)
 
-counts_are : (n : Netlist) (config : Config) (rows : LoadRows) (placed : List Placed) (merged : List Merged) (p : PatternText) (h : IsPatternText n config rows merged p) → counts_by n config placed (length merged) p.masked ≡ counts_of n config placed h.list
+counts_are : (n : Netlist) (config : Config) (rows : LoadRows) (placed : List Placed) (merged : List Merged) (p : PatternText) (h : IsPatternText n config rows merged p) → counts_by n config placed merged p.masked ≡ counts_of n config placed h.list
 counts_are n config rows placed merged p h =
     let list = h.list in
-    let by : ℕ → ℕ → Counts = counts_by n config placed in
-    ap (λ k. by k p.masked) (sym (list_count n config rows merged list h.are))
-    ∙ ap (by (length list)) h.masked
-    ∙ ap (λ (v : ℕ). record (by (length list) (masked_in list)) { vectors = v }) (sym (vector_count n config rows merged list h.are))
+    let by : List Merged → ℕ → Counts = counts_by n config placed in
+    ap (λ (m : List Merged). by m p.masked) (sym h.are.merged)
+    ∙ ap (by (map merged_of list)) h.masked
+    ∙ ap (λ (v : ℕ). record (by (map merged_of list) (masked_in list)) { vectors = v }) (sym (vector_count n config rows merged list h.are))
 
-pub are_texts : (n : Netlist) (config : Config) (cubes : List Cube) (rows : LoadRows) (placed : List Placed) (merged : List Merged) (t : CompileTexts) (p : PatternText) → (fits : refusal n config ≡ None) → (count : length merged ≤ 65536) → (short : pattern_bytes n config (length merged) ≤ MAX_TEXT) → (few : length (report_text n config rows cubes placed) ≤ MAX_BYTES) →
-    IsPatternText n config rows merged p → (netlist : t.netlist.items ≡ netlist_text n config) → (patterns : t.patterns.items ≡ p.text.items) → (report : t.report.items ≡ report_text n config rows cubes placed) → (counts : t.counts ≡ counts_by n config placed (length merged) p.masked) →
+pub are_texts : (n : Netlist) (config : Config) (cubes : List Cube) (rows : LoadRows) (placed : List Placed) (merged : List Merged) (t : CompileTexts) (p : PatternText) → (fits : refusal n config ≡ None) → (count : length merged ≤ 65536) → (short : pattern_bytes n config merged ≤ MAX_TEXT) → (few : length (report_text n config rows cubes placed) ≤ MAX_BYTES) →
+    IsPatternText n config rows merged p → (netlist : t.netlist.items ≡ netlist_text n config) → (patterns : t.patterns.items ≡ p.text.items) → (report : t.report.items ≡ report_text n config rows cubes placed) → (counts : t.counts ≡ counts_by n config placed merged p.masked) →
     AreTextsOf n config cubes rows placed merged t
 are_texts n config cubes rows placed merged t p fits count short few h netlist patterns report counts = record {
-  accepted = late_passed n config cubes rows placed (length merged) short few;
+  accepted = late_passed n config cubes rows placed merged short few;
   list = h.list;
   are = h.are;
   few = vectors_few n config rows merged h.list fits count h.are;
@@ -129,11 +129,11 @@ compiled_of n config cubes rows placed merged t p told h =
     }
 
 -- refusals behind a placement are late ones
-pub refused_of : (n : Netlist) (config : Config) (cubes : List Cube) (rows : LoadRows) (placed : List Placed) (merged : List Merged) (e : CompileError) → IsPlaced n config cubes rows placed merged → IsRefusal (late_refusal n config cubes rows placed (length merged)) e →
+pub refused_of : (n : Netlist) (config : Config) (cubes : List Cube) (rows : LoadRows) (placed : List Placed) (merged : List Merged) (e : CompileError) → IsPlaced n config cubes rows placed merged → IsRefusal (late_refusal n config cubes rows placed merged) e →
     IsLate n config cubes e
 refused_of n config cubes rows placed merged e p h =
     let q = p.placing in
     is_late n config cubes q e
-    (subst (λ (x : LoadRows). IsRefusal (late_refusal n config cubes x q.placed (length q.merged)) e) (sym p.rows_are)
-    (subst (λ (x : List Placed). IsRefusal (late_refusal n config cubes rows x (length q.merged)) e) (sym p.placed_are)
-    (subst (λ (x : List Merged). IsRefusal (late_refusal n config cubes rows placed (length x)) e) (sym p.merged_are) h)))
+    (subst (λ (x : LoadRows). IsRefusal (late_refusal n config cubes x q.placed q.merged) e) (sym p.rows_are)
+    (subst (λ (x : List Placed). IsRefusal (late_refusal n config cubes rows x q.merged) e) (sym p.placed_are)
+    (subst (λ (x : List Merged). IsRefusal (late_refusal n config cubes rows placed x) e) (sym p.merged_are) h)))

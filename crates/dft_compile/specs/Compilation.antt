@@ -21,7 +21,7 @@ use Rattle.dft_compile.specs.Texts.{counts_of, netlist_text, pattern_set, patter
 -- the texts and the counts where this became of the cubes, and they are merged so: no check refuses them, and the patterns are those of the
 -- merged cubes, whose vectors can be counted
 pub record AreTextsOf (n : Netlist) (config : Config) (cubes : List Cube) (rows : LoadRows) (placed : List Placed) (merged : List Merged) (t : CompileTexts) : Type 0 where
-  pub accepted : late_refusal n config cubes rows placed (length merged) ≡ None
+  pub accepted : late_refusal n config cubes rows placed merged ≡ None
   pub list : List PatternData
   pub are : ArePatterns n config (plan_of n config) rows merged list
   pub few : length (pattern_set n config list).vectors < 2 ^ 32

@@ -15,4 +15,4 @@ use Rattle.dft_compile.specs.Texts.{pattern_text}
 abbrev pub BytesAreTold : Type 0
 BytesAreTold =
     (n : Netlist) (config : Config) (rows : LoadRows) (merged : List Merged) (list : List PatternData) → IsInRange config → ArePatterns n config (plan_of n config) rows merged list →
-    length (pattern_text n config list) ≡ pattern_bytes n config (length merged)
+    length (pattern_text n config list) ≡ pattern_bytes n config merged

@@ -21,7 +21,8 @@ use Rattle.dft_report.specs.declared.error.ReportError.{ReportError}
 use Rattle.dft_report.specs.declared.error.ReportError.TheVariants.{K6}
 use Rattle.dft_report.specs.declared.limits.TheConstants.{MAX_BYTES}
 use Rattle.dft_vectors.specs.Signals.{signals_of}
-use Rattle.dft_vectors.specs.VectorList.{notes_of}
+use Rattle.dft_cubes.specs.declared.cube.Merged.{Merged}
+use Rattle.dft_vectors.specs.VectorList.{captures_in, notes_of}
 use Rattle.dft_encode.specs.Compiled.{Placing}
 use Rattle.dft_encode.specs.Laws.{vectors_in}
 use Rattle.dft_compile.specs.declared.error.CompileError.{CompileError}
@@ -57,12 +58,12 @@ IsRefusal refused (Memory error) = Unit {0}
 
 -- ---- behind the cubes
 
--- the bytes of the text of so many patterns in the signals of this netlist, which are told before any pattern is made
-abbrev pub set_bytes : (written : Netlist) → (cycles patterns : ℕ) → ℕ
-set_bytes written cycles patterns = written_length (signals_of written) (vectors_in cycles patterns) (notes_of cycles patterns)
+-- the bytes of the text of patterns with so many captures each in the signals of this netlist, which are told before any pattern is made
+abbrev pub set_bytes : (written : Netlist) → (cycles : ℕ) → (captures : List ℕ) → ℕ
+set_bytes written cycles captures = written_length (signals_of written) (vectors_in cycles captures) (notes_of cycles captures)
 
-abbrev pub pattern_bytes : Netlist → Config → (patterns : ℕ) → ℕ
-pattern_bytes n config patterns = set_bytes (scanned Edt n config) (plan_of n config).cycles patterns
+abbrev pub pattern_bytes : Netlist → Config → List Merged → ℕ
+pattern_bytes n config merged = set_bytes (scanned Edt n config) (plan_of n config).cycles (captures_in merged)
 
 -- a pattern text of so many bytes is too long
 abbrev pub too_many : (bytes : ℕ) → Option StilError
@@ -75,18 +76,18 @@ of_length bytes = if nat_lt MAX_BYTES bytes then Some (K6 (pos bytes)) else None
 abbrev pub too_long : Text → Option ReportError
 too_long text = of_length (length text)
 
--- the checks where this became of the cubes, and there are so many patterns
-abbrev pub late_checks : Netlist → Config → List Cube → LoadRows → List Placed → (patterns : ℕ) → List (Option CompileError)
-late_checks n config cubes rows placed patterns =
-    option_map Patterns (too_many (pattern_bytes n config patterns)) ∷ option_map Report (too_long (report_text n config rows cubes placed)) ∷ []
+-- the checks where this became of the cubes, and these are their patterns
+abbrev pub late_checks : Netlist → Config → List Cube → LoadRows → List Placed → List Merged → List (Option CompileError)
+late_checks n config cubes rows placed merged =
+    option_map Patterns (too_many (pattern_bytes n config merged)) ∷ option_map Report (too_long (report_text n config rows cubes placed)) ∷ []
 
-abbrev pub late_refusal : Netlist → Config → List Cube → LoadRows → List Placed → (patterns : ℕ) → Option CompileError
-late_refusal n config cubes rows placed patterns = first_failing (late_checks n config cubes rows placed patterns)
+abbrev pub late_refusal : Netlist → Config → List Cube → LoadRows → List Placed → List Merged → Option CompileError
+late_refusal n config cubes rows placed merged = first_failing (late_checks n config cubes rows placed merged)
 
 -- the placement of the cubes is refused so
 pub record IsRefusedLate (n : Netlist) (config : Config) (cubes : List Cube) (error : CompileError) : Type 0 where
   pub placing : Placing config (plan_of n config) cubes
-  pub first : late_refusal n config cubes placing.rows placing.placed (length placing.merged) ≡ Some error
+  pub first : late_refusal n config cubes placing.rows placing.placed placing.merged ≡ Some error
 
 -- the error is that refusal, but for want of memory
 abbrev pub IsLate : Netlist → Config → List Cube → CompileError → Type 0

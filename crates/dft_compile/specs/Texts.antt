@@ -1,5 +1,5 @@
 -- The texts of a compilation, and what is counted.
-use Rattle.std.specs.Prelude.{ℕ, Bool, true, false, List, length, count_by}
+use Rattle.std.specs.Prelude.{ℕ, Bool, true, false, List, length, map, count_by}
 use Rattle.dft_base.specs.Lexing.{Text}
 use Rattle.dft_netlist.specs.Netlist.{Netlist}
 use Rattle.dft_config.specs.Config.{Config}
@@ -7,6 +7,7 @@ use Rattle.dft_rules.specs.Rules.{judgements}
 use Rattle.dft_stitch.specs.Chains.{plan_of}
 use Rattle.dft_equations.specs.LoadRows.{LoadRows}
 use Rattle.dft_cubes.specs.declared.cube.Cube.{Cube}
+use Rattle.dft_cubes.specs.declared.cube.Merged.{Merged}
 use Rattle.dft_merge.specs.declared.placed.Placed.{Placed}
 use Rattle.dft_merge.specs.declared.placed.Placed.TheVariants.{Into, Unsolvable, Skipped}
 use Rattle.dft_merge.specs.Rows.{cell_row}
@@ -17,8 +18,8 @@ use Rattle.dft_verilog_out.specs.Written as netlist
 use Rattle.dft_scan.specs.Reports.{scanned_count}
 use Rattle.dft_scan_hardware.specs.declared.style.Style.TheVariants.{Edt}
 use Rattle.dft_scan_hardware.specs.Statements.{scanned}
-use Rattle.dft_vectors.specs.PatternData.{PatternData}
-use Rattle.dft_vectors.specs.VectorList.{patterns_of}
+use Rattle.dft_vectors.specs.PatternData.{PatternData, merged_of}
+use Rattle.dft_vectors.specs.VectorList.{captures_in, patterns_of}
 use Rattle.dft_encode.specs.Counts.{masked_in}
 use Rattle.dft_encode.specs.Laws.{vectors_in}
 use Rattle.dft_compile.specs.declared.texts.Counts.{Counts}
@@ -59,20 +60,20 @@ is_skipped (Into pattern) = false
 is_skipped (Unsolvable positions) = false
 is_skipped (Skipped cell) = true
 
--- what is counted, where this became of the cubes, there are so many patterns, and so many chains are masked in them
-abbrev pub counts_by : Netlist → Config → List Placed → (patterns masked : ℕ) → Counts
-counts_by n config placed patterns masked = record {
+-- what is counted, where this became of the cubes, these are their patterns, and so many chains are masked in them
+abbrev pub counts_by : Netlist → Config → List Placed → List Merged → (masked : ℕ) → Counts
+counts_by n config placed merged masked = record {
   cells = scanned_count (judgements n config);
   chains = length (plan_of n config).chains;
   cycles = (plan_of n config).cycles;
-  patterns = patterns;
+  patterns = length merged;
   encoded = count_by is_encoded placed;
   unsolvable = count_by is_unsolvable placed;
   skipped = count_by is_skipped placed;
   masked = masked;
-  vectors = vectors_in (plan_of n config).cycles patterns;
+  vectors = vectors_in (plan_of n config).cycles (captures_in merged);
 }
 
 -- the same of these patterns; a masked chain counts once for each pattern, and the vectors are those of the pattern set
 abbrev pub counts_of : Netlist → Config → List Placed → List PatternData → Counts
-counts_of n config placed list = record (counts_by n config placed (length list) (masked_in list)) { vectors = length (pattern_set n config list).vectors }
+counts_of n config placed list = record (counts_by n config placed (map merged_of list) (masked_in list)) { vectors = length (pattern_set n config list).vectors }

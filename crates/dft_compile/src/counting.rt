@@ -1,9 +1,11 @@
 //! What is counted of a compilation.
 
 ghost use Rattle.std.specs.Prelude.{◌≡◌, ◌≤◌, ◌+◌, length, count_by};
+ghost use Rattle.dft_vectors.specs.VectorList.{captures_in};
 ghost use Rattle.dft_encode.specs.Laws as laws;
 ghost use Rattle.dft_compile.specs.Texts as spec;
 
+use dft_cubes::Merged;
 use dft_merge::Placed;
 
 // How many cubes a pattern loads, no channel bits load, and are skipped.
@@ -36,13 +38,19 @@ pub(crate) fn fates_of(placed: &[Placed]) -> Fates
     fates
 }
 
-// How many vectors so many patterns take.
-pub(crate) fn vectors_in(cycles: u16, patterns: u32) -> u64
-    requires { patterns ≤ 65536 }
-    ensures { result ≡ laws.vectors_in cycles patterns }
+// How many vectors patterns take.
+pub(crate) fn vectors_in(cycles: u16, patterns: &[Merged]) -> u64
+    requires cycles { cycles ≤ 4096 }
+    requires patterns { length patterns.now ≤ 65536 }
+    ensures { result ≡ laws.vectors_in cycles (captures_in patterns.now) }
 {
-    if patterns == 0 {
+    if patterns.is_empty() {
         return 0;
     }
-    1 + u64::from(patterns) * (u64::from(cycles) + 1) + u64::from(cycles)
+    let mut vectors = 1 + u64::from(cycles);
+    for pattern in 0..patterns.len() {
+        let captures = patterns[pattern].domains.count();
+        vectors += u64::from(cycles) + u64::from(captures);
+    }
+    vectors
 }

@@ -39,13 +39,12 @@ impl<'a> Work<'a> {
     // Refuses patterns whose text would be longer than its limit.
     fn check_patterns(&self) -> Result<(), CompileError>
         requires { IsWork self.now }
-        ensures accepted { OnOk result (pattern_bytes self.now.loads.now.design self.now.loads.now.config (length self.now.merger.now.patterns) ≤ MAX_TEXT) }
-        ensures refused { IfErr result (IsRefusal (option_map CompileError.Patterns (too_many (pattern_bytes self.now.loads.now.design self.now.loads.now.config (length self.now.merger.now.patterns))))) }
+        ensures accepted { OnOk result (pattern_bytes self.now.loads.now.design self.now.loads.now.config self.now.merger.now.patterns ≤ MAX_TEXT) }
+        ensures refused { IfErr result (IsRefusal (option_map CompileError.Patterns (too_many (pattern_bytes self.now.loads.now.design self.now.loads.now.config self.now.merger.now.patterns)))) }
     {
-        let patterns = self.merger.patterns().len() as u32;
         self.loads.soundness();
         let cycles = self.loads.chains().cycles();
-        check_length(self.alloc, self.scanned, cycles, patterns)
+        check_length(self.alloc, self.scanned, cycles, self.merger.patterns())
     }
 
     // The text of the report.
@@ -71,18 +70,18 @@ impl<'a> Work<'a> {
     // What is counted, where so many chains are masked.
     fn counts(&self, masked: u64) -> Counts
         requires { IsWork self.now }
-        ensures { result ≡ counts_by self.now.loads.now.design self.now.loads.now.config self.now.placed.now (length self.now.merger.now.patterns) masked }
+        ensures { result ≡ counts_by self.now.loads.now.design self.now.loads.now.config self.now.placed.now self.now.merger.now.patterns masked }
     {
         self.loads.soundness();
         let chains = self.loads.chains();
         let instances = self.loads.design().instances().len() as u32;
-        let patterns = self.merger.patterns().len() as u32;
+        let patterns = self.merger.patterns();
         let fates = fates_of(self.placed);
         Counts {
             cells: counts_of(instances, self.loads.verdicts(), chains).cells,
             chains: u32::from(chains.count()),
             cycles: u32::from(chains.cycles()),
-            patterns,
+            patterns: patterns.len() as u32,
             encoded: fates.encoded,
             unsolvable: fates.unsolvable,
             skipped: fates.skipped,
@@ -97,7 +96,7 @@ impl<'a> Work<'a> {
         requires { IsWork self.now }
         ensures texts { IfOk result (AreTextsOf self.now.loads.now.design self.now.loads.now.config self.now.cubes.now self.now.loads.now.rows self.now.placed.now self.now.merger.now.patterns) }
         ensures reads { IfOk result (λ t. StandsFor self.now.loads.now.design.library t.netlist.items (scanned Edt self.now.loads.now.design self.now.loads.now.config)) }
-        ensures refused { IfErr result (IsRefusal (late_refusal self.now.loads.now.design self.now.loads.now.config self.now.cubes.now self.now.loads.now.rows self.now.placed.now (length self.now.merger.now.patterns))) }
+        ensures refused { IfErr result (IsRefusal (late_refusal self.now.loads.now.design self.now.loads.now.config self.now.cubes.now self.now.loads.now.rows self.now.placed.now self.now.merger.now.patterns)) }
     {
         self.check_patterns()?;
         let report = self.report()?;

@@ -28,7 +28,7 @@ pub(crate) fn pattern_text(
 ) -> Result<PatternText, CompileError>
     requires scanned { scanned.now ≡ written Edt merger.now.loads.design merger.now.loads.config }
     requires few { length merger.now.patterns ≤ 65536 }
-    requires short { pattern_bytes merger.now.loads.design merger.now.loads.config (length merger.now.patterns) ≤ MAX_TEXT }
+    requires short { pattern_bytes merger.now.loads.design merger.now.loads.config merger.now.patterns ≤ MAX_TEXT }
     ensures text { IfOk result (IsPatternText merger.now.loads.design merger.now.loads.config merger.now.loads.rows merger.now.patterns) }
     ensures memory { IfErr result (IsRefusal None) }
 {

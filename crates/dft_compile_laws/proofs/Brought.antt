@@ -1,5 +1,5 @@
 -- Cubes that were placed in patterns are loaded and captured.
-use Rattle.std.proofs.Common.{ℕ, zero, suc, ◌≡◌, ◌==◌, Bool, true, false, List, [], ◌∷◌, map, Option, None, Some, option_map, slice_get, refl, sym, ap, arith, ◌∙◌}
+use Rattle.std.proofs.Common.{ℕ, zero, suc, ◌≡◌, ◌==◌, Bool, true, false, List, [], ◌∷◌, map, Option, None, Some, option_map, slice_get, refl, sym, subst, ap, arith, ◌∙◌}
 use Rattle.std.specs.Prelude.{if◌then◌else◌}
 use Rattle.std.proofs.lemmas.Bool.{eq-eqb, eqb-true}
 use Rattle.std.proofs.lemmas.Option.{none-some, same_Some, slice_get-map}
@@ -9,23 +9,24 @@ use Rattle.dft_netlist.specs.Netlist.{Netlist}
 use Rattle.dft_netlist.specs.Runs.{Vector}
 use Rattle.dft_config.specs.Config.{Config}
 use Rattle.dft_equations.specs.LoadRows.{LoadRows}
-use Rattle.dft_rules.specs.Rules.{is_net}
 use Rattle.dft_cubes.specs.declared.cube.Cube.{Cube}
+use Rattle.dft_cubes.specs.declared.cube.Domains.{Domains}
 use Rattle.dft_cubes.specs.declared.cube.Merged.{Merged}
-use Rattle.dft_expect.specs.Captures.{bit_of_port, capture_clock, capture_vector, port_value}
+use Rattle.dft_cubes.specs.Domains.{captured, later_of}
+use Rattle.dft_expect.specs.Captures.{bit_of_port, port_value, vector_of}
 use Rattle.dft_merge.specs.declared.placed.Placed.{Placed}
 use Rattle.dft_merge.specs.declared.placed.Placed.TheVariants.{Into}
 use Rattle.dft_merge.specs.Placement.{Loads}
 use Rattle.dft_merge.specs.Staying.{IsIn, IsMerged}
 use Rattle.dft_merge.proofs.MergedLemmas.{patterns_sound}
 use Rattle.dft_merge.proofs.StayLemmas.{cubes_stay}
-use Rattle.dft_pattern_behavior.specs.Given.{IsCaptureOf}
+use Rattle.dft_pattern_behavior.specs.Given.{AreCapturesFrom, IsCaptureOf}
 use Rattle.dft_pattern_behavior.proofs.Clocks.{pulsed_rests}
 use Rattle.dft_vectors.specs.PatternData.{PatternData}
 use Rattle.dft_pattern_behavior.specs.Listed.{pattern_of}
 use Rattle.dft_load_laws.specs.Loading.{rows_of}
 use Rattle.dft_load_laws.proofs.Bringing.{bits_load}
-use Rattle.dft_compile_laws.specs.Bringing.{AreCompiled, CapturesCube, CubesAreCaptured, CubesAreLoaded, merged_of}
+use Rattle.dft_compile_laws.specs.Bringing.{AreCompiled, CaptureInTurn, CapturesCube, CubesAreCaptured, CubesAreLoaded, merged_of}
 use Rattle.dft_compile_laws.proofs.Played.{patterns_play}
 use Rattle.dft_compile_laws.proofs.Turns.{runs_load}
 
@@ -76,27 +77,43 @@ port_bit (x ∷ ports) once (suc j) given at =
     later_port x given.0.0 given.1 (bit_of_port ports given.0.0) (x.0.0 == given.0.0) refl (λ same. (let e = once zero (suc j) x given refl at same in omega (arith, e)))
     (port_bit ports (λ i k a b at_i at_k same. (let e = once (suc i) (suc k) a b at_i at_k same in omega (arith, e))) j given at)
 
--- the capture of a sound pattern captures for a cube that it holds
-captures_cube : (n : Netlist) (config : Config) (rows : LoadRows) (patterns : List PatternData) (p : ℕ) (cube : Cube) (f : Found n config rows patterns p cube) (x : Vector) → IsMerged n config f.it.pattern → IsCaptureOf n config (pattern_of config f.pattern) x →
-    CapturesCube n config cube x
-captures_cube n config rows patterns p cube f x sound captures = record {
+-- a capture vector of a sound pattern captures for a cube that it holds
+captures_cube : (n : Netlist) (config : Config) (rows : LoadRows) (patterns : List PatternData) (p : ℕ) (cube : Cube) (f : Found n config rows patterns p cube) (domain : ℕ) (x : Vector) → IsMerged n config f.it.pattern → IsCaptureOf n config (pattern_of config f.pattern) domain x →
+    CapturesCube n config cube domain x
+captures_cube n config rows patterns p cube f domain x sound captures = record {
   off = captures.off;
   ports = λ k given there. (
       let place = f.it.holds.ports k given there in
       let net : ℕ = given.0.0 in
       let here : slice_get f.pattern.merged.ports place.0 ≡ Some given = ap (λ (m : Merged). slice_get m.ports place.0) f.same ∙ place.1 in
       let bit : bit_of_port f.it.pattern.ports net ≡ Some given.1 = port_bit f.it.pattern.ports sound.ports.once place.0 given place.1 in
-      let rests : (capture_vector n config f.pattern.merged).pulsed net ≡ false = pulsed_rests n config net f.pattern.merged.domain (sound.ports.no_clock place.0 given place.1) in
+      let rests : (vector_of n config f.pattern.merged domain).pulsed net ≡ false = pulsed_rests n config net domain (sound.ports.no_clock place.0 given place.1) in
       captures.ports net (sound.ports.input place.0 given place.1) rests
       ∙ ap (λ (r : Bool). port_value r (bit_of_port f.pattern.merged.ports net)) (sound.ports.no_reset place.0 given place.1)
       ∙ ap (λ (m : Merged). port_value false (bit_of_port m.ports net)) f.same
       ∙ ap (port_value false) bit);
-  clock = λ e. captures.pulsed e ∙ ap (λ (domain : ℕ). is_net e (capture_clock n config domain)) (ap (λ (m : Merged). m.domain) f.same ∙ f.it.holds.domain);
+  clock = λ e. captures.pulsed e;
 }
+
+-- so do all of them, each one
+capture_in_turn : (n : Netlist) (config : Config) (rows : LoadRows) (patterns : List PatternData) (p : ℕ) (cube : Cube) (f : Found n config rows patterns p cube) (domain : ℕ) (later : List ℕ) (xs : List Vector) → IsMerged n config f.it.pattern →
+    AreCapturesFrom n config (pattern_of config f.pattern) domain later xs → CaptureInTurn n config cube (domain ∷ later) xs
+capture_in_turn n config rows patterns p cube f domain [] [] sound are = absurd are
+capture_in_turn n config rows patterns p cube f domain [] (x ∷ y ∷ xs) sound are = absurd are
+capture_in_turn n config rows patterns p cube f domain [] (x ∷ []) sound are = (captures_cube n config rows patterns p cube f domain x sound are.0, tt)
+capture_in_turn n config rows patterns p cube f domain (next ∷ later) [] sound are = absurd are
+capture_in_turn n config rows patterns p cube f domain (next ∷ later) (x ∷ xs) sound are =
+    (captures_cube n config rows patterns p cube f domain x sound are.0, capture_in_turn n config rows patterns p cube f next later xs sound are.2)
 
 pub cubes_captured : CubesAreCaptured
 cubes_captured n config rows window cubes placed patterns xs ready sound are does c p cube at word =
     let f = found n config rows window cubes placed patterns are c p cube at word in
     let merged = patterns_sound n config rows.columns (rows_of n config rows) window cubes placed (map merged_of patterns) sound are.places p f.it.pattern f.it.is in
     let played = patterns_play n config patterns xs ready does p f.pattern f.at in
-    (played.capture, played.at, captures_cube n config rows patterns p cube f played.capture merged played.captures)
+    let own : Domains = f.pattern.merged.domains in
+    let same : own ≡ cube.domains = ap (λ (m : Merged). m.domains) f.same ∙ f.it.holds.domains in
+    record {
+      captures = played.captures;
+      at = played.at;
+      each = subst (λ (d : Domains). CaptureInTurn n config cube (captured d) played.captures) same (capture_in_turn n config rows patterns p cube f own.first (later_of own) played.captures merged played.captured);
+    }

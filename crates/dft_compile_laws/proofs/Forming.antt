@@ -15,13 +15,14 @@ use Rattle.dft_vectors.specs.VectorList.{vectors_of}
 use Rattle.dft_pattern_behavior.specs.Listed.{ArePatterns}
 use Rattle.dft_compile_laws.specs.Formed.{GiveNoClock, WrittenFormed}
 use Rattle.dft_compile_laws.specs.Passing.{set_of}
-use Rattle.dft_compile_laws.proofs.Full.{HasWidth, each_all, each_fits, each_full}
+use Rattle.dft_encode.specs.Laws.{HasOutputs}
+use Rattle.dft_compile_laws.proofs.Full.{each_all, each_fits, each_full}
 use Rattle.dft_compile_laws.proofs.Naming.{outputs_leave, signals_quoted, signals_unlike, some_input}
 use Rattle.dft_compile_laws.proofs.Quoting.{quotable_bits}
 use Rattle.dft_compile_laws.proofs.Shown.{outputs_width}
 use Rattle.dft_compile_laws.proofs.Steady.{Gives, steady}
 
-each_wide : (n : Netlist) (config : Config) (ps : List PatternData) → ArePatterns n config ps → Each (HasWidth n config) ps
+each_wide : (n : Netlist) (config : Config) (ps : List PatternData) → ArePatterns n config ps → Each (HasOutputs n) ps
 each_wide n config [] are = tt
 each_wide n config (p ∷ ps) are = (outputs_width n config p are.0, each_wide n config ps are.1)
 

@@ -1,7 +1,7 @@
 -- Each listed vector sets each input and compares, or passes over, each output.
-use Rattle.std.proofs.Common.{ℕ, zero, suc, ◌+◌, ◌≡◌, Bool, true, false, List, [], ◌∷◌, ◌++◌, length, map, Option, None, Some, sym, ap, subst, arith, ◌∙◌}
+use Rattle.std.proofs.Common.{ℕ, zero, suc, ◌+◌, ◌≡◌, Bool, true, false, ◌*◌, List, [], ◌∷◌, ◌++◌, length, map, take, drop, Option, None, Some, sym, ap, subst, arith, ◌∙◌}
 use Rattle.std.specs.List.{All, AllZip, range_with_len}
-use Rattle.std.proofs.lemmas.List.{map-append}
+use Rattle.std.proofs.lemmas.List.{length-drop, length-take-le, map-append}
 use Rattle.std.proofs.lemmas.List.Elements.{All-cons, All-nil}
 use Rattle.dft_merge.proofs.EquationLemmas.{Each, each_join}
 use Rattle.dft_base.specs.declared.dir.Dir.TheVariants as dir
@@ -10,6 +10,8 @@ use Rattle.dft_base.specs.declared.tri.Tri.TheVariants.{Zero, One, Unknown}
 use Rattle.dft_netlist.specs.declared.ids.NetId.{NetId}
 use Rattle.dft_netlist.specs.NetNumbers.{nets_from}
 use Rattle.dft_netlist.specs.Netlist.{Netlist}
+use Rattle.dft_cubes.specs.declared.cube.Merged.{Merged}
+use Rattle.dft_cubes.specs.Domains.{later_of}
 use Rattle.dft_config.specs.Config.{Config}
 use Rattle.dft_config.specs.Ring.{Table}
 use Rattle.dft_stitch.specs.Chains.{plan_of}
@@ -24,10 +26,13 @@ use Rattle.dft_patterns.specs.declared.act.Act.TheVariants.{Unset, Low, High, Pu
 use Rattle.dft_patterns.specs.declared.signal.StilSignal.{StilSignal}
 use Rattle.dft_scan_hardware.specs.declared.style.Style.TheVariants.{Edt}
 use Rattle.dft_scan_hardware.specs.Statements.{scanned}
+use Rattle.dft_vectors.specs.AddedPorts.{added_inputs, no_bits}
 use Rattle.dft_vectors.specs.OwnPorts.{compare, expect, ignored, outputs_ignored}
 use Rattle.dft_vectors.specs.PatternData.{PatternData, load_of}
 use Rattle.dft_vectors.specs.Signals.{input_bits, signal_of, signals_of}
-use Rattle.dft_vectors.specs.VectorList.{capture_acts, load_vectors, no_table, last_of, pattern_vectors, set_up_acts, shift_acts, unloaded, vectors_of}
+use Rattle.dft_vectors.specs.VectorList.{capture_acts, capture_with, captures_with, load_vectors, no_table, last_of, pattern_vectors, set_up_acts, shift_acts, unloaded, vectors_of}
+use Rattle.dft_encode.specs.Laws.{HasOutputs}
+use Rattle.dft_encode.proofs.WidthLemmas.{last_left, one_left}
 use Rattle.dft_compile_laws.proofs.OutPlaces.{added_outs, all_outputs, outs_start}
 use Rattle.dft_compile_laws.proofs.Rows.{Sets}
 use Rattle.dft_compile_laws.proofs.Sides.{by_capture, by_set_up, by_shift}
@@ -48,16 +53,26 @@ each_from : (P : List Act → Type 0) (f : ℕ → List Act) (from count : ℕ) 
 each_from P f from zero h = tt
 each_from P f from (suc count) h = (h from, each_from P f (from + 1) count h)
 
+-- what holds of each capture vector that compares as many values as there are output bits holds of all those of a pattern
+pub captures_each : (n : Netlist) (config : Config) (merged : Merged) (P : List Act → Type 0) →
+    ((domain : ℕ) (pulse update : Bool) (outputs : List Tri) → length outputs ≡ length (output_bits n.ports) → P (capture_with n config merged domain (added_inputs config false pulse update no_bits no_bits) outputs)) →
+    (domain : ℕ) (later : List ℕ) (outputs : List Tri) → length outputs ≡ suc (length later) * length (output_bits n.ports) → Each P (captures_with n config merged domain later outputs)
+captures_each n config merged P one domain [] outputs fits = (one domain true true outputs (last_left (length outputs) (length (output_bits n.ports)) fits), tt)
+captures_each n config merged P one domain (next ∷ later) outputs fits =
+    let own : ℕ = length (output_bits n.ports) in
+    let left = one_left (length outputs) own (length later) fits in
+    (one domain false false (take own outputs) (length-take-le own outputs left.0), captures_each n config merged P one next later (drop own outputs) (length-drop own outputs ∙ left.1))
+
 -- what holds of set-up vectors, shift vectors and capture vectors holds of all listed vectors
-module _ (n : Netlist) (config : Config) (P : List Act → Type 0) (Given : PatternData → Type 0) (set_up : P (set_up_acts n config)) (shift : (table : Table) (masks : List Bool) (before : Option PatternData) (t : ℕ) → P (shift_acts n config (plan_of n config) table masks before t)) (capture : (p : PatternData) → Given p → P (capture_acts n config p)) where
+module _ (n : Netlist) (config : Config) (P : List Act → Type 0) (Given : PatternData → Type 0) (set_up : P (set_up_acts n config)) (shift : (table : Table) (masks : List Bool) (before : Option PatternData) (t : ℕ) → P (shift_acts n config (plan_of n config) table masks before t)) (capture : (p : PatternData) → Given p → Each P (capture_acts n config p)) where
   each_load : (table : Table) (masks : List Bool) (before : Option PatternData) → Each P (load_vectors n config (plan_of n config) table masks before)
   each_load table masks before = each_from P (shift_acts n config (plan_of n config) table masks before) 0 (plan_of n config).cycles (λ t. shift table masks before t)
 
   each_pattern : (before : Option PatternData) (ps : List PatternData) → Each Given ps → Each P (pattern_vectors n config (plan_of n config) before ps)
   each_pattern before [] h = tt
   each_pattern before (p ∷ ps) h =
-      each_join P (load_vectors n config (plan_of n config) (load_of config p) p.masks before) (capture_acts n config p ∷ pattern_vectors n config (plan_of n config) (Some p) ps) (each_load (load_of config p) p.masks before)
-      (capture p h.0, each_pattern (Some p) ps h.1)
+      each_join P (load_vectors n config (plan_of n config) (load_of config p) p.masks before) (capture_acts n config p ++ pattern_vectors n config (plan_of n config) (Some p) ps) (each_load (load_of config p) p.masks before)
+      (each_join P (capture_acts n config p) (pattern_vectors n config (plan_of n config) (Some p) ps) (capture p h.0) (each_pattern (Some p) ps h.1))
 
   pub each_listed : (ps : List PatternData) → Each Given ps → Each P (vectors_of n config (plan_of n config) ps)
   each_listed [] h = tt
@@ -139,24 +154,25 @@ module _ (n : Netlist) (config : Config) where
       by_shift InFull in_full n config table masks before t
       (zip_append Full (outs_of w (output_bits n.ports)) (outs_of w (added_outs n config)) (outputs_ignored n) (unloaded config (plan_of n config) table before t) (quiet_full w (output_bits n.ports)) (unloaded_full table before t))
 
-  abbrev pub HasWidth : PatternData → Type 0
-  HasWidth p = length p.response.outputs ≡ length (output_bits n.ports)
-
-  capture_full : (p : PatternData) → HasWidth p → AllZip Full all_signals (capture_acts n config p)
-  capture_full p width =
-      by_capture InFull in_full n config p
-      (zip_append Full (outs_of w (output_bits n.ports)) (outs_of w (added_outs n config)) (map compare p.response.outputs) (ignored (length config.compactor.groups)) (captured_full w (output_bits n.ports) p.response.outputs width)
+  capture_full : (merged : Merged) (domain : ℕ) (pulse update : Bool) (outputs : List Tri) → length outputs ≡ length (output_bits n.ports) →
+      AllZip Full all_signals (capture_with n config merged domain (added_inputs config false pulse update no_bits no_bits) outputs)
+  capture_full merged domain pulse update outputs width =
+      by_capture InFull in_full n config merged domain pulse update outputs
+      (zip_append Full (outs_of w (output_bits n.ports)) (outs_of w (added_outs n config)) (map compare outputs) (ignored (length config.compactor.groups)) (captured_full w (output_bits n.ports) outputs width)
       (quiet_from w (outs_start n config) (length config.compactor.groups)))
+
+  captures_full : (p : PatternData) → HasOutputs n p → Each (λ acts. AllZip Full all_signals acts) (capture_acts n config p)
+  captures_full p width = captures_each n config p.merged (λ acts. AllZip Full all_signals acts) (capture_full p.merged) p.merged.domains.first (later_of p.merged.domains) p.response.outputs width
 
   signals_are : all_signals ≡ signals_of w
   signals_are =
       let outs : outs_of w (output_bits w.ports) ≡ out_signals = ap (outs_of w) (all_outputs n config) ∙ map-append (signal_of w dir.Output) (output_bits n.ports) (added_outs n config) in
       ap (λ (ss : List StilSignal). map (signal_of w dir.Input) (input_bits w.ports) ++ ss) (sym outs)
 
-  pub each_full : (ps : List PatternData) → Each HasWidth ps → Each (λ acts. IsFullVector (signals_of w) acts) (vectors_of n config (plan_of n config) ps)
+  pub each_full : (ps : List PatternData) → Each (HasOutputs n) ps → Each (λ acts. IsFullVector (signals_of w) acts) (vectors_of n config (plan_of n config) ps)
   each_full ps h =
       subst (λ (ss : List StilSignal). Each (λ acts. IsFullVector ss acts) (vectors_of n config (plan_of n config) ps)) signals_are
-      (each_listed n config (λ acts. AllZip Full all_signals acts) HasWidth set_up_full shift_full capture_full ps h)
+      (each_listed n config (λ acts. AllZip Full all_signals acts) (HasOutputs n) set_up_full shift_full captures_full ps h)
 
 -- a vector that mentions each signal has an act for each
 zip_fits : (ss : List StilSignal) (acts : List Act) → IsFullVector ss acts → IsVector ss acts

@@ -48,7 +48,7 @@ module _ (n : Netlist) (config : Config) (cubes : List Cube) (placing : Placing 
       patterns_sound n config placing.rows.columns (rows_of n config placing.rows) config.window cubes placing.placed (map merged_of list) sound places number p.merged (slice_get-map merged_of list number ∙ ap (option_map merged_of) at)
 
   stand : listed.ArePatterns n config list
-  stand = patterns_stand n config list ready (λ number p at. record { captured = (are.each number p at).captured; masks = (are.each number p at).masks; domain = (merged_sound number p at).domain })
+  stand = patterns_stand n config list ready (λ number p at. record { captured = (are.each number p at).captured; masks = (are.each number p at).masks; domains = (merged_sound number p at).domains })
 
   gives : GiveNoClock n config list
   gives number k p given at there = (merged_sound number p at).ports.no_clock k given there
@@ -59,9 +59,7 @@ module _ (n : Netlist) (config : Config) (cubes : List Cube) (placing : Placing 
       record {
         loaded = λ ports suits start turns run. cubes_loaded n config ports placing.rows config.window cubes placing.placed list (played n config list) start turns ready suits compiled (rows_play n config list netlist) run c p cube at word;
         replayed = λ start turns run. cubes_replayed n config placing.rows config.window cubes placing.placed list start turns ready netlist compiled run c p cube at word;
-        capture = it.0;
-        at = it.1;
-        captures = it.2;
+        captures = it;
       }
 
 pub compilations_hold : CompilationsHold

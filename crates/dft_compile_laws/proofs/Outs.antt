@@ -1,5 +1,5 @@
 -- What the outputs of listed vectors compare: that it agrees where the patterns are shown, and how many bits it is.
-use Rattle.std.proofs.Common.{ℕ, zero, suc, ◌+◌, ◌<◌, ◌≡◌, Bool, true, false, cond, List, [], ◌∷◌, ◌++◌, length, map, get_or, Option, None, Some, slice_get, refl, sym, ap, subst, arith, ◌∙◌}
+use Rattle.std.proofs.Common.{ℕ, zero, suc, ◌+◌, ◌<◌, ◌≡◌, Bool, true, false, cond, List, [], ◌∷◌, ◌++◌, length, map, take, drop, get_or, Option, None, Some, slice_get, refl, sym, ap, subst, arith, ◌∙◌}
 use Rattle.std.specs.Prelude.{count_by}
 use Rattle.std.proofs.lemmas.List.Recursion.{is_count_by}
 use Rattle.dft_scan_equivalence.proofs.MadeGood.{from_at}
@@ -10,6 +10,7 @@ use Rattle.dft_netlist.specs.declared.ids.NetId.{NetId}
 use Rattle.dft_netlist.specs.NetNumbers.{nets_from}
 use Rattle.dft_netlist.specs.Netlist.{Netlist}
 use Rattle.dft_abstract.specs.Cycle.{Round}
+use Rattle.dft_cubes.specs.declared.cube.Merged.{Merged}
 use Rattle.dft_config.specs.Config.{Config}
 use Rattle.dft_config.specs.Ring.{Table}
 use Rattle.dft_stitch.specs.Chains.{plan_of}
@@ -29,9 +30,10 @@ use Rattle.dft_scan_behavior.specs.Facts.{edt_hardware}
 use Rattle.dft_pattern_behavior.specs.Given.{Pattern}
 use Rattle.dft_pattern_behavior.specs.Rounds.{ShowsBefore, ShowsCapture}
 use Rattle.dft_vectors.specs.OwnPorts.{compare, expect, ignored, outputs_ignored}
+use Rattle.dft_vectors.specs.AddedPorts.{added_inputs, no_bits}
 use Rattle.dft_vectors.specs.PatternData.{PatternData}
 use Rattle.dft_vectors.specs.Signals.{input_bits}
-use Rattle.dft_vectors.specs.VectorList.{capture_acts, set_up_acts, shift_acts, unloaded}
+use Rattle.dft_vectors.specs.VectorList.{capture_with, set_up_acts, shift_acts, unloaded}
 use Rattle.dft_pattern_behavior.specs.Listed.{pattern_of}
 use Rattle.dft_pattern_behavior.proofs.Listed.{AllNets}
 use Rattle.dft_compile_laws.specs.Agreeing.{Agrees, AgreesAct}
@@ -143,6 +145,25 @@ known_in (t ∷ ts) = cond (is_known t) (1 + known_in ts) (known_in ts)
 known_count : (ts : List Tri) → known_in ts ≡ count_by is_known ts
 unfolding known_in
 known_count ts = is_count_by known_in is_known refl (λ t us. refl) ts
+
+-- the known values of the first ones and of those behind them
+cond_more : (b : Bool) (x y z : ℕ) → x + y ≡ z → cond b (1 + x) x + y ≡ cond b (1 + z) z
+cond_more true x y z e = omega (arith, e)
+cond_more false x y z e = e
+
+known_cut : (k : ℕ) (ts : List Tri) → known_in (take k ts) + known_in (drop k ts) ≡ known_in ts
+unfolding known_in
+known_cut zero ts = omega arith
+known_cut (suc k) [] = omega arith
+known_cut (suc k) (t ∷ ts) = cond_more (is_known t) (known_in (take k ts)) (known_in (drop k ts)) (known_in ts) (known_cut k ts)
+
+pub known_split : (k : ℕ) (ts : List Tri) → count_by is_known (take k ts) + count_by is_known (drop k ts) ≡ count_by is_known ts
+known_split k ts =
+    let front = known_count (take k ts) in
+    let back = known_count (drop k ts) in
+    let all = known_count ts in
+    let cut = known_cut k ts in
+    omega (arith, front, back, all, cut)
 
 compare_compares : (t : Tri) (rest : ℕ) → compares (compare t) + rest ≡ cond (is_known t) (1 + rest) rest
 compare_compares Zero rest = omega arith
@@ -258,17 +279,18 @@ shift_count n config table masks before t =
 
 -- ---- capture vectors
 
-pub capture_agrees : (n : Netlist) (config : Config) (p : PatternData) (r : Round) → IsReady n config → length p.response.outputs ≡ length (output_bits n.ports) → ShowsCapture n config (pattern_of config p) r → Agrees r.strobe (signal_nets n config) (capture_acts n config p)
-capture_agrees n config p r ready width h =
-    by_capture (InAgree n config r.strobe) (in_agree n config r.strobe) n config p
-    (split_agree r.strobe (numbers (output_bits n.ports)) (numbers (added_outs n config)) (map compare p.response.outputs) (ignored (length config.compactor.groups)) (captured_width (output_bits n.ports) p.response.outputs width)
-    (captured_agree r.strobe (moved (gap_in Edt n config)) (output_bits n.ports) p.response.outputs (outputs_kept n config ready) h) (quiet_agree r.strobe (numbers (added_outs n config)) (length config.compactor.groups)))
+pub capture_agrees : (n : Netlist) (config : Config) (merged : Merged) (domain : ℕ) (pulse update : Bool) (outputs : List Tri) (r : Round) → IsReady n config → length outputs ≡ length (output_bits n.ports) → ShowsCapture n config outputs r →
+    Agrees r.strobe (signal_nets n config) (capture_with n config merged domain (added_inputs config false pulse update no_bits no_bits) outputs)
+capture_agrees n config merged domain pulse update outputs r ready width h =
+    by_capture (InAgree n config r.strobe) (in_agree n config r.strobe) n config merged domain pulse update outputs
+    (split_agree r.strobe (numbers (output_bits n.ports)) (numbers (added_outs n config)) (map compare outputs) (ignored (length config.compactor.groups)) (captured_width (output_bits n.ports) outputs width)
+    (captured_agree r.strobe (moved (gap_in Edt n config)) (output_bits n.ports) outputs (outputs_kept n config ready) h) (quiet_agree r.strobe (numbers (added_outs n config)) (length config.compactor.groups)))
 
-pub capture_count : (n : Netlist) (config : Config) (p : PatternData) → length p.response.outputs ≡ length (output_bits n.ports) → compared_in (signal_nets n config) (capture_acts n config p) ≡ count_by is_known p.response.outputs
-capture_count n config p width =
-    let own = captured_in (output_bits n.ports) p.response.outputs width in
-    let same = known_count p.response.outputs in
+pub capture_count : (n : Netlist) (config : Config) (merged : Merged) (domain : ℕ) (pulse update : Bool) (outputs : List Tri) → length outputs ≡ length (output_bits n.ports) →
+    compared_in (signal_nets n config) (capture_with n config merged domain (added_inputs config false pulse update no_bits no_bits) outputs) ≡ count_by is_known outputs
+capture_count n config merged domain pulse update outputs width =
+    let own = captured_in (output_bits n.ports) outputs width in
+    let same = known_count outputs in
     let added = quiet_count (numbers (added_outs n config)) (length config.compactor.groups) in
-    let both =
-    split_count (numbers (output_bits n.ports)) (numbers (added_outs n config)) (map compare p.response.outputs) (ignored (length config.compactor.groups)) (captured_width (output_bits n.ports) p.response.outputs width) in
-    by_capture (InCount n config (count_by is_known p.response.outputs)) (in_count n config (count_by is_known p.response.outputs)) n config p (omega (arith, own, same, added, both))
+    let both = split_count (numbers (output_bits n.ports)) (numbers (added_outs n config)) (map compare outputs) (ignored (length config.compactor.groups)) (captured_width (output_bits n.ports) outputs width) in
+    by_capture (InCount n config (count_by is_known outputs)) (in_count n config (count_by is_known outputs)) n config merged domain pulse update outputs (omega (arith, own, same, added, both))

@@ -19,20 +19,22 @@ use Rattle.dft_stitch.specs.Chains.{plan_of}
 use Rattle.dft_config.specs.Segments.{sent_mask}
 use Rattle.dft_stitch.specs.Plans.{falling_head}
 use Rattle.dft_cubes.specs.declared.cube.Merged.{Merged}
-use Rattle.dft_expect.specs.Captures.{bit_of_port, capture_vector, config_ports, output_bits, port_value}
+use Rattle.dft_cubes.specs.Domains.{later_of}
+use Rattle.dft_encode.specs.Laws.{HasOutputs}
+use Rattle.dft_expect.specs.Captures.{bit_of_port, config_ports, output_bits, port_value, vector_of}
 use Rattle.dft_expect.specs.Expected.{output_bit}
 use Rattle.dft_expect.specs.Masks.{by_chain}
 use Rattle.dft_patterns.specs.Patterns.{IsSteady, Patterns}
 use Rattle.dft_patterns.specs.declared.act.Act.{Act}
 use Rattle.dft_patterns.specs.declared.act.Act.TheVariants.{Unset, Low, High, Pulse, ExpectLow, ExpectHigh, Ignore}
 use Rattle.dft_pattern_behavior.proofs.Clocks.{pulsed_clock, reset_rests}
-use Rattle.dft_vectors.specs.AddedPorts.{added_inputs, no_bits, set_all, shifting}
+use Rattle.dft_vectors.specs.AddedPorts.{added_inputs, no_bits, ring_clock, set_all, shifting}
 use Rattle.dft_vectors.specs.OwnPorts.{compare, driven, expect, ignored, inputs_by, outputs_ignored, pulsing_vector, quiet_vector, set_to}
 use Rattle.dft_vectors.specs.PatternData.{PatternData}
 use Rattle.dft_vectors.specs.Signals.{input_bits}
-use Rattle.dft_vectors.specs.VectorList.{capture_acts, set_up_acts, shift_acts, unloaded, vectors_of}
+use Rattle.dft_vectors.specs.VectorList.{capture_acts, capture_with, set_up_acts, shift_acts, unloaded, vectors_of}
 use Rattle.dft_pattern_behavior.proofs.Playing.{act_by, bits_from}
-use Rattle.dft_compile_laws.proofs.Full.{HasWidth, each_listed, zip_append}
+use Rattle.dft_compile_laws.proofs.Full.{captures_each, each_listed, zip_append}
 use Rattle.dft_compile_laws.proofs.Sides.{capture_outs, no_outs, shift_outs}
 
 -- a clock is low or pulses, and no other signal pulses
@@ -82,11 +84,16 @@ bits_fit : (from count : ℕ) (bits : ℕ → Bool) → AllZip Fit (none_of coun
 bits_fit from zero bits = tt
 bits_fit from (suc count) bits = (bit_fits (bits from), bits_fit (from + 1) count bits)
 
-added_fit : (config : Config) (enable update : Bool) (channels masks : ℕ → Bool) → AllZip Fit (added_flags config) (added_inputs config enable update channels masks)
-added_fit config enable update channels masks = (
+-- edt_clock may pulse
+ring_fits : (pulse : Bool) → Fit true (ring_clock pulse)
+ring_fits true = tt
+ring_fits false = tt
+
+added_fit : (config : Config) (enable pulse update : Bool) (channels masks : ℕ → Bool) → AllZip Fit (added_flags config) (added_inputs config enable pulse update channels masks)
+added_fit config enable pulse update channels masks = (
   bit_fits enable,
   (
-    tt,
+    ring_fits pulse,
     (
       bit_fits update,
       zip_append Fit (none_of config.ring.channels) (none_of config.compactor.mask_inputs) (set_all config.ring.channels channels) (set_all config.compactor.mask_inputs masks) (bits_fit 0 config.ring.channels channels)
@@ -141,9 +148,9 @@ clock_low n config k given range none clock =
 abbrev pub GivesNoClock : Netlist → Config → Merged → Type 0
 GivesNoClock n config merged = (j : ℕ) (given : NetId × Bool) → slice_get merged.ports j ≡ Some given → (config_ports n config).is_clock given.0.0 ≡ false
 
--- a pattern that gives no clock a bit, and captures as many values as there are output bits
+-- a pattern that gives no clock a bit, and captures a value for each output bit in each of its vectors
 abbrev pub Gives : Netlist → Config → PatternData → Type 0
-Gives n config p = GivesNoClock n config p.merged × HasWidth n config p
+Gives n config p = GivesNoClock n config p.merged × HasOutputs n p
 
 none_given : (n : Netlist) (config : Config) (k : ℕ) (ports : List (NetId × Bool)) → ((j : ℕ) (given : NetId × Bool) → slice_get ports j ≡ Some given → (config_ports n config).is_clock given.0.0 ≡ false) → (config_ports n config).is_clock k ≡ true →
     bit_of_port ports k ≡ None
@@ -155,11 +162,11 @@ none_given n config k (given ∷ ports) h clock =
 -- ---- vectors
 
 module _ (n : Netlist) (config : Config) (range : IsInRange config) where
-  vector_fits : (v : Vector) (enable update : Bool) (channels masks : ℕ → Bool) (outs : List Act) → ((k : NetId) → Fit (is_clock n config k) (act_by v k)) → AllZip Fit (out_flags n config) outs →
-      AllZip Fit (flags n config) (inputs_by n v ++ (added_inputs config enable update channels masks ++ outs))
-  vector_fits v enable update channels masks outs own out =
-      zip_append Fit (own_flags n config) (added_flags config ++ out_flags n config) (inputs_by n v) (added_inputs config enable update channels masks ++ outs) (own_fit n config v (input_bits n.ports) own)
-      (zip_append Fit (added_flags config) (out_flags n config) (added_inputs config enable update channels masks) outs (added_fit config enable update channels masks) out)
+  vector_fits : (v : Vector) (enable pulse update : Bool) (channels masks : ℕ → Bool) (outs : List Act) → ((k : NetId) → Fit (is_clock n config k) (act_by v k)) → AllZip Fit (out_flags n config) outs →
+      AllZip Fit (flags n config) (inputs_by n v ++ (added_inputs config enable pulse update channels masks ++ outs))
+  vector_fits v enable pulse update channels masks outs own out =
+      zip_append Fit (own_flags n config) (added_flags config ++ out_flags n config) (inputs_by n v) (added_inputs config enable pulse update channels masks ++ outs) (own_fit n config v (input_bits n.ports) own)
+      (zip_append Fit (added_flags config) (out_flags n config) (added_inputs config enable pulse update channels masks) outs (added_fit config enable pulse update channels masks) out)
 
   quiet_fits : (k : NetId) → Fit (is_clock n config k) (act_by (quiet_vector n config) k)
   quiet_fits k = fit_by (is_clock n config k) false (port_value ((config_ports n config).is_reset k.0) None) (λ clock. clock_low n config k.0 None range refl clock) (λ no. refl)
@@ -167,11 +174,11 @@ module _ (n : Netlist) (config : Config) (range : IsInRange config) where
   pulsing_fits : (k : NetId) → Fit (is_clock n config k) (act_by (pulsing_vector n config) k)
   pulsing_fits k = fit_by (is_clock n config k) (is_clock n config k) (port_value ((config_ports n config).is_reset k.0) None) (λ clock. clock_low n config k.0 None range refl clock) (λ no. no)
 
-  capture_fits : (merged : Merged) → GivesNoClock n config merged → (k : NetId) → Fit (is_clock n config k) (act_by (capture_vector n config merged) k)
-  capture_fits merged gives k =
-      fit_by (is_clock n config k) ((capture_vector n config merged).pulsed k.0) ((capture_vector n config merged).ports k.0)
+  capture_fits : (merged : Merged) (domain : ℕ) → GivesNoClock n config merged → (k : NetId) → Fit (is_clock n config k) (act_by (vector_of n config merged domain) k)
+  capture_fits merged domain gives k =
+      fit_by (is_clock n config k) ((vector_of n config merged domain).pulsed k.0) ((vector_of n config merged domain).ports k.0)
       (λ clock. clock_low n config k.0 (bit_of_port merged.ports k.0) range (none_given n config k.0 merged.ports gives clock) clock)
-      (λ no. false_from_ne_true ((capture_vector n config merged).pulsed k.0) (λ is. true_false (is_clock n config k) (pulsed_clock n config k.0 merged.domain is) no))
+      (λ no. false_from_ne_true ((vector_of n config merged domain).pulsed k.0) (λ is. true_false (is_clock n config k) (pulsed_clock n config k.0 domain is) no))
 
   no_outs_fit : AllZip Fit (out_flags n config) (no_outs n config)
   no_outs_fit =
@@ -179,7 +186,7 @@ module _ (n : Netlist) (config : Config) (range : IsInRange config) where
       (ignored_fit (length config.compactor.groups))
 
   set_up_fits : AllZip Fit (flags n config) (set_up_acts n config)
-  set_up_fits = vector_fits (quiet_vector n config) false true no_bits no_bits (no_outs n config) quiet_fits no_outs_fit
+  set_up_fits = vector_fits (quiet_vector n config) false true true no_bits no_bits (no_outs n config) quiet_fits no_outs_fit
 
   unloaded_fits : (table : Table) (before : Option PatternData) (t : ℕ) → AllZip Fit (none_of (length config.compactor.groups)) (unloaded config (plan_of n config) table before t)
   unloaded_fits table None t = ignored_fit (length config.compactor.groups)
@@ -190,18 +197,22 @@ module _ (n : Netlist) (config : Config) (range : IsInRange config) where
       let sent : ℕ → Bool = λ segment. sent_mask config (bit_at masks) (plan_of n config).cycles segment t in
       let outs : List Act = shift_outs n config table before t in
       subst (λ (acts : List Act). AllZip Fit (flags n config) acts) (sym (append_assoc (inputs_by n (pulsing_vector n config)) (shifting config (λ channel. table channel t) sent) outs))
-      (vector_fits (pulsing_vector n config) true false (λ channel. table channel t) sent outs pulsing_fits
+      (vector_fits (pulsing_vector n config) true true false (λ channel. table channel t) sent outs pulsing_fits
       (zip_append Fit (none_of (length (output_bits n.ports))) (none_of (length config.compactor.groups)) (outputs_ignored n) (unloaded config (plan_of n config) table before t) (ignored_fit (length (output_bits n.ports)))
       (unloaded_fits table before t)))
 
-  capture_acts_fit : (p : PatternData) → Gives n config p → AllZip Fit (flags n config) (capture_acts n config p)
-  capture_acts_fit p h =
-      vector_fits (capture_vector n config p.merged) false true no_bits no_bits (capture_outs config p) (capture_fits p.merged h.0)
-      (zip_append Fit (none_of (length (output_bits n.ports))) (none_of (length config.compactor.groups)) (map compare p.response.outputs) (ignored (length config.compactor.groups))
-      (subst (λ (k : ℕ). AllZip Fit (none_of k) (map compare p.response.outputs)) h.1 (captured_fit p.response.outputs)) (ignored_fit (length config.compactor.groups)))
+  capture_acts_fit : (merged : Merged) → GivesNoClock n config merged → (domain : ℕ) (pulse update : Bool) (outputs : List Tri) → length outputs ≡ length (output_bits n.ports) →
+      AllZip Fit (flags n config) (capture_with n config merged domain (added_inputs config false pulse update no_bits no_bits) outputs)
+  capture_acts_fit merged gives domain pulse update outputs width =
+      vector_fits (vector_of n config merged domain) false pulse update no_bits no_bits (capture_outs config outputs) (capture_fits merged domain gives)
+      (zip_append Fit (none_of (length (output_bits n.ports))) (none_of (length config.compactor.groups)) (map compare outputs) (ignored (length config.compactor.groups))
+      (subst (λ (k : ℕ). AllZip Fit (none_of k) (map compare outputs)) width (captured_fit outputs)) (ignored_fit (length config.compactor.groups)))
+
+  captures_fit : (p : PatternData) → Gives n config p → Each (λ acts. AllZip Fit (flags n config) acts) (capture_acts n config p)
+  captures_fit p h = captures_each n config p.merged (λ acts. AllZip Fit (flags n config) acts) (capture_acts_fit p.merged h.0) p.merged.domains.first (later_of p.merged.domains) p.response.outputs h.1
 
   all_fit : (ps : List PatternData) → Each (Gives n config) ps → Each (λ acts. AllZip Fit (flags n config) acts) (vectors_of n config (plan_of n config) ps)
-  all_fit ps h = each_listed n config (λ acts. AllZip Fit (flags n config) acts) (Gives n config) set_up_fits shift_fits capture_acts_fit ps h
+  all_fit ps h = each_listed n config (λ acts. AllZip Fit (flags n config) acts) (Gives n config) set_up_fits shift_fits captures_fit ps h
 
 -- ---- by number
 

@@ -66,4 +66,4 @@ ends_load n config ports p xs start ts v played run =
 
 pub runs_load : RunsLoad
 runs_load n config ports patterns xs start ts ready does run p d at =
-    ends_load n config ports (pattern_of config d) xs start ts (capture_number n config p) (patterns_play n config patterns xs ready does p d at) run
+    ends_load n config ports (pattern_of config d) xs start ts (capture_number n config patterns p) (patterns_play n config patterns xs ready does p d at) run

@@ -30,7 +30,7 @@ use Rattle.dft_compile_laws.specs.Formed.{IsFormed}
 use Rattle.dft_compile_laws.specs.Passing.{set_of}
 use Rattle.dft_compile_laws.specs.Written.{Passes}
 use Rattle.dft_load_laws.specs.Loading.{HoldBits, LoadRun, rows_of}
-use Rattle.dft_compile_laws.specs.Bringing.{CapturesCube}
+use Rattle.dft_compile_laws.specs.Bringing.{CaptureFrom}
 use Rattle.dft_compile_laws.specs.Playing.{capture_number, flops_before}
 use Rattle.dft_compile_laws.specs.Reporting.{IsExact, IsSkippedFor, entries_of}
 use Rattle.dft_encode.specs.Compiled.{ArePatterns, Placing}
@@ -42,15 +42,14 @@ played n config list = vectors_in (replayed_rows (scanned Edt n config) (set_of 
 abbrev pub player : Netlist → Config → List PatternData → Logic
 player n config list = edt_logic n config (ports_of (scanned Edt n config) (set_of n config list))
 
--- A pattern brings a cube: in every run over the set's vectors, under all ports that suit, where the pattern's capture vector begins, each cell of
--- the cube has the cube's bit, and so it is in every run that a replay of the set speaks of; and this vector sets the cube's ports and pulses its clock.
+-- A pattern brings a cube: in every run over the set's vectors, under all ports that suit, where the pattern's first capture vector begins, each
+-- cell of the cube has the cube's bit, and so it is in every run that a replay of the set speaks of; and its capture vectors set the cube's ports and
+-- pulse its clocks, each one.
 pub record IsBrought (n : Netlist) (config : Config) (list : List PatternData) (cube : Cube) (p : ℕ) : Type 0 where
   pub loaded : (ports : Ports) → SuitsEdt n config ports → (start : Now) (turns : List Turn) → IsRun (edt_logic n config ports) (played n config list) start turns →
-      HoldBits (flops_before (edt_logic n config ports) (played n config list) start turns (capture_number n config p)) cube.cells
-  pub replayed : (start : Now) (turns : List Turn) → IsRunOf (scanned Edt n config) (set_of n config list) start turns → HoldBits (flops_before (player n config list) (played n config list) start turns (capture_number n config p)) cube.cells
-  pub capture : Vector
-  pub at : slice_get (played n config list) (capture_number n config p) ≡ Some capture
-  pub captures : CapturesCube n config cube capture
+      HoldBits (flops_before (edt_logic n config ports) (played n config list) start turns (capture_number n config list p)) cube.cells
+  pub replayed : (start : Now) (turns : List Turn) → IsRunOf (scanned Edt n config) (set_of n config list) start turns → HoldBits (flops_before (player n config list) (played n config list) start turns (capture_number n config list p)) cube.cells
+  pub captures : CaptureFrom n config cube (played n config list) (capture_number n config list p)
 
 -- what a text without notes stands for
 abbrev pub without_notes : Patterns → Patterns

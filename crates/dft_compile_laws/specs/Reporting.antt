@@ -28,15 +28,15 @@ use Rattle.dft_scan_behavior.specs.EdtVectors.{SuitsEdt, edt_logic}
 use Rattle.dft_vectors.specs.PatternData.{PatternData}
 use Rattle.dft_compile_laws.specs.Passing.{set_of}
 use Rattle.dft_load_laws.specs.Loading.{AreRows, HoldBits, LoadsAlways, LoadsOnce, rows_of}
-use Rattle.dft_compile_laws.specs.Bringing.{AreCompiled, CapturesCube}
+use Rattle.dft_compile_laws.specs.Bringing.{AreCompiled, CaptureFrom}
 use Rattle.dft_compile_laws.specs.Playing.{capture_number, flops_before}
 
 -- the entries of the report for these cubes, of which this became
 abbrev pub entries_of : Netlist → Config → LoadRows → List Cube → List Placed → List CubeReport
 entries_of n config rows cubes placed = cube_reports n config.ring (rows_of n config rows) cubes placed
 
--- In every run of the scanned netlist over its compiled set, where the capture vector of a pattern begins, each cell of each cube that is
--- reported encoded in it has the cube's bit; and that vector sets the cube's ports and pulses its clock.
+-- In every run of the scanned netlist over its compiled set, where the first capture vector of a pattern begins, each cell of each cube
+-- that is reported encoded in it has the cube's bit; and its capture vectors set the cube's ports and pulse its clocks, each one.
 abbrev pub EncodedAreBrought : Type 0
 EncodedAreBrought =
     (n : Netlist) (config : Config) (rows : LoadRows) (window : ℕ) (cubes : List Cube) (placed : List Placed) (patterns : List PatternData) (start : Now) (turns : List Turn) →
@@ -45,8 +45,8 @@ EncodedAreBrought =
     let xs = vectors_in (replayed_rows w set) in
     IsReady n config → IsNetlist w → AreCubes n config cubes → AreCompiled n config rows window cubes placed patterns → IsRunOf w set start turns →
     (c p : ℕ) (cube : Cube) (entry : CubeReport) → slice_get cubes c ≡ Some cube → slice_get (entries_of n config rows cubes placed) c ≡ Some entry → entry.outcome ≡ Encoded p →
-    HoldBits (flops_before (edt_logic n config (ports_of w set)) xs start turns (capture_number n config p)) cube.cells
-    × ((x : Vector) × (slice_get xs (capture_number n config p) ≡ Some x) × CapturesCube n config cube x)
+    HoldBits (flops_before (edt_logic n config (ports_of w set)) xs start turns (capture_number n config patterns p)) cube.cells
+    × CaptureFrom n config cube xs (capture_number n config patterns p)
 
 abbrev pub IsEncoded : CubeLine → Type 0
 IsEncoded line = (p : ℕ) × (line ≡ Encoded p)

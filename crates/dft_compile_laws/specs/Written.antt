@@ -29,7 +29,7 @@ is_known Zero = true
 is_known One = true
 is_known Unknown = false
 
--- of a pattern: the output bits that its capture knows, and each output of the compactor in each cycle of its unload
+-- of a pattern: the output bits that its captures know, and each output of the compactor in each cycle of its unload
 abbrev pub compared_of : Config → Plan → PatternData → ℕ
 compared_of config plan p = count_by is_known p.response.outputs + plan.cycles * length config.compactor.groups
 

@@ -34,7 +34,7 @@ pub fn patterns_stand()
 {}
 
 /// What is compiled passes: a replay of compiled patterns on the scanned netlist finds each compared bit known and as printed. It compares,
-/// of each pattern, the output bits that its capture knows and each output of the compactor in each cycle of its unload, and nothing else;
+/// of each pattern, the output bits that its captures know and each output of the compactor in each cycle of its unload, and nothing else;
 /// and every run shows each of them as printed.
 pub fn written_pass()
     ensures { WrittenPass }
@@ -47,8 +47,8 @@ pub fn written_formed()
 {}
 
 /// The vectors of compiled patterns load and capture each pattern, and a run over them contains a run of each pattern's load. So in
-/// every run, where the capture vector of a pattern begins, each cell of each cube that was placed in it has the cube's
-/// bit, and this vector sets the cube's ports and pulses its clock.
+/// every run, where the first capture vector of a pattern begins, each cell of each cube that was placed in it has the cube's
+/// bit, and each of its capture vectors sets the cube's ports and pulses its own clock.
 pub fn cubes_are_brought()
     ensures plays { PatternsPlay }
     ensures runs { RunsLoad }

@@ -10,6 +10,8 @@ mod faults;
 #[cfg(test)]
 mod many;
 #[cfg(test)]
+mod pulses;
+#[cfg(test)]
 mod refusals;
 #[cfg(test)]
 mod saved;

@@ -7,19 +7,45 @@ use dft_test_support::{FIVE, PAIR, Unlike, shelf};
 use std::alloc::{AllocError, Global};
 use std::test::Fail;
 
-// So many cubes, which by turns have these lines of bits.
-fn cubes(alloc: Global, count: u32, even: &str, odd: &str) -> Result<String, AllocError> {
-    let mut text = String::new(alloc);
+// Adds so many cubes, which by turns have these clocks and lines of bits.
+fn push_cubes(
+    alloc: Global,
+    text: &mut String,
+    count: u32,
+    even: &str,
+    odd: &str,
+) -> Result<(), AllocError> {
     for cube in 0..count {
-        let bits = if cube & 1 == 0 { even } else { odd };
-        text.push_str(&format!(in alloc; "cube {cube} clk\n{bits}end\n")?)?;
+        let rest = if cube & 1 == 0 { even } else { odd };
+        text.push_str(&format!(in alloc; "cube {cube} {rest}end\n")?)?;
     }
-    Ok(text)
+    Ok(())
 }
 
 // Cubes that are each opposite to the one before, so that each has a pattern of its own.
 fn opposites(alloc: Global, count: u32) -> Result<String, AllocError> {
-    cubes(alloc, count, "cell f2 0\n", "cell f2 1\n")
+    let mut text = String::new(alloc);
+    push_cubes(
+        alloc,
+        &mut text,
+        count,
+        "clk\ncell f2 0\n",
+        "clk\ncell f2 1\n",
+    )?;
+    Ok(text)
+}
+
+// The same, where every second one captures in two vectors.
+fn mixed(alloc: Global, count: u32) -> Result<String, AllocError> {
+    let mut text = String::from_str(alloc, "version 2\n")?;
+    push_cubes(
+        alloc,
+        &mut text,
+        count,
+        "clk\ncell f2 0\n",
+        "clk clk\ncell f2 1\n",
+    )?;
+    Ok(text)
 }
 
 fn pass(alloc: Global, cubes: &str, line: &str, replay: &str) -> Result<(), Unlike> {
@@ -41,9 +67,23 @@ fn patterns_past_a_group_pass(rt: HostRuntime) -> Result<(), Fail> {
     Ok(())
 }
 
+// 257 patterns capture in one vector each, and 256 in two.
+#[test]
+fn patterns_of_one_capture_and_two_pass(rt: HostRuntime) -> Result<(), Fail> {
+    let cubes = mixed(rt.alloc(), 513)?;
+    pass(
+        rt.alloc(),
+        cubes.as_str(),
+        "compiled cells 5 chains 2 cycles 5 patterns 513 encoded 513 unsolvable 0 skipped 0 masked 0 vectors 3340\n",
+        "pass 3340 vectors 5899 compared\n",
+    )?;
+    Ok(())
+}
+
 #[test]
 fn a_cube_too_many_is_told(rt: HostRuntime) -> Result<(), Fail> {
-    let cubes = cubes(rt.alloc(), 65_537, "", "")?;
+    let mut cubes = String::new(rt.alloc());
+    push_cubes(rt.alloc(), &mut cubes, 65_537, "clk\n", "clk\n")?;
     let line = "refused Q9 131073:1\n";
     is_refused(rt.alloc(), FIVE, (OPEN_ONE, PAIR), cubes.as_str(), line)?;
     Ok(())

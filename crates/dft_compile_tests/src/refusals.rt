@@ -26,7 +26,7 @@ pub(crate) fn is_refused(
 }
 
 // Cubes, and what is printed.
-static CUBES: [(&str, &str); 12] = [
+static CUBES: [(&str, &str); 18] = [
     ("cell f2 1\n", "refused Q1 1:1\n"),
     ("cube k clk\ncell f2 2\n", "refused Q1 2:1\n"),
     ("cube k clk\ncell g0 1\nend\n", "refused Q2 2:1 g0\n"),
@@ -45,6 +45,12 @@ static CUBES: [(&str, &str); 12] = [
     ("cube k clk\ncell f2 1\n", "refused Q7 3:1\n"),
     ("cube k clk", "refused Q7 1:1\n"),
     ("cube k clk\nport clk 1\n", "refused Q8 2:1 clk\n"),
+    ("version 3\n", "refused Q1 1:1\n"),
+    ("version 2\nversion 2\n", "refused Q1 2:1\n"),
+    ("cube t clk zz\n", "refused Q1 1:1\n"),
+    ("version 1\ncube t clk clk\n", "refused Q1 2:1\n"),
+    ("version 2\ncube t clk zz\n", "refused Q4 2:1 zz\n"),
+    ("version 2\ncube t yy zz\n", "refused Q4 2:1 yy\n"),
 ];
 
 #[test]

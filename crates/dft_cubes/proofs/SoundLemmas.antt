@@ -1,7 +1,7 @@
 -- The cubes of every text are sound: what is added was not there.
 use Rattle.std.proofs.Common.{ℕ, zero, suc, ◌≡◌, ◌<◌, ◌==◌, ◌||◌, ◌⊎◌, inl, inr, Bool, true, false, List, [], ◌∷◌, ◌++◌, length, Option, None, Some, is_none, option_and_then, slice_get, Result, Ok, refl, sym, subst, ap, ◌∙◌}
 use Rattle.std.specs.Prelude.{IsSome, if◌then◌else◌}
-use Rattle.std.specs.List.{list_any}
+use Rattle.std.specs.List.{AllByRecursion, list_any}
 use Rattle.std.specs.Str.{bytes_eq}
 use Rattle.std.proofs.lemmas.List.Quantifiers.{position-Some}
 use Rattle.std.proofs.lemmas.Slice.Eq.{bytes_eq-Decides}
@@ -26,7 +26,9 @@ use Rattle.dft_rules.proofs.NamedPorts.{input_there, not_among}
 use Rattle.dft_word_lines.specs.Lines.{are_printed, lines_of, words_of}
 use Rattle.dft_cubes.specs.declared.cube.Cube.{Cube}
 use Rattle.dft_cubes.specs.declared.error.CubeError.{CubeError}
-use Rattle.dft_cubes.specs.Cubes.{Line, Begin, SetCell, SetPort, End, Reading, begun, cell_refusal, cubes_from, cubes_of, domain_named, ended, is_among, line_of, line_refusal, names_of, or_refused, or_zero, place_of_line, port_refusal, said_refusal, with_cell, with_line, with_port, with_said}
+use Rattle.dft_cubes.specs.declared.error.CubeError.TheVariants.{Q1, Q4}
+use Rattle.dft_cubes.specs.Domains.{listed}
+use Rattle.dft_cubes.specs.Cubes.{Line, Version, Begin, BeginTwo, SetCell, SetPort, End, Reading, begin_refusal, begun, cell_refusal, cubes_from, cubes_of, domain_named, ended, held, is_among, line_of, line_refusal, names_of, or_first, or_refused, or_zero, place_of_line, port_refusal, said_refusal, with_cell, with_line, with_port, with_said}
 use Rattle.dft_cubes.specs.Laws.{AreCubes, IsCube}
 use Rattle.dft_cubes.proofs.CellNames.{has_name_of}
 
@@ -103,9 +105,14 @@ domain_less : (config : Config) (clock : Text) (d : Option ℕ) → domain_named
 domain_less config clock None is some = absurd (let f : ⊥ = cc in f)
 domain_less config clock (Some k) is some = (position-Some (λ (name : Text). bytes_eq name clock) config.domains k [] is).0
 
-begun_sound : (n : Netlist) (config : Config) (name clock : Text) → is_none (domain_named config clock) ≡ false → IsCube n config (begun config name clock)
-begun_sound n config name clock some = record {
-  domain = domain_less config clock (domain_named config clock) refl some;
+-- a second clock is a domain
+listed_less : (config : Config) (clock : Text) (d : Option ℕ) → domain_named config clock ≡ d → AllByRecursion (λ domain. domain < length config.domains) (listed d)
+listed_less config clock None is = tt
+listed_less config clock (Some k) is = (domain_less config clock (Some k) is refl, tt)
+
+begun_sound : (n : Netlist) (config : Config) (name clock : Text) (second : Option ℕ) → is_none (domain_named config clock) ≡ false → AllByRecursion (λ domain. domain < length config.domains) (listed second) → IsCube n config (begun config name clock second)
+begun_sound n config name clock second some later = record {
+  domains = (domain_less config clock (domain_named config clock) refl some, later);
   cells = record { once = λ j k a b at_j at_k same. absurd (nothing_at j a at_j); live = λ k a at_k. absurd (nothing_at k a at_k); named = λ k a at_k. absurd (nothing_at k a at_k) };
   ports = record {
     once = λ j k a b at_j at_k same. absurd (nothing_at j a at_j);
@@ -124,7 +131,7 @@ with_cell_sound n config cubes cube place name bit (Some cell) is passed pending
     let test = λ (g : InstanceId × Bool). g.0.0 == cell.0 in
     let absent : list_any test cube.cells ≡ false = (one_passes (list_any test cube.cells) _ None passed).0 in (
       record {
-        domain = pending.0.domain;
+        domains = pending.0.domains;
         cells = record {
           once = own_push (λ (g : InstanceId × Bool). g.0.0) cube.cells (cell, bit) pending.0.cells.once (λ j a there same. none_has test cube.cells absent j a there (eq-eqb a.0.0 cell.0 same));
           live = each_push (λ (g : InstanceId × Bool). g.0.0 < length n.instances) cube.cells (cell, bit) pending.0.cells.live (flip_flop_there n name cell is);
@@ -145,7 +152,7 @@ with_port_sound n config cubes cube place name bit (Some port) is passed pending
     let apart = or_parts (is_among config.domains name) (is_among config.resets name) (one_passes (is_among config.domains name || is_among config.resets name) _ _ first.1).0 in
     let there = input_there n name port is in (
       record {
-        domain = pending.0.domain;
+        domains = pending.0.domains;
         cells = pending.0.cells;
         ports = record {
           once = own_push (λ (g : NetId × Bool). g.0.0) cube.ports (port, bit) pending.0.ports.once (λ j a there same. none_has test cube.ports absent j a there (eq-eqb a.0.0 port.0 same));
@@ -158,24 +165,42 @@ with_port_sound n config cubes cube place name bit (Some port) is passed pending
       pending.1,
     )
 
+-- a cube with two clocks begins
+two_sound : (n : Netlist) (config : Config) (version : Option ℕ) (cubes : List Cube) (place : Place) (name clock second : Text) (b : Bool) →
+    (if b then (if is_none (domain_named config clock) then Some (Q4 place clock) else begin_refusal config cubes place name second) else Some (Q1 place)) ≡ None → AreCubes n config cubes →
+    Kept n config (record { version = held version; cubes = cubes; pending = Some (begun config name clock (domain_named config second)) })
+two_sound n config version cubes place name clock second false passed sound = absurd (let f : ⊥ = cc in f)
+two_sound n config version cubes place name clock second true passed sound =
+    let first = one_passes (is_none (domain_named config clock)) _ _ passed in
+    let other = one_passes (is_none (domain_named config second)) _ _ first.1 in
+    record {
+      cubes = sound;
+      pending = (begun_sound n config name clock (domain_named config second) first.0 (listed_less config second (domain_named config second) refl), (one_passes (has_name (names_of cubes) name) _ _ other.1).0);
+    }
+
 -- what a line says
-said_sound : (n : Netlist) (config : Config) (cubes : List Cube) (pending : Option Cube) (place : Place) (line : Option Line) → said_refusal n config cubes pending place line ≡ None →
-    AreCubes n config cubes → IsPending n config cubes pending → Kept n config (with_said n config cubes pending line)
-said_sound n config cubes None place None passed sound pending = absurd (let f : ⊥ = cc in f)
-said_sound n config cubes None place (Some (Begin name clock)) passed sound pending =
+said_sound : (n : Netlist) (config : Config) (version : Option ℕ) (cubes : List Cube) (pending : Option Cube) (place : Place) (line : Option Line) → said_refusal n config version cubes pending place line ≡ None →
+    AreCubes n config cubes → IsPending n config cubes pending → Kept n config (with_said n config version cubes pending line)
+said_sound n config version cubes None place None passed sound pending = absurd (let f : ⊥ = cc in f)
+said_sound n config version cubes None place (Some (Begin name clock)) passed sound pending =
     let none = is_none (domain_named config clock) in
     let first : (none ≡ false) × (_ ≡ None) = one_passes none _ _ passed in
-    record { cubes = sound; pending = (begun_sound n config name clock first.0, (one_passes (has_name (names_of cubes) name) _ _ first.1).0) }
-said_sound n config cubes None place (Some (SetCell name bit)) passed sound pending = absurd (let f : ⊥ = cc in f)
-said_sound n config cubes None place (Some (SetPort name bit)) passed sound pending = absurd (let f : ⊥ = cc in f)
-said_sound n config cubes None place (Some End) passed sound pending = absurd (let f : ⊥ = cc in f)
-said_sound n config cubes (Some cube) place None passed sound pending = absurd (let f : ⊥ = cc in f)
-said_sound n config cubes (Some cube) place (Some (Begin name clock)) passed sound pending = absurd (let f : ⊥ = cc in f)
-said_sound n config cubes (Some cube) place (Some (SetCell name bit)) passed sound pending =
+    record { cubes = sound; pending = (begun_sound n config name clock None first.0 tt, (one_passes (has_name (names_of cubes) name) _ _ first.1).0) }
+said_sound n config version cubes None place (Some (Version number)) passed sound pending = record { cubes = sound; pending = tt }
+said_sound n config version cubes None place (Some (BeginTwo name clock second)) passed sound pending =
+    two_sound n config version cubes place name clock second (or_first version == 2) passed sound
+said_sound n config version cubes None place (Some (SetCell name bit)) passed sound pending = absurd (let f : ⊥ = cc in f)
+said_sound n config version cubes None place (Some (SetPort name bit)) passed sound pending = absurd (let f : ⊥ = cc in f)
+said_sound n config version cubes None place (Some End) passed sound pending = absurd (let f : ⊥ = cc in f)
+said_sound n config version cubes (Some cube) place None passed sound pending = absurd (let f : ⊥ = cc in f)
+said_sound n config version cubes (Some cube) place (Some (Version number)) passed sound pending = absurd (let f : ⊥ = cc in f)
+said_sound n config version cubes (Some cube) place (Some (Begin name clock)) passed sound pending = absurd (let f : ⊥ = cc in f)
+said_sound n config version cubes (Some cube) place (Some (BeginTwo name clock second)) passed sound pending = absurd (let f : ⊥ = cc in f)
+said_sound n config version cubes (Some cube) place (Some (SetCell name bit)) passed sound pending =
     record { cubes = sound; pending = with_cell_sound n config cubes cube place name bit (flip_flop_named n name) refl passed pending }
-said_sound n config cubes (Some cube) place (Some (SetPort name bit)) passed sound pending =
+said_sound n config version cubes (Some cube) place (Some (SetPort name bit)) passed sound pending =
     record { cubes = sound; pending = with_port_sound n config cubes cube place name bit (input_net n name) refl passed pending }
-said_sound n config cubes (Some cube) place (Some End) passed sound pending = record {
+said_sound n config version cubes (Some cube) place (Some End) passed sound pending = record {
   cubes = record {
     names = own_push (λ (c : Cube). c.name) cubes cube sound.names (λ j a there same. none_named cubes cube.name pending.1 j a there same);
     each = each_push (IsCube n config) cubes cube sound.each pending.0;
@@ -186,7 +211,7 @@ said_sound n config cubes (Some cube) place (Some End) passed sound pending = re
 line_sound : (n : Netlist) (config : Config) (r : Reading) (place : Place) (words : List Text) → line_refusal n config r place words ≡ None → Kept n config r → Kept n config (with_line n config r words)
 line_sound n config r place [] passed kept = kept
 line_sound n config r place (word ∷ words) passed kept =
-    said_sound n config r.cubes r.pending place (line_of (word ∷ words)) (printed_passes (are_printed (word ∷ words)) _ _ passed) kept.cubes kept.pending
+    said_sound n config r.version r.cubes r.pending place (line_of (word ∷ words)) (printed_passes (are_printed (word ∷ words)) _ _ passed) kept.cubes kept.pending
 
 -- the text
 pub ok_is : (cubes told : List Cube) → ◌≡◌ {A = Result (List Cube) CubeError} (Ok cubes) (Ok told) → cubes ≡ told
@@ -208,7 +233,7 @@ lines_sound n config r number (line ∷ lines) told e kept =
     lines_sound n config (with_line n config r (words_of line)) (suc number) lines told parts.1 (line_sound n config r (place_of_line (suc number)) (words_of line) parts.0 kept)
 
 pub cubes_sound : (n : Netlist) (config : Config) (text : Text) (told : List Cube) → cubes_of n config text ≡ Ok told → AreCubes n config told
-cubes_sound n config text told e = lines_sound n config (record { cubes = []; pending = None }) 0 (lines_of text) told e (record {
+cubes_sound n config text told e = lines_sound n config (record { version = None; cubes = []; pending = None }) 0 (lines_of text) told e (record {
   cubes = record { names = λ j k a b at_j at_k same. absurd (nothing_at j a at_j); each = λ k a at_k. absurd (nothing_at k a at_k) };
   pending = tt;
 })

@@ -1,5 +1,6 @@
 -- What holds of the cubes of every text.
 use Rattle.std.specs.Prelude.{ℕ, ◌≡◌, ◌<◌, Bool, true, false, List, length, Ok, Some, slice_get, option_and_then, IsSome}
+use Rattle.std.specs.List.{AllByRecursion}
 use Rattle.dft_base.specs.Lexing.{Text}
 use Rattle.dft_netlist.specs.declared.ids.NetId.{NetId}
 use Rattle.dft_netlist.specs.declared.ids.InstanceId.{InstanceId}
@@ -10,6 +11,7 @@ use Rattle.dft_netlist.specs.Names.{instance_name}
 use Rattle.dft_config.specs.Config.{Config}
 use Rattle.dft_rules.specs.ConfigPorts.{config_ports}
 use Rattle.dft_cubes.specs.declared.cube.Cube.{Cube}
+use Rattle.dft_cubes.specs.Domains.{captured}
 use Rattle.dft_cubes.specs.Cubes.{cubes_of}
 
 -- no cell is given twice, and each is an instance with a name
@@ -27,7 +29,7 @@ pub record ArePorts (n : Netlist) (config : Config) (ports : List (NetId × Bool
   pub no_reset : (k : ℕ) (a : NetId × Bool) → slice_get ports k ≡ Some a → (config_ports n config).is_reset a.0.0 ≡ false
 
 pub record IsCube (n : Netlist) (config : Config) (cube : Cube) : Type 0 where
-  pub domain : cube.domain < length config.domains
+  pub domains : AllByRecursion (λ domain. domain < length config.domains) (captured cube.domains)
   pub cells : AreCells n cube.cells
   pub ports : ArePorts n config cube.ports
 

@@ -1,3 +1,4 @@
+pub mod Domains
 pub mod Cubes
 pub mod NameSetShown
 pub mod Taking

@@ -2,7 +2,7 @@ ghost use Rattle.std.specs.Prelude.{◌≡◌, ◌++◌, ◌∷◌, [], IfOk};
 ghost use Rattle.dft_base.specs.Name.{IsName};
 ghost use Rattle.dft_cubes.specs.Taking.{cube_of, bare};
 
-use crate::cube::Cube;
+use crate::cube::{Cube, Domains};
 use dft_base::{Listed, Name};
 use dft_netlist::{InstanceId, NetId};
 use std::alloc::{AllocError, Global};
@@ -11,20 +11,20 @@ use std::alloc::{AllocError, Global};
 #[derive(Debug, Drop)]
 pub(crate) struct Draft {
     pub(crate) name: Name,
-    pub(crate) domain: u8,
+    pub(crate) domains: Domains,
     pub(crate) cells: Vec<(InstanceId, bool)>,
     pub(crate) ports: Vec<(NetId, bool)>,
 }
 
 impl Draft {
     // The cube that has given nothing yet.
-    pub(crate) fn new(alloc: Global, name: &[u8], domain: u8) -> Result<Draft, AllocError>
+    pub(crate) fn new(alloc: Global, name: &[u8], domains: Domains) -> Result<Draft, AllocError>
         requires { IsName name.now }
-        ensures { IfOk result (λ draft. cube_of draft ≡ bare name.now domain) }
+        ensures { IfOk result (λ draft. cube_of draft ≡ bare name.now domains) }
     {
         Ok(Draft {
             name: Name::from_slice(alloc, name)?,
-            domain,
+            domains,
             cells: Vec::new(alloc),
             ports: Vec::new(alloc),
         })
@@ -36,7 +36,7 @@ impl Draft {
     {
         Cube {
             name: self.name,
-            domain: self.domain,
+            domains: self.domains,
             cells: Listed::from_vec(self.cells),
             ports: Listed::from_vec(self.ports),
         }

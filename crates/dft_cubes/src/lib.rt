@@ -15,7 +15,7 @@ mod said;
 mod stamps;
 mod taken;
 
-pub use cube::{Cube, Merged};
+pub use cube::{Cube, Domains, Merged};
 pub use error::CubeError;
 pub use laws::cubes_are_sound;
 pub use limits::MAX_CUBES;

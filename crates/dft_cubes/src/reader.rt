@@ -25,7 +25,13 @@ fn take_said(taken: &mut Taken, here: &Here<'_>, said: Said<'_>) -> Result<(), C
     ensures refused { IfErr result (IsFault (refusal_of here.now taken.old (line_said said.entry))) }
 {
     match said {
+        Said::Version { number } => taken.version(here, number),
         Said::Begin { name, clock } => taken.begin(here, name, clock),
+        Said::BeginTwo {
+            name,
+            clock,
+            second,
+        } => taken.begin_two(here, name, clock, second),
         Said::Cell { name, bit } => taken.cell(here, name, bit),
         Said::Port { name, bit } => taken.port(here, name, bit),
         Said::End => taken.end(here),
@@ -70,7 +76,7 @@ fn take_lines(
     requires small { length bytes.now < 2 ^ 31 }
     requires domains { length config.now.domains ≤ 16 }
     requires taken { IsTaken design.now taken.old }
-    requires none { reading_of taken.old ≡ record { cubes = []; pending = None } }
+    requires none { reading_of taken.old ≡ record { version = None; cubes = []; pending = None } }
     ensures ended { IfOk result (λ number. cubes_of design.now config.now bytes.now ≡ ended number taken.new.cubes.items (pending_of taken.new)) }
     ensures refused { IfErr result (IsRefused (cubes_of design.now config.now bytes.now)) }
 {

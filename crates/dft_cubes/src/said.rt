@@ -10,9 +10,26 @@ use dft_word_lines::Span;
 // What a line says.
 #[derive(Clone, Copy, Debug)]
 pub(crate) enum Said<'a> {
-    Begin { name: &'a [u8], clock: &'a [u8] },
-    Cell { name: &'a [u8], bit: bool },
-    Port { name: &'a [u8], bit: bool },
+    Version {
+        number: &'a [u8],
+    },
+    Begin {
+        name: &'a [u8],
+        clock: &'a [u8],
+    },
+    BeginTwo {
+        name: &'a [u8],
+        clock: &'a [u8],
+        second: &'a [u8],
+    },
+    Cell {
+        name: &'a [u8],
+        bit: bool,
+    },
+    Port {
+        name: &'a [u8],
+        bit: bool,
+    },
     End,
 }
 
@@ -47,6 +64,43 @@ fn said_by_three<'a>(word: &[u8], name: &'a [u8], last: &'a [u8]) -> Option<Said
     }
 }
 
+// What four words say.
+fn said_by_four<'a>(
+    word: &[u8],
+    name: &'a [u8],
+    clock: &'a [u8],
+    second: &'a [u8],
+) -> Option<Said<'a>>
+    requires name { IsName name.now }
+    requires clock { IsName clock.now }
+    requires second { IsName second.now }
+    ensures said { option_map line_said result ≡ spec.line_of (word.now ∷ name.now ∷ clock.now ∷ second.now ∷ []) }
+    ensures names { IfSome result (λ said. SaysNames (line_said said)) }
+{
+    if word == b"cube".as_slice() {
+        Some(Said::BeginTwo {
+            name,
+            clock,
+            second,
+        })
+    } else {
+        None
+    }
+}
+
+// What two words say.
+fn said_by_two<'a>(word: &[u8], number: &'a [u8]) -> Option<Said<'a>>
+    requires { IsName number.now }
+    ensures said { option_map line_said result ≡ spec.line_of (word.now ∷ number.now ∷ []) }
+    ensures names { IfSome result (λ said. SaysNames (line_said said)) }
+{
+    if word == b"version".as_slice() {
+        Some(Said::Version { number })
+    } else {
+        None
+    }
+}
+
 // What one word says.
 fn said_by_one<'a>(word: &[u8]) -> Option<Said<'a>>
     ensures said { option_map line_said result ≡ spec.line_of (word.now ∷ []) }
@@ -68,7 +122,16 @@ pub(crate) fn said_by<'a>(line: &'a [u8], words: &[Span]) -> Option<Said<'a>>
 {
     match words {
         [word] => said_by_one(word.of(line)),
+        [word, number] => said_by_two(word.of(line), number.of(line)),
         [word, name, last] => said_by_three(word.of(line), name.of(line), last.of(line)),
+        [word, name, clock, second] => {
+            said_by_four(
+                word.of(line),
+                name.of(line),
+                clock.of(line),
+                second.of(line),
+            )
+        }
         _ => None,
     }
 }

@@ -20,7 +20,12 @@ use Rattle.dft_abstract.specs.Cycle.{Pulse, Half, tri_forced_by, tri_taken_by, n
 use Rattle.dft_cycle.specs.Machine.{Machine, value_at, is_one_of, ports_of, logic, acted, IsSet, at_strobe, IsStrobed, pulses, phase_from, pulse_from, IsPhase, IsPulsed}
 use Rattle.dft_logic.specs.Circuit.{IsReady, logic_at, cell_of, cell_at, flag_at, base_of, leaves_from, IsCircuit}
 use Rattle.dft_cycle.specs.Views.{rank_of, Among, AreNext}
-use Rattle.dft_cycle.specs.Plans.{IsPassed, LooseAreUnknown}
+use Rattle.std.proofs.lemmas.Option.{slice_get-get_or}
+use Rattle.dft_registers.specs.Cells.{Contents, course}
+use Rattle.dft_logic.specs.declared.takings.Taking.{Taking}
+use Rattle.dft_logic.specs.Takings.{ArePut}
+use Rattle.dft_cycle.specs.declared.plans.Plan.{Plan}
+use Rattle.dft_cycle.specs.Plans.{IsPassed, IsFound, IsFoundAt, LooseAreUnknown}
 use Rattle.dft_logic.specs.Compiling.{ports_by}
 use Rattle.dft_logic.specs.Needs.{AreSeen, IsStrobe}
 use Rattle.dft_logic.specs.Takings.{is_loose_input, is_loose}
@@ -387,6 +392,19 @@ phase_passed m after x rising pulsed p new compiled n k i s cells edge ports ups
     let r : HasHalf (logic m) (phase_from m rising pulsed) (value_at after.cells) =
     half_of m x rising pulsed p (value_at after.cells) compiled same (record { half = record { poss = passed.poss; view = passed.view }; least = passed.least; cells = each }) in
     record { netlist = n; clocks = k; inputs = i; shown = s; half = r.half; least = r.least; cells = r.cells }
+
+-- the plan that was found, and what was found for it
+pub plan_found : (x : Circuit) (p : Pulse) (old : Contents) (plans : List Plan) (place : ℕ) (plan d : Plan) (row : List Tri) → place < length plans → plan ≡ get_or plans place d → IsFoundAt x p old plans place row → IsFound x p old plan row
+plan_found x p old plans place plan d row less is found = found plan (slice_get-get_or plans place d less ∙ ap Some (sym is))
+
+-- where it is put the phase is passed
+pub put_passed : (x : Circuit) (p : Pulse) (old : Contents) (plan : Plan) (row rs new : List Tri) (takings : List Taking) (moves : List Bool) → IsFound x p old plan row → takings ≡ plan.takings.items → rs ≡ row → moves ≡ plan.moves.items →
+    ArePut takings (length takings) (value_at rs) (course old.layout moves) old.values new → IsPassed x p new
+put_passed x p old plan row rs new takings moves found t r m put =
+    found.passed new
+    (subst (λ (l : List Bool). ArePut plan.takings.items (length plan.takings.items) (value_at row) (course old.layout l) old.values new) m
+    (subst (λ (l : List Tri). ArePut plan.takings.items (length plan.takings.items) (value_at l) (course old.layout moves) old.values new) r
+    (subst (λ (l : List Taking). ArePut l (length l) (value_at rs) (course old.layout moves) old.values new) t put)))
 
 -- ---- loose flip-flops stay Unknown
 

@@ -20,9 +20,11 @@ use Rattle.dft_logic.specs.Shows.{Shown, IsShownOn}
 use Rattle.dft_logic.specs.Takes.{AreOrigins}
 use Rattle.dft_logic.specs.Entries.{Entry, entry_value}
 use Rattle.dft_logic.specs.Values.{value_at}
-use Rattle.dft_logic.specs.Circuit.{meaning, op_at, logic_at, cell_of, cell_at, force_nets, next_at, IsCircuit}
+use Rattle.dft_logic.specs.Circuit.{meaning, op_at, logic_at, cell_of, cell_at, flag_at, force_nets, next_at, IsCircuit}
 use Rattle.dft_logic.specs.EntryTables.{scan_needs, entry_for}
-use Rattle.dft_logic.specs.Takings.{taking_at, taken_by, is_loose, ArePut, AreTakings}
+use Rattle.dft_registers.specs.Layout.{Layout}
+use Rattle.dft_registers.specs.Cells.{Course, Rests, Enters, Follows, course, IsCarried}
+use Rattle.dft_logic.specs.Takings.{taking_at, taken_by, is_loose, IsLeft, ArePut, AreTakings}
 use Rattle.dft_logic.proofs.EntryLemmas.{entry_stays}
 use Rattle.dft_logic.proofs.PlanLemmas.{planned}
 use Rattle.dft_logic.proofs.TakingLemmas.{idle_value}
@@ -84,27 +86,33 @@ scan_here (Some s) scan k is net =
 
 -- ---- the pulse by a plan
 
-by_takings : (cells : ℕ → Cell) (q : Pulse) (v : ℕ → Tri) (table : ℕ → Entry) (count : ℕ) (takings : List Taking) (old new : List Tri) → AreTakings cells table count takings → ((c : ℕ) → q.old c ≡ value_at old c) →
-    ((c : ℕ) → is_loose (cells c) ≡ true → value_at old c ≡ Unknown) → ArePut takings (length takings) (taken_by cells q v) old new → (c : ℕ) → c < count → value_at new c ≡ entry_value q.old v (next_at (cells c) q.ports v) c (table c)
-by_takings cells q v table count takings old new are same loose put c live =
+by_takings : (cells : ℕ → Cell) (q : Pulse) (v : ℕ → Tri) (table : ℕ → Entry) (count : ℕ) (moved : ℕ → Course) (takings : List Taking) (row : ℕ → Tri) (old new : List Tri) → AreTakings cells table count moved takings →
+    ((c : ℕ) → q.old c ≡ value_at old c) → ((c : ℕ) → is_loose (cells c) ≡ true → value_at old c ≡ Unknown) → ((j : ℕ) → j < length takings → row j ≡ taken_by cells q v (taking_at takings j)) → length old ≡ count →
+    ArePut takings (length takings) row moved old new → (c : ℕ) → c < count → value_at new c ≡ entry_value q.old v (next_at (cells c) q.ports v) c (table c)
+by_takings cells q v table count moved takings row old new are same loose found size put c live =
     let G : ℕ → Tri = λ k. entry_value q.old v (next_at (cells k) q.ports v) k (table k) in
-    elim (put.each c) [
+    elim (put.each c (omega (arith, size, live))) [
       | inl w ↦
           (let t : Taking = taking_at takings w.0 in
-          w.1.1.1 ∙ ap (entry_value q.old v (next_at (cells t.place) q.ports v) t.place) (sym (are.each w.0 w.1.0)) ∙ ap G w.1.1.0)
+          w.1.1.1 ∙ found w.0 w.1.0 ∙ ap (entry_value q.old v (next_at (cells t.place) q.ports v) t.place) (sym (are.each w.0 w.1.0)) ∙ ap G w.1.1.0)
       | inr none ↦ elim (are.all c live) [
         | inl among ↦ absurd (none.0 among)
-        | inr idle ↦ none.1 ∙ sym (same c) ∙ idle_value (cells c) q.old v (next_at (cells c) q.ports v) c (table c) idle (λ is. same c ∙ loose c is)
+        | inr left ↦ go (moved c) left none.1
       ]
-    ]
+    ] where
+      go : (course : Course) → IsLeft (cells c) (table c) course → IsCarried (value_at old) c (value_at new c) course → value_at new c ≡ entry_value q.old v (next_at (cells c) q.ports v) c (table c)
+      go Rests idle carried = carried ∙ sym (same c) ∙ idle_value (cells c) q.old v (next_at (cells c) q.ports v) c (table c) idle (λ is. same c ∙ loose c is)
+      go Enters left carried = absurd left
+      go (Follows other) left carried = carried ∙ sym (same other) ∙ ap (entry_value q.old v (next_at (cells c) q.ports v) c) (sym left)
 
-pub passed : (x : Circuit) (clocks : List NetId) (pins : Pins) (plan : Plan) (q : Pulse) (values old new : List Tri) → (is : IsCircuit x) → (pinned : IsPins x pins) → IsMade x clocks pins plan →
+pub passed : (x : Circuit) (clocks : List NetId) (l : Layout) (pins : Pins) (plan : Plan) (q : Pulse) (values row old new : List Tri) → (is : IsCircuit x) → (pinned : IsPins x pins) → IsMade x clocks l pins plan →
     (among : ((e : ℕ) → q.pulsed e ≡ true → Among clocks (length clocks) e)) → (past : ((k : ℕ) → length x.ops.items ≤ k → q.ports k ≡ Unknown)) → (olds : ((c : ℕ) → q.old c ≡ value_at old c)) → (loose : LooseAreUnknown x (value_at old)) → (len : length values ≡ length x.ops.items) →
     (edge : plan.rising ≡ q.rising) → (flagged : plan.pulsed.items ≡ flags_of q.pulsed clocks) → (ports : plan.ports.items ≡ row_of q.ports pins.ports.items) → (enables : plan.enables.items ≡ row_of (value_at values) pins.enables.items) →
     (settled : ((k : ℕ) → Has (numbers_of (take plan.count plan.list.items)) k → value_at values k ≡ value_given (before_from q (value_at values)) (value_at values) k (meaning (op_at x.ops.items k)))) →
-    (put : ArePut plan.takings.items (length plan.takings.items) (taken_by (cell_at (map cell_of x.flops.items)) q (value_at values)) old new) → IsPassed x q new
+    (found : ((j : ℕ) → j < length plan.takings.items → value_at row j ≡ taken_by (cell_at (map cell_of x.flops.items)) q (value_at values) (taking_at plan.takings.items j))) → (size : length old ≡ length x.flops.items) →
+    (put : ArePut plan.takings.items (length plan.takings.items) (value_at row) (course l plan.moves.items) old new) → IsPassed x q new
 unfolding logic_at
-passed x clocks pins plan q values old new is pinned m among past olds loose len edge flagged ports enables settled put =
+passed x clocks l pins plan q values row old new is pinned m among past olds loose len edge flagged ports enables settled found size put =
     let v : ℕ → Tri = value_at values in
     let w : ℕ → Tri = value_at m.values in
     let count : ℕ = length x.ops.items in
@@ -124,21 +132,21 @@ passed x clocks pins plan q values old new is pinned m among past olds loose len
     let entries : (c : ℕ) → c < length x.flops.items → entry_for (cells c) q m.origin m.shown v ≡ Some (m.table c) =
     λ c live. sym (entry_stays (record { net = λ net. Free; cell = λ k. cells c }) m.pulse q m.origin m.shown w v 0 (λ t. same (cells c).domain t && takes (alike t) (cells c).falling) (λ force at. port c force live at) (λ scan at. enable c scan live at)) ∙ m.entries c live in
     let pass = planned x q m.origin m.shown m.table m.marked values new is len (subst O (λ t e. same e t && not (alike t)) m.origins) (subst R alike (subst S whole m.shows)) m.list.closed (λ k up. settled k (m.list.listed k up)) entries m.needed
-    (by_takings cells q v m.table (length x.flops.items) plan.takings.items old new m.takings olds loose put) in
+    (by_takings cells q v m.table (length x.flops.items) (course l plan.moves.items) plan.takings.items (value_at row) old new m.takings olds loose found size put) in
     record { poss = pass.0; view = pass.1.0; least = pass.1.1.0; each = pass.1.1.1 }
 
 -- ---- a plan is made
 
-pub plan_made : (x : Circuit) (clocks : List NetId) (pins : Pins) (p : Pulse) (values : List Tri) (origin : ℕ → Option ℕ) (shown : ℕ → Shown) (table : ℕ → Entry) (old mid new : Plan) →
-    (was : IsPlan x clocks pins old) → IsFilled x table old mid → IsNoted clocks pins p (value_at values) Made mid new → (size : length values ≡ length x.ops.items) → (past : ((k : ℕ) → length x.ops.items ≤ k → p.ports k ≡ Unknown)) →
+pub plan_made : (x : Circuit) (clocks : List NetId) (l : Layout) (pins : Pins) (p : Pulse) (values : List Tri) (origin : ℕ → Option ℕ) (shown : ℕ → Shown) (table : ℕ → Entry) (old mid new : Plan) →
+    (was : IsPlan x clocks l pins old) → IsFilled x l table old mid → IsNoted clocks pins p (value_at values) Made mid new → (size : length values ≡ length x.ops.items) → (past : ((k : ℕ) → length x.ops.items ≤ k → p.ports k ≡ Unknown)) →
     (among : ((e : ℕ) → p.pulsed e ≡ true → Among clocks (length clocks) e)) → (origins : AreOrigins (logic_at x) (level_before p) origin) → (shows : IsShownOn (logic_at x) (edges_of p.rising p.pulsed) (λ net. true) shown) →
-    (entries : ((c : ℕ) → c < length x.flops.items → entry_for (cell_at (map cell_of x.flops.items) c) p origin shown (value_at values) ≡ Some (table c))) → IsPlan x clocks pins new
-plan_made x clocks pins p values origin shown table old mid new was f n size past among origins shows entries =
+    (entries : ((c : ℕ) → c < length x.flops.items → entry_for (cell_at (map cell_of x.flops.items) c) p origin shown (value_at values) ≡ Some (table c))) → IsPlan x clocks l pins new
+plan_made x clocks l pins p values origin shown table old mid new was f n size past among origins shows entries =
     let lists : length new.list.items ≡ length mid.list.items = ap (λ (v : Vec NetId). length v.items) n.list in
     let taken : vec_capacity new.takings ≡ vec_capacity mid.takings = ap (λ (v : Vec Taking). vec_capacity v) n.takings in
     let front : take new.count new.list.items ≡ take mid.count mid.list.items = ap (λ (k : ℕ). take k new.list.items) n.count ∙ ap (λ (v : Vec NetId). take mid.count v.items) n.list in
     let L : List NetId → Type 0 = λ nets. IsNeedList x f.marked nets in
-    let T : List Taking → Type 0 = λ l. AreTakings (cell_at (map cell_of x.flops.items)) table (length x.flops.items) l in
+    let T : List Bool → List Taking → Type 0 = λ moves takings. AreTakings (cell_at (map cell_of x.flops.items)) table (length x.flops.items) (course l moves) takings in
     let fits : mid.count ≤ length mid.list.items = f.count in
     let room : length x.flops.items ≤ vec_capacity old.takings = was.room in
     record {
@@ -163,17 +171,18 @@ plan_made x clocks pins p values origin shown table old mid new was f n size pas
         entries = entries;
         needed = f.needed;
         list = subst L (sym front) f.list;
-        takings = subst T (sym (ap (λ (v : Vec Taking). v.items) n.takings)) f.takings;
+        rest = ap (λ (v : Vec Bool). flag_at v.items 0) n.moves ∙ f.rest;
+        takings = subst (λ (v : Vec Bool). T v.items new.takings.items) (sym n.moves) (subst (T mid.moves.items) (sym (ap (λ (v : Vec Taking). v.items) n.takings)) f.takings);
       };
     }
 
-pub plan_barred : (x : Circuit) (clocks : List NetId) (pins : Pins) (old new : Plan) → IsPlan x clocks pins old → new ≡ (record old { stage = Barred }) → IsPlan x clocks pins new
-plan_barred x clocks pins old new was is =
-    let P : Plan → Type 0 = λ plan. IsPlan x clocks pins plan in
+pub plan_barred : (x : Circuit) (clocks : List NetId) (l : Layout) (pins : Pins) (old new : Plan) → IsPlan x clocks l pins old → new ≡ (record old { stage = Barred }) → IsPlan x clocks l pins new
+plan_barred x clocks l pins old new was is =
+    let P : Plan → Type 0 = λ plan. IsPlan x clocks l pins plan in
     subst P (sym is) (record { pulsed = was.pulsed; ports = was.ports; enables = was.enables; list = was.list; count = was.count; room = was.room; made = λ made. absurd cc })
 
-pub plan_noted : (x : Circuit) (clocks : List NetId) (pins : Pins) (p : Pulse) (values : ℕ → Tri) (old new : Plan) → IsPlan x clocks pins old → IsNoted clocks pins p values Noted old new → IsPlan x clocks pins new
-plan_noted x clocks pins p values old new was n =
+pub plan_noted : (x : Circuit) (clocks : List NetId) (l : Layout) (pins : Pins) (p : Pulse) (values : ℕ → Tri) (old new : Plan) → IsPlan x clocks l pins old → IsNoted clocks pins p values Noted old new → IsPlan x clocks l pins new
+plan_noted x clocks l pins p values old new was n =
     let lists : length new.list.items ≡ length old.list.items = ap (λ (v : Vec NetId). length v.items) n.list in
     let taken : vec_capacity new.takings ≡ vec_capacity old.takings = ap (λ (v : Vec Taking). vec_capacity v) n.takings in
     let fits : old.count ≤ length old.list.items = was.count in

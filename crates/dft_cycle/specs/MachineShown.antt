@@ -10,7 +10,7 @@ use Rattle.dft_cycle.specs.Plans.{ArePlans, LooseAreUnknown}
 use Rattle.dft_cycle.specs.Looks.{AreLooks}
 
 abbrev pub machine_of : Inside → Machine
-machine_of d = record { netlist = d.design.now; clocks = d.clocks.items; inputs = d.inputs.items; cells = d.cells.items; shown = d.shown.items }
+machine_of d = record { netlist = d.design.now; clocks = d.clocks.items; inputs = d.inputs.items; cells = d.cells.values; shown = d.shown.items }
 
 -- the circuit is the design's, and each list has a place for each net or instance
 pub record IsMachine (d : Inside) : Type 0 where
@@ -25,14 +25,14 @@ pub record IsMachine (d : Inside) : Type 0 where
   pub inputs : length d.inputs.items ≡ length d.circuit.ops.items
   pub shown : length d.shown.items ≡ length d.circuit.ops.items
   pub values : length d.values.items ≡ length d.circuit.ops.items
-  pub cells : length d.cells.items ≡ length d.circuit.flops.items
+  pub cells : length d.cells.values ≡ length d.circuit.flops.items
   pub search : IsSearch d.circuit d.search
   pub marked : length d.marked.items ≡ length d.circuit.ops.items
   pub clear : (k : ℕ) → flag_at d.marked.items k ≡ false
   pub ready : IsReady d.circuit d.values.items
   pub quick : length d.quick.items ≡ length d.circuit.ops.items
-  pub plans : ArePlans d.circuit d.clocks.items d.plans
+  pub plans : ArePlans d.circuit d.clocks.items d.cells.layout d.plans
   pub looks : AreLooks d.circuit d.looks
-  pub loose : LooseAreUnknown d.circuit (value_at d.cells.items)
+  pub loose : LooseAreUnknown d.circuit (value_at d.cells.values)
   -- no net but clocks is flagged
   pub flags : (e : ℕ) → flag_at d.pulsed.items e ≡ true → is_one_of d.clocks.items e ≡ true

@@ -1,5 +1,5 @@
 -- Plans: pulses that are found in one pass, by the nets to settle and by what flip-flops take.
-use Rattle.std.specs.Prelude.{ℕ, Bool, true, ◌≡◌, ◌<◌, ◌≤◌, List, [], All, Option, Some, map, length, take}
+use Rattle.std.specs.Prelude.{ℕ, Bool, true, ◌≡◌, ◌<◌, ◌≤◌, List, [], All, Option, Some, map, length, take, false, slice_get}
 use Rattle.std.specs.Vec.{vec_capacity}
 use Rattle.dft_base.specs.declared.tri.Tri.{Tri}
 use Rattle.dft_base.specs.declared.tri.Tri.TheVariants.{Unknown}
@@ -14,7 +14,9 @@ use Rattle.dft_logic.specs.Entries.{Entry}
 use Rattle.dft_logic.specs.Values.{value_at}
 use Rattle.dft_logic.specs.Circuit.{logic_at, cell_of, cell_at, flag_at, force_nets, AreOrdered}
 use Rattle.dft_logic.specs.EntryTables.{scan_needs, entry_for, entry_needs}
-use Rattle.dft_logic.specs.Takings.{AreTakings, is_loose}
+use Rattle.dft_registers.specs.Layout.{Layout}
+use Rattle.dft_registers.specs.Cells.{Contents, course}
+use Rattle.dft_logic.specs.Takings.{AreTakings, ArePut, taking_at, is_loose}
 use Rattle.dft_logic.specs.ShownTables.{edges_of}
 use Rattle.dft_cycle.specs.declared.plans.Pins.{Pins}
 use Rattle.dft_cycle.specs.declared.plans.Plan.{Plan}
@@ -54,7 +56,7 @@ pub record IsKey (clocks : List NetId) (pins : Pins) (p : Pulse) (values : ℕ �
   pub enables : scans ≡ row_of values pins.enables.items
 
 -- A plan that is made was right for some pulse that has its key: each flip-flop has an entry there, what it needs is listed, and what it takes.
-pub record IsMade (x : Circuit) (clocks : List NetId) (pins : Pins) (plan : Plan) : Type 0 where
+pub record IsMade (x : Circuit) (clocks : List NetId) (l : Layout) (pins : Pins) (plan : Plan) : Type 0 where
   pub pulse : Pulse
   pub values : List Tri
   pub origin : ℕ → Option ℕ
@@ -69,16 +71,18 @@ pub record IsMade (x : Circuit) (clocks : List NetId) (pins : Pins) (plan : Plan
   pub entries : (c : ℕ) → c < length x.flops.items → entry_for (cell_at (map cell_of x.flops.items) c) pulse origin shown (value_at values) ≡ Some (table c)
   pub needed : (c : ℕ) → c < length x.flops.items → (k : ℕ) → k < length x.ops.items → Has (entry_needs (cell_at (map cell_of x.flops.items) c) (table c)) k → flag_at marked k ≡ true
   pub list : IsNeedList x marked (take plan.count plan.list.items)
-  pub takings : AreTakings (cell_at (map cell_of x.flops.items)) table (length x.flops.items) plan.takings.items
+  pub rest : flag_at plan.moves.items 0 ≡ false
+  pub takings : AreTakings (cell_at (map cell_of x.flops.items)) table (length x.flops.items) (course l plan.moves.items) plan.takings.items
 
-pub record IsPlan (x : Circuit) (clocks : List NetId) (pins : Pins) (plan : Plan) : Type 0 where
+-- where flip-flops lie so
+pub record IsPlan (x : Circuit) (clocks : List NetId) (l : Layout) (pins : Pins) (plan : Plan) : Type 0 where
   pub pulsed : length plan.pulsed.items ≡ length clocks
   pub ports : length plan.ports.items ≡ length pins.ports.items
   pub enables : length plan.enables.items ≡ length pins.enables.items
   pub list : length plan.list.items ≡ length x.ops.items
   pub count : plan.count ≤ length plan.list.items
   pub room : length x.flops.items ≤ vec_capacity plan.takings
-  pub made : plan.stage ≡ Made → IsMade x clocks pins plan
+  pub made : plan.stage ≡ Made → IsMade x clocks l pins plan
 
 -- ---- what is written in a plan
 
@@ -91,10 +95,11 @@ pub record IsNoted (clocks : List NetId) (pins : Pins) (p : Pulse) (values : ℕ
   pub enables : new.enables.items ≡ row_of values pins.enables.items
   pub list : new.list ≡ old.list
   pub count : new.count ≡ old.count
+  pub moves : new.moves ≡ old.moves
   pub takings : new.takings ≡ old.takings
 
--- the plan lists what flip-flops with these entries need, by marks, and what they take; its key is as before
-pub record IsFilled (x : Circuit) (table : ℕ → Entry) (old new : Plan) : Type 0 where
+-- the plan lists what flip-flops with these entries need, by marks, the registers that move, and what flip-flops take; its key is as before
+pub record IsFilled (x : Circuit) (l : Layout) (table : ℕ → Entry) (old new : Plan) : Type 0 where
   pub marked : List Bool
   pub stage : new.stage ≡ old.stage
   pub rising : new.rising ≡ old.rising
@@ -105,7 +110,8 @@ pub record IsFilled (x : Circuit) (table : ℕ → Entry) (old new : Plan) : Typ
   pub count : new.count ≤ length new.list.items
   pub list : IsNeedList x marked (take new.count new.list.items)
   pub needed : (c : ℕ) → c < length x.flops.items → (k : ℕ) → k < length x.ops.items → Has (entry_needs (cell_at (map cell_of x.flops.items) c) (table c)) k → flag_at marked k ≡ true
-  pub takings : AreTakings (cell_at (map cell_of x.flops.items)) table (length x.flops.items) new.takings.items
+  pub rest : flag_at new.moves.items 0 ≡ false
+  pub takings : AreTakings (cell_at (map cell_of x.flops.items)) table (length x.flops.items) (course l new.moves.items) new.takings.items
   pub room : vec_capacity new.takings ≡ vec_capacity old.takings
 
 -- ---- loose flip-flops
@@ -123,10 +129,10 @@ pub record IsSketch (x : Circuit) (room : Sketch) : Type 0 where
   pub entries : length room.entries.items ≡ length x.flops.items
 
 -- the plans of a circuit with these clocks, and what they are made from
-pub record ArePlans (x : Circuit) (clocks : List NetId) (p : Plans) : Type 0 where
+pub record ArePlans (x : Circuit) (clocks : List NetId) (l : Layout) (p : Plans) : Type 0 where
   pub pins : IsPins x p.pins
   pub sketch : IsSketch x p.sketch
-  pub plans : All (IsPlan x clocks p.pins) p.plans.items
+  pub plans : All (IsPlan x clocks l p.pins) p.plans.items
   pub some : 0 < length p.plans.items
 
 -- a phase of a pulse was found by one pass: these are the values of flip-flops after it, at a least map that is there
@@ -135,3 +141,14 @@ pub record IsPassed (x : Circuit) (p : Pulse) (new : List Tri) : Type 0 where
   pub view : ℕ → ℕ → Tri
   pub least : IsLeast (logic_at x) p poss view
   pub each : (c : ℕ) → c < length x.flops.items → value_at new c ≡ after_pulse (logic_at x) p view c
+
+-- What was found for a plan's list: where it is put, as the plan's registers move, the phase is passed.
+pub record IsFound (x : Circuit) (p : Pulse) (old : Contents) (plan : Plan) (row : List Tri) : Type 0 where
+  pub rest : flag_at plan.moves.items 0 ≡ false
+  pub few : length plan.takings.items ≤ length x.flops.items
+  pub live : (j : ℕ) → j < length plan.takings.items → (taking_at plan.takings.items j).place < length x.flops.items
+  pub passed : (new : List Tri) → ArePut plan.takings.items (length plan.takings.items) (value_at row) (course old.layout plan.moves.items) old.values new → IsPassed x p new
+
+-- for the plan at a place
+abbrev pub IsFoundAt : Circuit → Pulse → (old : Contents) → List Plan → (place : ℕ) → (row : List Tri) → Type 0
+IsFoundAt x p old plans place row = (plan : Plan) → slice_get plans place ≡ Some plan → IsFound x p old plan row

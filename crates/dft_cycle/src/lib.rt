@@ -3,6 +3,7 @@
 
 mod flops;
 mod laws;
+mod laying;
 mod looking;
 mod looks;
 mod machine;

@@ -50,7 +50,7 @@ impl Looks {
         requires row { length row.old ≡ length strobe.nets.now }
         ensures looks { AreLooks strobe.entry.circuit.now self.new }
         ensures clear { (k : ℕ) → is_up marked.new k ≡ false }
-        ensures seen { result ≡ true → AreSeen (logic_at strobe.entry.circuit.now) (spec.value_at strobe.entry.ports.now) (spec.value_at strobe.entry.cells.now) strobe.entry.nets.now row.new }
+        ensures seen { result ≡ true → AreSeen (logic_at strobe.entry.circuit.now) (spec.value_at strobe.entry.ports.now) (spec.value_at strobe.entry.cells.now.values) strobe.entry.nets.now row.new }
     {
         match find_look(&self.looks, strobe.nets) {
             Some(place) => {

@@ -110,7 +110,7 @@ impl Look {
         requires look { IsLook strobe.circuit.now self.now }
         requires listed { IsListed strobe.circuit.now self.now }
         requires row { length row.old ≡ length self.now.nets.items }
-        ensures { AreSeen (logic_at strobe.entry.circuit.now) (spec.value_at strobe.entry.ports.now) (spec.value_at strobe.entry.cells.now) self.now.nets.items row.new }
+        ensures { AreSeen (logic_at strobe.entry.circuit.now) (spec.value_at strobe.entry.ports.now) (spec.value_at strobe.entry.cells.now.values) self.now.nets.items row.new }
     {
         let list = &self.list[..self.count];
         settle_strobe(strobe.circuit, strobe.ports, strobe.cells, list, values);
@@ -133,7 +133,7 @@ impl Look {
         requires row { length row.old ≡ length self.old.nets.items }
         ensures look { IsLook strobe.entry.circuit.now self.new }
         ensures clear { (k : ℕ) → is_up marked.new k ≡ false }
-        ensures seen { AreSeen (logic_at strobe.entry.circuit.now) (spec.value_at strobe.entry.ports.now) (spec.value_at strobe.entry.cells.now) self.old.nets.items row.new }
+        ensures seen { AreSeen (logic_at strobe.entry.circuit.now) (spec.value_at strobe.entry.ports.now) (spec.value_at strobe.entry.cells.now.values) self.old.nets.items row.new }
     {
         if !self.made {
             self.make(strobe.circuit, marked);

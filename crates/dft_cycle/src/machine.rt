@@ -8,6 +8,7 @@ ghost use Rattle.dft_netlist.specs.Runs.{takes};
 ghost use Rattle.dft_logic.specs.Needs.{AreSeen};
 ghost use Rattle.dft_logic.specs.Circuit.{cell_of, cell_at, force_at, IsCircuit, flag_at as is_up};
 
+use crate::laying::lay_out;
 use crate::looking::Looks;
 use crate::phases::{Phase, Search, Strobe};
 use crate::planning::Plans;
@@ -15,10 +16,11 @@ use crate::rounds::find_least;
 use crate::sweeping::settle_again;
 use dft_base::Tri;
 use dft_logic::{
-    Acting, Circuit, FlipFlop, Pulse, compile, forced, list_of, read_list, settle, strobe_view,
-    value_at,
+    Acting, Circuit, FlipFlop, Pulse, compile, forced, list_of, put_all, read_list, settle,
+    strobe_view, value_at,
 };
 use dft_netlist::{Design, NetId};
+use dft_registers::Cells;
 use std::alloc::{AllocError, Global};
 use std::marker::Model;
 
@@ -31,7 +33,7 @@ pub struct AbstractMachine<'a> {
     circuit: Circuit,
     falls: bool,
     inputs: Vec<Tri>,
-    cells: Vec<Tri>,
+    cells: Cells,
     shown: Vec<Tri>,
     pulsed: Vec<bool>,
     values: Vec<Tri>,
@@ -70,24 +72,24 @@ impl<'a> AbstractMachine<'a> {
         flag_clocks(clocks, &mut pulsed);
         let circuit = compile(alloc, design, &pulsed)?;
         let clocks = Vec::from_slice(alloc, clocks)?;
-        let cells = circuit.flops.len();
+        let count = circuit.flops.len();
+        let cells = lay_out(alloc, &circuit)?;
         let inputs = unknown(alloc, nets)?;
         let shown = unknown(alloc, nets)?;
         let mut values = unknown(alloc, nets)?;
-        let bits = unknown(alloc, cells)?;
-        let poss = unknown(alloc, cells)?;
-        let held = unknown(alloc, cells)?;
-        let next = unknown(alloc, cells)?;
+        let poss = unknown(alloc, count)?;
+        let held = unknown(alloc, count)?;
+        let next = unknown(alloc, count)?;
         let mut marked = lowered(alloc, nets)?;
         let quick = unknown(alloc, nets)?;
         let looks = Looks::prepare(alloc, &circuit)?;
-        let plans = Plans::prepare(alloc, &circuit, &clocks, &mut marked)?;
+        let plans = Plans::prepare(alloc, &circuit, &clocks, cells.registers(), &mut marked)?;
         let falls = has_falling(&circuit.flops);
         let pulse = Pulse {
             rising: false,
             ports: &inputs,
             pulsed: &[],
-            old: &bits,
+            old: &cells,
         };
         settle(&circuit, &strobe_view(pulse), &mut values);
         Ok(AbstractMachine {
@@ -96,7 +98,7 @@ impl<'a> AbstractMachine<'a> {
             circuit,
             falls,
             inputs,
-            cells: bits,
+            cells,
             shown,
             pulsed,
             values,
@@ -219,16 +221,23 @@ impl<'a> AbstractMachine<'a> {
             clocks: &self.clocks,
             pulse,
         };
-        let taken = self.plans.take(
+        let found = self.plans.find(
             phase,
             &mut self.quick,
             &mut self.marked,
             &mut self.search.next,
         );
-        if taken {
-            self.cells.as_mut_slice().copy_from_slice(&self.search.next);
-        } else {
-            self.phase_by_views(rising, pulsed);
+        match found {
+            Some(place) => {
+                let plan = &self.plans.plans[place];
+                put_all(
+                    &plan.takings,
+                    &self.search.next,
+                    &plan.moves,
+                    &mut self.cells,
+                );
+            }
+            None => self.phase_by_views(rising, pulsed),
         }
     }
 
@@ -248,7 +257,7 @@ impl<'a> AbstractMachine<'a> {
         ensures { IsPhase (logic self.old) self.old rising pulsed.now self.new }
     {
         mark(&self.clocks, pulsed, &mut self.pulsed);
-        self.search.poss.as_mut_slice().copy_from_slice(&self.cells);
+        self.cells.read(&mut self.search.poss);
         let pulse = Pulse {
             rising,
             ports: &self.inputs,
@@ -286,16 +295,18 @@ fn acted_on(force: Option<Acting>, net: NetId, value: Tri, bit: Tri) -> Tri
 }
 
 // An input that gets a value acts on the flip-flops that have it as their reset or set.
-fn act(circuit: &Circuit, net: NetId, value: Tri, cells: &mut [Tri])
+fn act(circuit: &Circuit, net: NetId, value: Tri, cells: &mut Cells)
     requires circuit { IsCircuit circuit.now }
     requires live { net.0 < length circuit.now.ops.items }
-    requires cells { length cells.old ≡ length circuit.now.flops.items }
-    ensures { (c : ℕ) → c < length circuit.now.flops.items → spec.value_at cells.new c ≡ acted (cell_at (map cell_of circuit.now.flops.items) c).force net.0 value (spec.value_at cells.old c) }
+    requires cells { length cells.old.values ≡ length circuit.now.flops.items }
+    ensures layout { cells.new.layout ≡ cells.old.layout }
+    ensures count { length cells.new.values ≡ length cells.old.values }
+    ensures each { (c : ℕ) → c < length circuit.now.flops.items → spec.value_at cells.new.values c ≡ acted (cell_at (map cell_of circuit.now.flops.items) c).force net.0 value (spec.value_at cells.old.values c) }
 {
     for cell in list_of(&circuit.followers, net) {
         let place = *cell as usize;
-        let bit = value_at(cells, *cell);
-        cells[place] = acted_on(circuit.flops[place].force, net, value, bit);
+        let bit = cells.at(place);
+        cells.set(place, acted_on(circuit.flops[place].force, net, value, bit));
     }
 }
 
@@ -333,13 +344,16 @@ fn has_falling(flops: &[FlipFlop]) -> bool
 }
 
 // The flip-flops that take a value in a phase take their next values.
-fn take(flops: &[FlipFlop], rising: bool, pulsed: &[bool], next: &[Tri], cells: &mut [Tri])
-    requires cells { length cells.old ≡ length flops.now }
+fn take(flops: &[FlipFlop], rising: bool, pulsed: &[bool], next: &[Tri], cells: &mut Cells)
+    requires cells { length cells.old.values ≡ length flops.now }
     requires next { length next.now ≡ length flops.now }
-    ensures { (c : ℕ) → c < length flops.now → spec.value_at cells.new c ≡ (if is_up pulsed.now (cell_at (map cell_of flops.now) c).domain && takes rising (cell_at (map cell_of flops.now) c).falling then spec.value_at next.now c else spec.value_at cells.old c) }
+    ensures layout { cells.new.layout ≡ cells.old.layout }
+    ensures count { length cells.new.values ≡ length cells.old.values }
+    ensures each { (c : ℕ) → c < length flops.now → spec.value_at cells.new.values c ≡ (if is_up pulsed.now (cell_at (map cell_of flops.now) c).domain && takes rising (cell_at (map cell_of flops.now) c).falling then spec.value_at next.now c else spec.value_at cells.old.values c) }
 {
     for (place, flop) in flops.iter().enumerate() {
-        cells[place] = taken(flop.changes(rising, pulsed), next[place], cells[place]);
+        let old = cells.at(place);
+        cells.set(place, taken(flop.changes(rising, pulsed), next[place], old));
     }
 }
 

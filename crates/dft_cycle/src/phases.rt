@@ -3,6 +3,7 @@
 use dft_base::Tri;
 use dft_logic::{Circuit, Pulse};
 use dft_netlist::NetId;
+use dft_registers::Cells;
 
 // A phase of a pulse in a circuit whose clocks are these.
 #[derive(Clone, Copy)]
@@ -17,7 +18,7 @@ pub(crate) struct Phase<'a> {
 pub(crate) struct Strobe<'a> {
     pub circuit: &'a Circuit,
     pub ports: &'a [Tri],
-    pub cells: &'a [Tri],
+    pub cells: &'a Cells,
     pub nets: &'a [NetId],
 }
 

@@ -4,7 +4,7 @@ ghost use Rattle.std.specs.Prelude.{◌≡◌, ℕ, ◌<◌, length, true, false
 ghost use Rattle.dft_logic.specs.Values as spec;
 ghost use Rattle.dft_logic.specs.Circuit.{IsCircuit, pulse_at, flag_at as is_up};
 ghost use Rattle.dft_cycle.specs.Views.{PulsesAmong};
-ghost use Rattle.dft_cycle.specs.Plans.{ArePlans, LooseAreUnknown, IsPassed};
+ghost use Rattle.dft_cycle.specs.Plans.{ArePlans, LooseAreUnknown, IsFoundAt};
 
 use crate::phases::Phase;
 use crate::plans::{Pins, Plan, Sketch, Stage, draw};
@@ -65,8 +65,8 @@ fn place_after(place: usize, count: usize) -> usize
 impl Plans {
     // Notes a plan for a phase, in place of another.
     fn note(&mut self, phase: Phase<'_>, values: &[Tri])
-        requires plans { ArePlans phase.circuit.now phase.clocks.now self.old }
-        ensures { ArePlans phase.entry.circuit.now phase.entry.clocks.now self.new }
+        requires plans { ArePlans phase.circuit.now phase.clocks.now phase.pulse.old.now.layout self.old }
+        ensures { ArePlans phase.entry.circuit.now phase.entry.clocks.now phase.entry.pulse.old.now.layout self.new }
     {
         let place = next_place(self.noted, self.taken, self.plans.len());
         self.plans[place].note(phase, &self.pins, values, Stage::Noted);
@@ -76,20 +76,21 @@ impl Plans {
     // Makes the plan at a place for a phase, if all flip-flops take what is still.
     fn make(&mut self, phase: Phase<'_>, place: usize, values: &mut [Tri], marked: &mut [bool])
         requires circuit { IsCircuit phase.circuit.now }
-        requires plans { ArePlans phase.circuit.now phase.clocks.now self.old }
+        requires plans { ArePlans phase.circuit.now phase.clocks.now phase.pulse.old.now.layout self.old }
         requires live { place < length self.old.plans.items }
         requires among { PulsesAmong phase.pulse.pulsed.now phase.clocks.now }
         requires ports { length phase.pulse.ports.now ≡ length phase.circuit.now.ops.items }
         requires values { length values.old ≡ length phase.circuit.now.ops.items }
         requires marked { length marked.old ≡ length phase.circuit.now.ops.items }
         requires clear { (k : ℕ) → is_up marked.old k ≡ false }
-        ensures plans { ArePlans phase.entry.circuit.now phase.entry.clocks.now self.new }
+        requires cells { length phase.pulse.old.now.values ≡ length phase.circuit.now.flops.items }
+        ensures plans { ArePlans phase.entry.circuit.now phase.entry.clocks.now phase.entry.pulse.old.now.layout self.new }
         ensures count { length self.new.plans.items ≡ length self.old.plans.items }
         ensures clear { (k : ℕ) → is_up marked.new k ≡ false }
     {
         let plan = &mut self.plans[place];
         if draw(phase, &mut self.sketch, values) {
-            plan.fill(phase.circuit, &self.sketch.entries, marked);
+            plan.fill(phase.circuit, phase.pulse.old, &self.sketch.entries, marked);
             plan.note(phase, &self.pins, values, Stage::Made);
         } else {
             plan.stage = Stage::Barred;
@@ -99,13 +100,14 @@ impl Plans {
     // The place of the plan for a phase, which is made if the phase came before. Where there is none, one is noted.
     fn choose(&mut self, phase: Phase<'_>, values: &mut [Tri], marked: &mut [bool]) -> Option<usize>
         requires circuit { IsCircuit phase.circuit.now }
-        requires plans { ArePlans phase.circuit.now phase.clocks.now self.old }
+        requires plans { ArePlans phase.circuit.now phase.clocks.now phase.pulse.old.now.layout self.old }
         requires among { PulsesAmong phase.pulse.pulsed.now phase.clocks.now }
         requires ports { length phase.pulse.ports.now ≡ length phase.circuit.now.ops.items }
         requires values { length values.old ≡ length phase.circuit.now.ops.items }
         requires marked { length marked.old ≡ length phase.circuit.now.ops.items }
         requires clear { (k : ℕ) → is_up marked.old k ≡ false }
-        ensures plans { ArePlans phase.entry.circuit.now phase.entry.clocks.now self.new }
+        requires cells { length phase.pulse.old.now.values ≡ length phase.circuit.now.flops.items }
+        ensures plans { ArePlans phase.entry.circuit.now phase.entry.clocks.now phase.entry.pulse.old.now.layout self.new }
         ensures live { IfSome result (λ place. place < length self.new.plans.items) }
         ensures clear { (k : ℕ) → is_up marked.new k ≡ false }
     {
@@ -126,31 +128,36 @@ impl Plans {
         }
     }
 
-    // Finds the values of flip-flops after a phase by a plan, if there is one for it. Whether they were found.
-    pub(crate) fn take(
+    // Finds what flip-flops take in a phase by a plan, if there is one for it: the place of the plan.
+    pub(crate) fn find(
         &mut self,
         phase: Phase<'_>,
         values: &mut [Tri],
         marked: &mut [bool],
-        next: &mut [Tri],
-    ) -> bool
+        row: &mut [Tri],
+    ) -> Option<usize>
         requires circuit { IsCircuit phase.circuit.now }
-        requires plans { ArePlans phase.circuit.now phase.clocks.now self.old }
+        requires plans { ArePlans phase.circuit.now phase.clocks.now phase.pulse.old.now.layout self.old }
         requires among { PulsesAmong phase.pulse.pulsed.now phase.clocks.now }
         requires ports { length phase.pulse.ports.now ≡ length phase.circuit.now.ops.items }
         requires values { length values.old ≡ length phase.circuit.now.ops.items }
         requires marked { length marked.old ≡ length phase.circuit.now.ops.items }
         requires clear { (k : ℕ) → is_up marked.old k ≡ false }
-        requires next { length next.old ≡ length phase.circuit.now.flops.items }
-        requires cells { length phase.pulse.old.now ≡ length phase.circuit.now.flops.items }
-        requires loose { LooseAreUnknown phase.circuit.now (spec.value_at phase.pulse.old.now) }
-        ensures plans { ArePlans phase.entry.circuit.now phase.entry.clocks.now self.new }
+        requires row { length row.old ≡ length phase.circuit.now.flops.items }
+        requires cells { length phase.pulse.old.now.values ≡ length phase.circuit.now.flops.items }
+        requires loose { LooseAreUnknown phase.circuit.now (spec.value_at phase.pulse.old.now.values) }
+        ensures plans { ArePlans phase.entry.circuit.now phase.entry.clocks.now phase.entry.pulse.old.now.layout self.new }
         ensures clear { (k : ℕ) → is_up marked.new k ≡ false }
-        ensures passed { result ≡ true → IsPassed phase.entry.circuit.now (pulse_at phase.entry.pulse) next.new }
+        ensures live { IfSome result (λ place. place < length self.new.plans.items) }
+        ensures found { IfSome result (λ place. IsFoundAt phase.entry.circuit.now (pulse_at phase.entry.pulse) phase.entry.pulse.old.now self.new.plans.items place row.new) }
     {
         match self.choose(phase, values, marked) {
-            Some(place) => self.plans[place].take(phase, &self.pins, values, next),
-            None => false,
+            Some(place) => if self.plans[place].find(phase, &self.pins, values, row) {
+                Some(place)
+            } else {
+                None
+            },
+            None => None,
         }
     }
 }

@@ -12,16 +12,17 @@ ghost use Rattle.dft_logic.specs.ShownTables.{shown_at, edges_of};
 ghost use Rattle.dft_logic.specs.EntryTables.{origin_at, entry_for, entry_needs, entry_at};
 ghost use Rattle.dft_cycle.specs.declared.plans.Stage.TheVariants.{Noted, Made};
 ghost use Rattle.dft_cycle.specs.Views.{PulsesAmong};
-ghost use Rattle.dft_cycle.specs.Plans.{row_of, flags_of, IsPins, IsSketch, IsNeedList, IsPlan, IsNoted, IsFilled, LooseAreUnknown, IsPassed};
+ghost use Rattle.dft_cycle.specs.Plans.{row_of, flags_of, IsPins, IsSketch, IsNeedList, IsPlan, IsNoted, IsFilled, LooseAreUnknown, IsFound};
 
 use crate::phases::Phase;
 use dft_base::Tri;
 use dft_logic::{
-    Circuit, Entry, Pulse, Shown, Sights, Taking, find_entries, find_origins, flag_at, has_row,
-    list_marked, list_takings, lower, mark_entries, mark_needed, read_list, settle_list, show_all,
-    take_all,
+    Circuit, Entry, Pulse, Shown, Sights, Taking, find_entries, find_moves, find_origins,
+    find_values, flag_at, has_row, list_marked, list_takings, lower, mark_entries, mark_needed,
+    read_list, settle_list, show_all,
 };
 use dft_netlist::{InstanceId, NetId};
+use dft_registers::Cells;
 
 // How far a plan got.
 #[derive(Clone, Copy)]
@@ -44,7 +45,7 @@ pub(crate) struct Pins {
 }
 
 // A phase that is found in one pass: whether its clocks rise, those that pulse, and the values of ports and of scan enables, in the order
-// of the pins; then the nets to settle, at the front of a list, and what flip-flops take.
+// of the pins; then the nets to settle, at the front of a list, the registers that move, and what other flip-flops take.
 #[derive(Drop)]
 pub(crate) struct Plan {
     pub stage: Stage,
@@ -54,6 +55,7 @@ pub(crate) struct Plan {
     pub enables: Vec<Tri>,
     pub list: Vec<NetId>,
     pub count: usize,
+    pub moves: Vec<bool>,
     pub takings: Vec<Taking>,
 }
 
@@ -201,40 +203,55 @@ impl Plan {
         read_list(&pins.enables, values, &mut self.enables);
     }
 
-    // Lists what is settled and taken where flip-flops have these entries. All marks are lowered after it.
-    pub(crate) fn fill(&mut self, circuit: &Circuit, entries: &[Entry], marked: &mut [bool])
+    // Lists what is settled, moved and taken where flip-flops have these entries, and lie where these cells do. All marks are
+    // lowered after it.
+    pub(crate) fn fill(
+        &mut self,
+        circuit: &Circuit,
+        cells: &Cells,
+        entries: &[Entry],
+        marked: &mut [bool],
+    )
         requires circuit { IsCircuit circuit.now }
+        requires cells { length cells.now.values ≡ length circuit.now.flops.items }
         requires entries { length entries.now ≡ length circuit.now.flops.items }
         requires marked { length marked.old ≡ length circuit.now.ops.items }
         requires list { length self.old.list.items ≡ length circuit.now.ops.items }
         requires room { length circuit.now.flops.items ≤ vec_capacity self.old.takings }
-        ensures filled { IsFilled circuit.now (entry_at entries.now) self.old self.new }
+        ensures filled { IsFilled circuit.now cells.now.layout (entry_at entries.now) self.old self.new }
         ensures clear { (k : ℕ) → is_up marked.new k ≡ false }
     {
         self.count = list_needs(circuit, entries, marked, &mut self.list);
-        list_takings(&circuit.flops, entries, &mut self.takings);
+        find_moves(cells, entries, &mut self.moves);
+        list_takings(
+            &circuit.flops,
+            entries,
+            cells,
+            &self.moves,
+            &mut self.takings,
+        );
         lower(marked);
     }
 
-    // Finds the values of flip-flops after a phase by it, if it is made and the phase is the one that it is for. Whether
-    // they were found.
-    pub(crate) fn take(
+    // Finds what flip-flops take in a phase by it, if it is made and the phase is the one that it is for. Whether it was
+    // found.
+    pub(crate) fn find(
         &self,
         phase: Phase<'_>,
         pins: &Pins,
         values: &mut [Tri],
-        next: &mut [Tri],
+        row: &mut [Tri],
     ) -> bool
         requires circuit { IsCircuit phase.circuit.now }
         requires pins { IsPins phase.circuit.now pins.now }
-        requires plan { IsPlan phase.circuit.now phase.clocks.now pins.now self.now }
+        requires plan { IsPlan phase.circuit.now phase.clocks.now phase.pulse.old.now.layout pins.now self.now }
         requires among { PulsesAmong phase.pulse.pulsed.now phase.clocks.now }
         requires ports { length phase.pulse.ports.now ≡ length phase.circuit.now.ops.items }
         requires values { length values.old ≡ length phase.circuit.now.ops.items }
-        requires next { length next.old ≡ length phase.circuit.now.flops.items }
-        requires cells { length phase.pulse.old.now ≡ length phase.circuit.now.flops.items }
-        requires loose { LooseAreUnknown phase.circuit.now (spec.value_at phase.pulse.old.now) }
-        ensures { result ≡ true → IsPassed phase.entry.circuit.now (pulse_at phase.entry.pulse) next.new }
+        requires row { length row.old ≡ length phase.circuit.now.flops.items }
+        requires cells { length phase.pulse.old.now.values ≡ length phase.circuit.now.flops.items }
+        requires loose { LooseAreUnknown phase.circuit.now (spec.value_at phase.pulse.old.now.values) }
+        ensures { result ≡ true → IsFound phase.entry.circuit.now (pulse_at phase.entry.pulse) phase.entry.pulse.old.now self.now row.new }
     {
         if !self.is_made() {
             return false;
@@ -245,7 +262,7 @@ impl Plan {
             return false;
         }
         let flops = &phase.circuit.flops;
-        take_all(flops, &self.takings, phase.pulse, values, next);
+        find_values(flops, &self.takings, phase.pulse, values, row);
         true
     }
 }

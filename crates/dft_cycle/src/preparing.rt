@@ -5,6 +5,7 @@ ghost use Rattle.dft_netlist.specs.Orders.{Has, numbers_of};
 ghost use Rattle.dft_logic.specs.Circuit.{IsCircuit, force_nets, cell_of, cell_at, flag_at as is_up};
 ghost use Rattle.dft_logic.specs.EntryTables.{scan_needs, entry_at};
 ghost use Rattle.dft_logic.specs.Entries.{Keeps};
+ghost use Rattle.dft_registers.specs.Layout.{Layout};
 ghost use Rattle.dft_cycle.specs.Plans.{IsPins, IsPlan, ArePlans};
 ghost use Rattle.dft_cycle.specs.Looks.{IsLook, AreLooks};
 
@@ -90,13 +91,20 @@ fn pins(
 }
 
 // A plan for no clock.
-fn plan(alloc: Global, circuit: &Circuit, clocks: &[NetId], pins: &Pins) -> Result<Plan, AllocError>
-    ensures { IfOk result (IsPlan circuit.now clocks.now pins.now) }
+fn plan(
+    alloc: Global,
+    circuit: &Circuit,
+    clocks: &[NetId],
+    registers: usize,
+    pins: &Pins,
+) -> Result<Plan, AllocError>
+    ensures { IfOk result (λ plan. (l : Layout) → IsPlan circuit.now clocks.now l pins.now plan) }
 {
     let pulsed = vec![in alloc; false; clocks.len()]?;
     let ports = vec![in alloc; Tri::Unknown; pins.ports.len()]?;
     let enables = vec![in alloc; Tri::Unknown; pins.enables.len()]?;
     let list = vec![in alloc; NetId(0); circuit.ops.len()]?;
+    let moves = vec![in alloc; false; registers]?;
     let takings = Vec::with_capacity(alloc, circuit.flops.len())?;
     Ok(Plan {
         stage: Stage::Noted,
@@ -106,46 +114,48 @@ fn plan(alloc: Global, circuit: &Circuit, clocks: &[NetId], pins: &Pins) -> Resu
         enables,
         list,
         count: 0,
+        moves,
         takings,
     })
 }
 
-// So many plans for no clock.
+// All plans, for no clock.
 fn plans(
     alloc: Global,
     circuit: &Circuit,
     clocks: &[NetId],
+    registers: usize,
     pins: &Pins,
-    count: usize,
 ) -> Result<Vec<Plan>, AllocError>
-    ensures all { IfOk result (λ plans. All (IsPlan circuit.now clocks.now pins.now) plans.items) }
-    ensures count { IfOk result (λ plans. length plans.items ≡ count) }
+    ensures all { IfOk result (λ plans. (l : Layout) → All (IsPlan circuit.now clocks.now l pins.now) plans.items) }
+    ensures count { IfOk result (λ plans. length plans.items ≡ PLANS) }
 {
     let mut plans = Vec::new(alloc);
-    for _place in 0..count {
-        plans.push(plan(alloc, circuit, clocks, pins)?)?;
+    for _place in 0..PLANS {
+        plans.push(plan(alloc, circuit, clocks, registers, pins)?)?;
     }
     Ok(plans)
 }
 
 impl Plans {
-    // Room for plans, and what they are made from. All marks are lowered after it.
+    // Room for plans, and what they are made from, where cells lie in so many registers. All marks are lowered after it.
     pub(crate) fn prepare(
         alloc: Global,
         circuit: &Circuit,
         clocks: &[NetId],
+        registers: usize,
         marked: &mut [bool],
     ) -> Result<Plans, AllocError>
         requires circuit { IsCircuit circuit.now }
         requires marked { length marked.old ≡ length circuit.now.ops.items }
-        ensures plans { IfOk result (ArePlans circuit.now clocks.now) }
+        ensures plans { IfOk result (λ plans. (l : Layout) → ArePlans circuit.now clocks.now l plans) }
         ensures clear { IfOk result (λ _. (k : ℕ) → is_up marked.new k ≡ false) }
     {
         let origins = vec![in alloc; None; circuit.ops.len()]?;
         let shown = vec![in alloc; Shown::Nothing; circuit.ops.len()]?;
         let entries = vec![in alloc; Entry::Keeps; circuit.flops.len()]?;
         let pins = pins(alloc, circuit, &entries, marked)?;
-        let plans = plans(alloc, circuit, clocks, &pins, PLANS)?;
+        let plans = plans(alloc, circuit, clocks, registers, &pins)?;
         let sketch = Sketch {
             origins,
             shown,

@@ -257,7 +257,7 @@ pub(crate) fn find_least(
     requires owned { OwnsLatches phase.circuit.now phase.clocks.now }
     requires pulsing { PulsesAmong phase.pulse.pulsed.now phase.clocks.now }
     requires search { IsSearch phase.circuit.now search.old }
-    requires begins { search.old.poss.items ≡ phase.pulse.old.now }
+    requires begins { search.old.poss.items ≡ phase.pulse.old.now.values }
     requires values { length values.old ≡ length phase.circuit.now.ops.items }
     requires marked { length marked.old ≡ length phase.circuit.now.ops.items }
     requires live { AreNets (length phase.circuit.now.ops.items) phase.clocks.now }

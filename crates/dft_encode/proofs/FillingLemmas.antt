@@ -1,11 +1,12 @@
 -- One pattern more.
-use Rattle.std.proofs.Common.{◌≡◌, ℕ, zero, suc, ◌+◌, ◌<◌, ◌≤◌, ◌⊎◌, inl, inr, List, [], ◌∷◌, ◌++◌, length, take, Option, None, Some, refl, sym, subst, ap, ◌∙◌, length-take, zero-add, arith}
+use Rattle.std.proofs.Common.{◌≡◌, ℕ, zero, suc, ◌+◌, ◌<◌, ◌≤◌, ◌⊎◌, inl, inr, List, [], ◌∷◌, ◌++◌, length, map, take, Option, None, Some, refl, sym, subst, ap, ◌∙◌, length-take, zero-add, arith}
 use Rattle.std.specs.Prelude.{slice_get, count_by, IfSome}
 use Rattle.std.proofs.lemmas.List.{take_more, map_push, length-map}
 use Rattle.std.proofs.lemmas.List.Sums.{sum_by-append}
 use Rattle.std.proofs.lemmas.Option.{get_or_from_slice_get, slice_get_within, same_Some}
 use Rattle.dft_netlist.specs.Netlist.{Netlist}
 use Rattle.dft_config.specs.Config.{Config}
+use Rattle.dft_cubes.specs.Domains.{captures_of}
 use Rattle.dft_equations.specs.LoadRows.{LoadRows}
 use Rattle.dft_stitch.specs.Plans.{Plan}
 use Rattle.dft_cubes.specs.declared.cube.Merged.{Merged}
@@ -40,14 +41,14 @@ each_case n config plan rows patterns p q number k count each new (inl there) = 
 each_case n config plan rows patterns p q number k count each new (inr last) = subst (IsPattern n config plan rows k) last.1 (subst (λ (j : ℕ). IsPattern n config plan rows j p) (sym (last.0 ∙ count)) new)
 
 -- no pattern yet
-pub none_yet : (f : Finder) (g : Filled) (l : Listing) → l ≡ record { design = f.loads.now.design; config = f.loads.now.config; plan = f.loads.now.plan; vectors = []; count = 0 } → g.last ≡ None → g.masked ≡ 0 → HasPatterns f 0 g l
+pub none_yet : (f : Finder) (g : Filled) (l : Listing) → l ≡ record { design = f.loads.now.design; config = f.loads.now.config; plan = f.loads.now.plan; vectors = []; captures = [] } → g.last ≡ None → g.masked ≡ 0 → HasPatterns f 0 g l
 none_yet f g l is last masked = record {
   design = ap (λ (k : Listing). k.design) is;
   config = ap (λ (k : Listing). k.config) is;
   plan = ap (λ (k : Listing). k.plan) is;
   patterns = [];
   are = record { merged = refl; each = λ number p at. absurd (let none : ⊥ = cc in none) };
-  lists = record { vectors = ap (λ (k : Listing). k.vectors) is; count = ap (λ (k : Listing). k.count) is };
+  lists = record { vectors = ap (λ (k : Listing). k.vectors) is; captures = ap (λ (k : Listing). k.captures) is };
   last = ap (last_found f.loads.now.config f.loads.now.plan) last;
   fits = subst (λ (o : Option Found). IfSome o (FitsFound f.loads.now.config f.loads.now.plan)) (sym last) tt;
   masked = masked;
@@ -55,8 +56,8 @@ none_yet f g l is last masked = record {
 }
 
 -- the patterns so far are as many as their merged cubes
-pub count_is : (f : Finder) (number : ℕ) (g : Filled) (l : Listing) → HasPatterns f number g l → number < length f.merger.now.patterns → l.count ≡ number
-count_is f number g l h less = h.lists.count ∙ sym (length-map h.patterns merged_of) ∙ ap length h.are.merged ∙ length-take number f.merger.now.patterns ∙ omega (arith, less)
+pub count_is : (f : Finder) (number : ℕ) (g : Filled) (l : Listing) → HasPatterns f number g l → number < length f.merger.now.patterns → length l.captures ≡ number
+count_is f number g l h less = ap length h.lists.captures ∙ length-map (map merged_of h.patterns) captures_of ∙ ap length h.are.merged ∙ length-take number f.merger.now.patterns ∙ omega (arith, less)
 
 -- what a list of this configuration and these chains has, in the words of the finder
 in_list : (config d : Config) (plan q : Plan) (last : Option Found) (l m : Listing) (found : Found) (patterns : List PatternData) → config ≡ d → plan ≡ q →
@@ -69,14 +70,14 @@ in_list config d plan q last l m found patterns e r h =
 -- with one pattern more
 pub one_found : (f : Finder) (number : ℕ) (g h : Filled) (l m : Listing) (found : Found) → (has : HasPatterns f number g l) → (at : slice_get f.merger.now.patterns number ≡ Some found.merged) →
     (is : IsPattern f.loads.now.design f.loads.now.config f.loads.now.plan f.merger.now.loads.rows number (data_found f.loads.now.config f.loads.now.plan found)) → (fits : FitsFound f.loads.now.config f.loads.now.plan found) → (small : count_by is_set found.masks ≤ 1024) →
-    (same : m ≡ record l { vectors = m.vectors; count = l.count + 1 }) →
+    (same : m ≡ record l { vectors = m.vectors; captures = l.captures ++ captures_of found.merged ∷ [] }) →
     (added : ((patterns : List PatternData) → Lists l patterns → last_found l.config l.plan g.last ≡ last_of None patterns → Lists m (patterns ++ data_found l.config l.plan found ∷ []))) →
     (last : h.last ≡ Some found) → (masked : h.masked ≡ g.masked + count_by is_set found.masks) → HasPatterns f (number + 1) h m
 one_found f number g h l m found has at is fits small same added last masked =
     let merged = f.merger.now.patterns in
     let p = data_found f.loads.now.config f.loads.now.plan found in
     let less = slice_get_within merged number found.merged at in
-    let length_is : length has.patterns ≡ number = sym has.lists.count ∙ count_is f number g l has less in
+    let length_is : length has.patterns ≡ number = sym (length-map has.patterns merged_of) ∙ ap length has.are.merged ∙ length-take number merged ∙ omega (arith, less) in
     let more_masked : masked_in (has.patterns ++ p ∷ []) ≡ masked_in has.patterns + count_by is_set found.masks =
     sum_by-append (λ (q : PatternData). count_by is_set q.masks) has.patterns (p ∷ []) ∙ ap (λ (m : ℕ). masked_in has.patterns + m) (zero-add (count_by is_set found.masks)) in
     let more : take (number + 1) merged ≡ take number merged ++ found.merged ∷ [] =

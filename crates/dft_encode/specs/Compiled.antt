@@ -15,6 +15,7 @@ use Rattle.dft_merge.specs.Fills.{fill_of}
 use Rattle.dft_merge.specs.Placement.{Loads, PlacesAll, equations_of}
 use Rattle.dft_merge.specs.Rows.{cell_row}
 use Rattle.dft_vectors.specs.PatternData.{PatternData, load_of}
+pub use Rattle.dft_vectors.specs.PatternData.{merged_of}
 
 -- ---- cubes
 
@@ -36,9 +37,6 @@ pub record IsPattern (n : Netlist) (config : Config) (plan : Plan) (rows : LoadR
   pub loads : Loads rows.columns (cell_row plan.chains rows) (bit_at p.bits) p.merged.cells
   pub captured : IsCapture n config plan.chains p.merged (loaded_of config.ring (load_of config p) plan.cycles (falling_head plan) plan.chains) p.response
   pub masks : p.masks ≡ masks_of (always_of config) (by_chain plan.chains p.response.cells)
-
-abbrev pub merged_of : PatternData → Merged
-merged_of p = p.merged
 
 -- the patterns are those of these merged cubes, one after another
 pub record ArePatterns (n : Netlist) (config : Config) (plan : Plan) (rows : LoadRows) (joined : List Merged) (patterns : List PatternData) : Type 0 where

@@ -29,7 +29,7 @@ pub struct Encoded {
 // Adds all patterns to a list of vectors that has none.
 fn fill_all(finder: &Finder<'_>, list: &mut VectorList<'_>) -> Result<Filled, AllocError>
     requires finder { IsFinder finder.now }
-    requires list { list.old ≡ record { design = finder.now.loads.now.design; config = finder.now.loads.now.config; plan = finder.now.loads.now.plan; vectors = []; count = 0 } }
+    requires list { list.old ≡ record { design = finder.now.loads.now.design; config = finder.now.loads.now.config; plan = finder.now.loads.now.plan; vectors = []; captures = [] } }
     ensures { IfOk result (λ filled. HasPatterns finder.now (length finder.now.merger.now.patterns) filled list.new) }
 {
     let loads = finder.loads;

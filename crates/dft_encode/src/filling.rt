@@ -2,6 +2,7 @@
 
 ghost use Rattle.std.specs.Prelude.{ℕ, ◌≡◌, ◌+◌, ◌<◌, ◌≤◌, ◌++◌, ◌∷◌, [], List, None, Some, length, count_by, slice_get, IfOk, IfSome, OnOk};
 ghost use Rattle.dft_cubes.specs.declared.cube.Merged.{Merged};
+ghost use Rattle.dft_cubes.specs.Domains.{captures_of};
 ghost use Rattle.dft_expect.specs.Captures.{IsCapture};
 ghost use Rattle.dft_vectors.specs.Listing.{Lists};
 ghost use Rattle.dft_vectors.specs.PatternData.{PatternData};
@@ -37,10 +38,10 @@ fn masked(masks: &[bool]) -> usize
 
 // Adds a pattern to a list of vectors, behind the one before it.
 fn add(list: &mut VectorList<'_>, last: &Option<Found>, found: &Found) -> Result<(), AllocError>
-    requires few { list.old.count < 65536 }
+    requires few { length list.old.captures < 65536 }
     requires last { IfSome last.now (FitsFound list.old.config list.old.plan) }
     requires found { FitsFound list.old.config list.old.plan found.now }
-    ensures same { OnOk result (list.new ≡ record list.old { vectors = list.new.vectors; count = list.old.count + 1 }) }
+    ensures same { OnOk result (list.new ≡ record list.old { vectors = list.new.vectors; captures = list.old.captures ++ captures_of found.now.merged ∷ [] }) }
     ensures added { OnOk result ((patterns : List PatternData) → Lists list.old patterns → last_found list.old.config list.old.plan last.now ≡ last_of None patterns
         → Lists list.new (patterns ++ data_found list.old.config list.old.plan found.now ∷ [])) }
 {
@@ -126,7 +127,7 @@ pub(crate) fn fill(
 ) -> Result<Filled, AllocError>
     requires finder { IsFinder finder.now }
     requires capturer { capturer.old ≡ record { design = finder.now.loads.now.design; config = finder.now.loads.now.config } }
-    requires list { list.old ≡ record { design = finder.now.loads.now.design; config = finder.now.loads.now.config; plan = finder.now.loads.now.plan; vectors = []; count = 0 } }
+    requires list { list.old ≡ record { design = finder.now.loads.now.design; config = finder.now.loads.now.config; plan = finder.now.loads.now.plan; vectors = []; captures = [] } }
     ensures { IfOk result (λ filled. HasPatterns finder.now (length finder.now.merger.now.patterns) filled list.new) }
 {
     let mut filled = Filled {

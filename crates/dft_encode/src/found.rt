@@ -52,7 +52,7 @@ fn copied(alloc: Global, merged: &Merged) -> Result<Merged, AllocError>
     let cells = Vec::from_slice(alloc, merged.cells.as_slice())?;
     let ports = Vec::from_slice(alloc, merged.ports.as_slice())?;
     Ok(Merged {
-        domain: merged.domain,
+        domains: merged.domains,
         cells: Listed::from_vec(cells),
         ports: Listed::from_vec(ports),
     })

@@ -1,6 +1,8 @@
 -- A capture is one, and stands above what more is known of.
-use Rattle.std.proofs.Common.{ℕ, zero, suc, Bool, true, false, ◌&&◌, List, [], ◌∷◌, ◌≡◌, ◌<◌, ◌⊎◌, inl, inr, refl, sym, subst, ap, arith, map, slice_get, Some, ◌∙◌}
-use Rattle.std.specs.Prelude.{if◌then◌else◌, flat_map}
+use Rattle.std.proofs.Common.{ℕ, zero, suc, Bool, true, false, ◌&&◌, ◌||◌, List, [], ◌∷◌, ◌≡◌, ◌<◌, ◌⊎◌, inl, inr, refl, sym, subst, ap, arith, ◌+◌, map, slice_get, Option, None, Some, ◌∙◌}
+use Rattle.std.specs.Prelude.{if◌then◌else◌, flat_map, is_some}
+use Rattle.std.specs.List.{list_any}
+use Rattle.std.proofs.lemmas.Option.{none-some, same_Some}
 use Rattle.dft_base.specs.declared.tri.Tri.{Tri}
 use Rattle.dft_base.specs.Tri.{AboveTri}
 use Rattle.dft_netlist.specs.declared.ids.InstanceId.{InstanceId}
@@ -21,10 +23,11 @@ use Rattle.dft_cubes.specs.declared.cube.Merged.{Merged}
 use Rattle.dft_expect.specs.declared.pattern.Pattern.{Pattern}
 use Rattle.dft_expect.specs.declared.response.Response.{Response}
 use Rattle.dft_expect.specs.Loaded.{all_cells, loaded_values}
-use Rattle.dft_expect.specs.Captures.{AllSettled, AreSettled, IsCapture, IsSettledAt, Settled, after_edges, capture_vector, capture_vectors, config_ports, is_chained, last_state, next_state, original, outputs_before}
-use Rattle.dft_expect.specs.Capturing.{CanCapture, Captures, IsRisen, cells_in, risen_values}
+use Rattle.dft_expect.specs.Captures.{AllSettled, AreSettled, CapturesIn, IsCapture, IsSettledAt, Settled, after_edges, capture_vectors, captured_domains, config_ports, is_chained, last_state, next_state, original, outputs_before, vector_of}
+use Rattle.dft_expect.specs.Capturing.{CanCapture, CanFallIn, CapturedBehind, Captures, HasMoved, HasPulsed, IsReadyFor, IsRisen, IsRisenIn, Settles, cells_in, risen_values, state_behind}
 use Rattle.dft_expect.specs.Laws.{CaptureIsOne, AreAbove, SettledStandsAbove}
-use Rattle.dft_expect.proofs.VectorLemmas.{by_one_vector, map_same}
+use Rattle.dft_expect.proofs.PulseLemmas.{pulse_ends, pulse_none, rests, stays_apart}
+use Rattle.dft_expect.proofs.VectorLemmas.{map_same, one_is_all, two_are_all}
 
 -- ---- settled values
 
@@ -125,21 +128,80 @@ still l chains x values state c rises =
     never true false t u = refl
     never false b t u = refl
 
--- and what has risen is what is captured
-pub risen_whole : (n : Netlist) (config : Config) (pattern : Pattern) (r : Response) → CanCapture n config → ((number : ℕ) (cell : InstanceId) → slice_get (cells_in n config) number ≡ Some cell → ((original n config).cell cell.0).falling ≡ false) →
-    IsRisen n config pattern r → Captures n config pattern r
-risen_whole n config pattern r can rise is =
+-- and what has risen is what is captured in the vector
+pub risen_whole : (n : Netlist) (config : Config) (pattern : Pattern) (count domain : ℕ) (r : Response) (values : ℕ → Tri) → CanCapture n config → ((number : ℕ) (cell : InstanceId) → slice_get (cells_in n config) number ≡ Some cell → ((original n config).cell cell.0).falling ≡ false) →
+    slice_get (captured_domains pattern.merged.now) count ≡ Some domain → IsRisen n config pattern count domain r values → HasPulsed n config pattern (count + 1) r values
+risen_whole n config pattern count domain r values can rise at is =
     let l : Logic = original n config in
     let chains : List (List InstanceId) = (plan_of n config).chains in
-    let x : Vector = capture_vector n config pattern.merged.now in
-    let state : ℕ → Tri = risen_values n config pattern is.values in
+    let x : Vector = vector_of n config pattern.merged.now domain in
+    let before : ℕ → Tri = state_behind n config pattern count is.old is.before in
+    let state : ℕ → Tri = risen_values n config pattern domain values before in
     let order = order_ranks n can.ordered.order can.netlist can.ordered.is in
     let later = strobe_exists l order.0 x state (order_is_rank n (config_ports n config) order.0 order.1) in
-    by_one_vector n config chains pattern.merged.now pattern.loaded.now r
-    (record {
-      step = record { first = is.values; second = later.0 };
-      are = record { first = is.settled; second = later.1 };
-      cells = is.cells ∙ map_same (λ (cell : InstanceId). state cell.0) (λ (cell : InstanceId). after_edges l chains x false later.0 state cell.0) (cells_in n config)
-          (λ number cell at. sym (still l chains x later.0 state cell.0 (rise number cell at)));
-      outputs = is.outputs;
-    })
+    pulse_ends n config pattern count domain is.old r values later.0 is.before is.settled later.1 at
+    (is.cells ∙ map_same (λ (cell : InstanceId). state cell.0) (λ (cell : InstanceId). after_edges l chains x false later.0 state cell.0) (cells_in n config) (λ number cell stands. sym (still l chains x later.0 state cell.0 (rise number cell stands))))
+    is.outputs values before is.settled (λ cell apart. stays_apart l chains x false later.0 state cell apart ∙ stays_apart l chains x true values before cell apart)
+
+-- by the domain of the next vector, if there is one
+pub all_risen : (n : Netlist) (config : Config) (pattern : Pattern) (count : ℕ) (domain : Option ℕ) (r : Response) (values : ℕ → Tri) → CanCapture n config → ((number : ℕ) (cell : InstanceId) → slice_get (cells_in n config) number ≡ Some cell → ((original n config).cell cell.0).falling ≡ false) →
+    slice_get (captured_domains pattern.merged.now) count ≡ domain → IsRisenIn n config pattern count domain r values → HasPulsed n config pattern (count + 1) r values
+all_risen n config pattern count None r values can rise at is = pulse_none n config pattern count r values at is.behind is.settled
+all_risen n config pattern count (Some domain) r values can rise at is = risen_whole n config pattern count domain r values can rise at is
+
+-- ---- where cells may fall
+
+-- the cells of all chains have moved from the state before a vector to that after its rise
+has_risen : (n : Netlist) (config : Config) (pattern : Pattern) (count domain : ℕ) (r : Response) (values : ℕ → Tri) → (is : IsRisen n config pattern count domain r values) →
+    HasMoved n config (state_behind n config pattern count is.old is.before) (risen_values n config pattern domain values (state_behind n config pattern count is.old is.before)) r
+has_risen n config pattern count domain r values is = record {
+  cells = is.cells;
+  others = λ cell apart. stays_apart (original n config) (plan_of n config).chains (vector_of n config pattern.merged.now domain) true values (state_behind n config pattern count is.old is.before) cell apart;
+}
+
+-- once all is settled again, the clocks can fall
+pub can_fall : (n : Netlist) (config : Config) (pattern : Pattern) (count : ℕ) (domain : Option ℕ) (r : Response) (old new : ℕ → Tri) → ((state next : ℕ → Tri) → HasMoved n config state next r → Settles n config pattern state old → Settles n config pattern next new) →
+    IsRisenIn n config pattern count domain r old → CanFallIn n config pattern count domain r new
+can_fall n config pattern count None r old new again is =
+    let state : ℕ → Tri = state_behind n config pattern count r is.behind in
+    record { behind = is.behind; settled = again state state (rests n config state r is.behind.cells) is.settled }
+can_fall n config pattern count (Some domain) r old new again is =
+    let state : ℕ → Tri = state_behind n config pattern count is.old is.before in
+    record { first = old; risen = is; settled = again state (risen_values n config pattern domain old state) (has_risen n config pattern count domain r old is) is.settled }
+
+-- and it is ready for the next vector
+pub next_ready : (n : Netlist) (config : Config) (pattern : Pattern) (count : ℕ) (r : Response) (old new : ℕ → Tri) → ((state next : ℕ → Tri) → HasMoved n config state next r → Settles n config pattern state old → Settles n config pattern next new) →
+    HasPulsed n config pattern count r old → IsReadyFor n config pattern count r new
+next_ready n config pattern count r old new again is = record { behind = is.behind; settled = again is.state (state_behind n config pattern count r is.behind) is.moved is.settled }
+
+-- ---- all vectors
+
+-- behind no vector the cells have their loaded bits
+pub first_ready : (n : Netlist) (config : Config) (pattern : Pattern) (r : Response) (values : ℕ → Tri) → CapturedBehind n config pattern 0 r → Settles n config pattern (loaded_values (plan_of n config).chains pattern.loaded.now) values → IsReadyFor n config pattern 0 r values
+first_ready n config pattern r values behind settled = record { behind = behind; settled = settled }
+
+-- behind two vectors all is captured, and behind one where there is no second clock
+pub two_whole : (n : Netlist) (config : Config) (pattern : Pattern) (r : Response) → CapturedBehind n config pattern 2 r → Captures n config pattern r
+two_whole n config pattern r is = subst (λ (xs : List Vector). CapturesIn n config (plan_of n config).chains xs pattern.loaded.now r) (two_are_all n config pattern.merged.now pattern.merged.now.domains.second refl) is
+
+one_whole : (n : Netlist) (config : Config) (pattern : Pattern) (r : Response) (second : Option ℕ) → pattern.merged.now.domains.second ≡ second → is_some second ≡ false → CapturedBehind n config pattern 1 r → Captures n config pattern r
+one_whole n config pattern r None single none is = subst (λ (xs : List Vector). CapturesIn n config (plan_of n config).chains xs pattern.loaded.now r) (one_is_all n config pattern.merged.now single) is
+one_whole n config pattern r (Some clock) single none is = absurd cc
+
+has_no_second : (patterns : List Pattern) (p : ℕ) (pattern : Pattern) → list_any (λ one. is_some one.merged.now.domains.second) patterns ≡ false → slice_get patterns p ≡ Some pattern → is_some pattern.merged.now.domains.second ≡ false
+has_no_second [] p pattern none at = absurd (none-some pattern at)
+has_no_second (one ∷ patterns) zero pattern none at =
+    ap (λ (x : Pattern). is_some x.merged.now.domains.second) (sym (same_Some one pattern at)) ∙ first_of (is_some one.merged.now.domains.second) (list_any (λ one. is_some one.merged.now.domains.second) patterns) none
+  where
+    first_of : (a b : Bool) → (a || b) ≡ false → a ≡ false
+    first_of true b h = h
+    first_of false b h = refl
+has_no_second (one ∷ patterns) (suc p) pattern none at = has_no_second patterns p pattern (rest_of (is_some one.merged.now.domains.second) (list_any (λ one. is_some one.merged.now.domains.second) patterns) none) at
+  where
+    rest_of : (a b : Bool) → (a || b) ≡ false → b ≡ false
+    rest_of true b h = absurd cc
+    rest_of false b h = h
+
+-- where no pattern has a second one, all is captured behind the first
+pub singles_whole : (n : Netlist) (config : Config) (patterns : List Pattern) (p : ℕ) (pattern : Pattern) (r : Response) → list_any (λ one. is_some one.merged.now.domains.second) patterns ≡ false → slice_get patterns p ≡ Some pattern → CapturedBehind n config pattern 1 r → Captures n config pattern r
+singles_whole n config patterns p pattern r none at is = one_whole n config pattern r pattern.merged.now.domains.second refl (has_no_second patterns p pattern none at) is

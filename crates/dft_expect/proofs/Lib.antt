@@ -1,4 +1,5 @@
 pub mod VectorLemmas
+pub mod PulseLemmas
 pub mod CaptureLemmas
 pub mod MaskLemmas
 pub mod RingLemmas

@@ -1,6 +1,6 @@
 -- The nets of cells once the rising cells have moved: what is set at the sources is what the capture has there.
 use Rattle.std.proofs.Common.{ℕ, ◌+◌, Bool, true, false, ◌≡◌, ◌≢◌, ◌<◌, ◌≤◌, ◌⊎◌, inl, inr, List, length, slice_get, Option, None, Some, refl, sym, subst, ap, arith, ◌∙◌}
-use Rattle.std.specs.Prelude.{if◌then◌else◌, ◌==◌, ◌&&◌, slice_index_or}
+use Rattle.std.specs.Prelude.{if◌then◌else◌, ◌==◌, slice_index_or}
 use Rattle.std.proofs.lemmas.Bool.{cases_eq, cases_lt}
 use Rattle.std.proofs.lemmas.Bool.Decides.{nat_tests}
 use Rattle.std.proofs.lemmas.List.{get_or_past}
@@ -19,10 +19,9 @@ use Rattle.dft_netlist.specs.Drivers.{Source, Driver, Flop, driver_of_kind, inpu
 use Rattle.dft_netlist.specs.NetDrivers.{driver_at, is_inverted, joined_by, roles_at}
 use Rattle.dft_netlist.specs.Logic.{Logic, Meaning, Cell, Input, Clock, Gate, Joined, Lockup, Free, flip_flop, flop_meaning, meaning_of}
 use Rattle.dft_netlist.specs.Logic as logic
-use Rattle.dft_netlist.specs.Runs.{Vector, takes}
+use Rattle.dft_netlist.specs.Runs.{Vector}
 use Rattle.dft_netlist.specs.Settled.{TriSources, inverse, value_given}
 use Rattle.dft_abstract.specs.Cycle.{strobe_sources, tri_forced_by}
-use Rattle.dft_abstract.specs.Laws.{next_from}
 use Rattle.dft_logic.proofs.Pasts.{past_free}
 use Rattle.dft_config.specs.Config.{Config}
 use Rattle.dft_rules.specs.Rules.{may_be_scanned}
@@ -33,9 +32,8 @@ use Rattle.dft_expect.specs.declared.pattern.Pattern.{Pattern}
 use Rattle.dft_expect.specs.declared.response.Response.{Response}
 use Rattle.dft_expect.specs.declared.settings.Setting.{Setting}
 use Rattle.dft_expect.specs.declared.settings.Setting.TheVariants as setting
-use Rattle.dft_expect.specs.Loaded.{loaded_values}
 use Rattle.dft_expect.specs.Captures.{capture_vector, config_ports, original}
-use Rattle.dft_expect.specs.Capturing.{CanCapture, IsPrepared, IsRisen, Settles, cells_in, risen_values}
+use Rattle.dft_expect.specs.Capturing.{CanCapture, HasMoved, IsPrepared, Settles, cells_in}
 use Rattle.dft_expect.specs.Settings.{IsCellSetting, IsSetBy, moved_by, port_setting, setting_at, turned}
 use Rattle.dft_expect.specs.Sources.{IsCellSet, IsSame}
 use Rattle.dft_expect.proofs.GivenLemmas.{number_modelled, stays}
@@ -147,7 +145,7 @@ flop_again l x one two before values net i inverted (Some cell) same is =
 
 -- ---- nets by what drives them
 
-module _ (n : Netlist) (config : Config) (pattern : Pattern) (r : Response) (can : CanCapture n config) (is : IsRisen n config pattern r) (before values : ℕ → Tri) (settled : Settles n config pattern before) where
+module _ (n : Netlist) (config : Config) (pattern : Pattern) (r : Response) (can : CanCapture n config) (one two : ℕ → Tri) (is : HasMoved n config one two r) (before values : ℕ → Tri) (settled : Settles n config pattern one before) where
   abbrev l : Logic
   l = original n config
 
@@ -156,12 +154,6 @@ module _ (n : Netlist) (config : Config) (pattern : Pattern) (r : Response) (can
 
   abbrev x : Vector
   x = capture_vector n config pattern.merged.now
-
-  abbrev one : ℕ → Tri
-  one = loaded_values chains pattern.loaded.now
-
-  abbrev two : ℕ → Tri
-  two = risen_values n config pattern is.values
 
   abbrev first : TriSources
   first = strobe_sources l x one before
@@ -174,7 +166,7 @@ module _ (n : Netlist) (config : Config) (pattern : Pattern) (r : Response) (can
 
   -- a flip-flop that is no cell of the chains does not move
   unmoved : (i : ℕ) → ((number : ℕ) → slice_get (cells_in n config) number ≡ Some (record { 0 = i }) → ⊥) → one i ≡ two i
-  unmoved i none = sym (ap (λ (b : Bool). if b && (x.pulsed (l.cell i).domain && takes true (l.cell i).falling) then next_from l x is.values i else one i) (unchained (cells_in n config) i none))
+  unmoved i none = sym (is.others i (unchained (cells_in n config) i none))
 
   pin_again : (net i : ℕ) (inverted : Bool) (k : Kind) (inputs : List Source) → kind_at n i ≡ k → ((number : ℕ) → slice_get (cells_in n config) number ≡ Some (record { 0 = i }) → ⊥)
       → before net ≡ value_given first before net (meaning net (driver_of_kind k i inverted inputs)) → IsGiven second before net (meaning net (driver_of_kind k i inverted inputs))

@@ -37,11 +37,12 @@ use Rattle.dft_expect.specs.declared.pattern.Pattern.{Pattern}
 use Rattle.dft_expect.specs.declared.response.Response.{Response}
 use Rattle.dft_expect.specs.declared.reads.Read.{Read}
 use Rattle.dft_expect.specs.Loaded.{all_cells, loaded_values, or_unknown}
-use Rattle.dft_expect.specs.Captures.{after_edges, capture_clock, capture_vector, is_chained, original, output_bits, config_ports}
-use Rattle.dft_expect.specs.Capturing.{CanCapture, CanFall, Captures, IsRisen, Settles, cells_in, risen_values}
+use Rattle.dft_expect.specs.Captures.{after_edges, capture_clock, captured_domains, is_chained, original, output_bits, config_ports, vector_of}
+use Rattle.dft_expect.specs.Capturing.{AreResponses, CanCapture, CanFall, CapturedBehind, HasPulsed, IsReadyFor, IsRisen, cells_in, risen_values, state_behind}
 use Rattle.dft_expect.specs.Reads.{AreReads, IsReadOf, any_falls, clock_at, clock_of, is_at, is_falling, or_unconnected, read_at, read_value, value_of_signal}
 use Rattle.dft_expect.proofs.CellNumbers.{bit_is, stands_once}
-use Rattle.dft_expect.proofs.VectorLemmas.{by_one_vector, chained, there}
+use Rattle.dft_expect.proofs.PulseLemmas.{pulse_ends, stays_apart}
+use Rattle.dft_expect.proofs.VectorLemmas.{chained, there}
 use Rattle.dft_expect.proofs.GivenLemmas.{number_modelled, stays}
 use Rattle.dft_expect.proofs.ScannedCells.{IsModelled}
 
@@ -131,13 +132,13 @@ edge_same None captures rising clock is = absurd (none-some clock is)
 edge_same (Some root) captures rising clock is = ap (λ (c : ClockRoot). is_net c.port captures && takes rising c.inverted) (same_Some (record { port = root.port.0; inverted = root.inverted }) clock is)
 
 -- what is read of a cell at an edge is what it has after it
-pub read_is : (n : Netlist) (config : Config) (merged : Merged) (rising : Bool) (values state : ℕ → Tri) (number : ℕ) (cell : InstanceId) (before : Tri) (read : Read) → CanCapture n config → slice_get (cells_in n config) number ≡ Some cell → IsReadOf n cell.0 read → before ≡ state cell.0
-    → read_value values (capture_clock n config merged.domain) rising before read ≡ after_edges (original n config) (plan_of n config).chains (capture_vector n config merged) rising values state cell.0
-read_is n config merged rising values state number cell before read can at is had =
+pub read_is : (n : Netlist) (config : Config) (merged : Merged) (domain : ℕ) (rising : Bool) (values state : ℕ → Tri) (number : ℕ) (cell : InstanceId) (before : Tri) (read : Read) → CanCapture n config → slice_get (cells_in n config) number ≡ Some cell → IsReadOf n cell.0 read → before ≡ state cell.0
+    → read_value values (capture_clock n config domain) rising before read ≡ after_edges (original n config) (plan_of n config).chains (vector_of n config merged domain) rising values state cell.0
+read_is n config merged domain rising values state number cell before read can at is had =
     let i : ℕ = cell.0 in
     let chains : List (List InstanceId) = (plan_of n config).chains in
-    let x = capture_vector n config merged in
-    let captures : Option NetId = capture_clock n config merged.domain in
+    let x = vector_of n config merged domain in
+    let captures : Option NetId = capture_clock n config domain in
     let m : IsModelled n config i = number_modelled n config number i can at in
     let input : Source = or_loose i (pin_of role.Din i (pins_of n i)) in
     let q : Cell = record { domain = m.clock.port; falling = m.clock.inverted; input = input; scan = None; force = m.force } in
@@ -159,97 +160,131 @@ map_numbers f g a (x ∷ xs) each =
     λ j. (ap f (sym here) ∙ each 0 x refl) j ∷ map_numbers f g (a + 1) xs (λ k y at. (let next : a + 1 + k ≡ a + suc k = omega arith in ap f next ∙ each (suc k) y at)) j
 
 -- what is read of all cells at an edge
-pub cells_read : (n : Netlist) (config : Config) (merged : Merged) (rising : Bool) (values state : ℕ → Tri) (before : ℕ → Tri) (reads : List Read) → CanCapture n config → AreReads n (cells_in n config) reads
+pub cells_read : (n : Netlist) (config : Config) (merged : Merged) (domain : ℕ) (rising : Bool) (values state : ℕ → Tri) (before : ℕ → Tri) (reads : List Read) → CanCapture n config → AreReads n (cells_in n config) reads
     → ((number : ℕ) (cell : InstanceId) → slice_get (cells_in n config) number ≡ Some cell → before number ≡ state cell.0)
-    → map (λ number. read_value values (capture_clock n config merged.domain) rising (before number) (read_at reads number)) (range_with_len 0 (length reads))
-    ≡ map (λ (cell : InstanceId). after_edges (original n config) (plan_of n config).chains (capture_vector n config merged) rising values state cell.0) (cells_in n config)
-cells_read n config merged rising values state before reads can are had =
-    (λ j. map (λ number. read_value values (capture_clock n config merged.domain) rising (before number) (read_at reads number)) (range_with_len 0 (are.count j)))
-    ∙ map_numbers (λ number. read_value values (capture_clock n config merged.domain) rising (before number) (read_at reads number))
-    (λ (cell : InstanceId). after_edges (original n config) (plan_of n config).chains (capture_vector n config merged) rising values state cell.0) 0 (cells_in n config)
+    → map (λ number. read_value values (capture_clock n config domain) rising (before number) (read_at reads number)) (range_with_len 0 (length reads))
+    ≡ map (λ (cell : InstanceId). after_edges (original n config) (plan_of n config).chains (vector_of n config merged domain) rising values state cell.0) (cells_in n config)
+cells_read n config merged domain rising values state before reads can are had =
+    (λ j. map (λ number. read_value values (capture_clock n config domain) rising (before number) (read_at reads number)) (range_with_len 0 (are.count j)))
+    ∙ map_numbers (λ number. read_value values (capture_clock n config domain) rising (before number) (read_at reads number))
+    (λ (cell : InstanceId). after_edges (original n config) (plan_of n config).chains (vector_of n config merged domain) rising values state cell.0) 0 (cells_in n config)
     (λ k cell at. (
     let from : 0 + k ≡ k = omega arith in
-    ap (λ number. read_value values (capture_clock n config merged.domain) rising (before number) (read_at reads number)) from ∙ read_is n config merged rising values state k cell (before k) (read_at reads k) can at (are.each k cell at) (had k cell at)))
+    ap (λ number. read_value values (capture_clock n config domain) rising (before number) (read_at reads number)) from ∙ read_is n config merged domain rising values state k cell (before k) (read_at reads k) can at (are.each k cell at) (had k cell at)))
 
 -- at the rises
-pub risen : (n : Netlist) (config : Config) (pattern : Pattern) (values : ℕ → Tri) (captures : Option NetId) (reads : List Read) (outputs : List NetId) (r : Response) → CanCapture n config → AreReads n (cells_in n config) reads → outputs ≡ output_bits n.ports
-    → captures ≡ capture_clock n config pattern.merged.now.domain
-    → r.cells ≡ map (λ number. read_value values captures true (or_unknown (slice_get pattern.loaded.now number)) (read_at reads number)) (range_with_len 0 (length reads)) → r.outputs ≡ map (λ (net : NetId). values net.0) outputs
-    → Settles n config pattern values → IsRisen n config pattern r
-risen n config pattern values captures reads outputs r can are bits clock cells shown settled =
-    let merged = pattern.merged.now in
-    let loaded = pattern.loaded.now in
+pub risen : (n : Netlist) (config : Config) (pattern : Pattern) (count domain : ℕ) (values : ℕ → Tri) (captures : Option NetId) (reads : List Read) (outputs : List NetId) (old new : Response) → CanCapture n config → AreReads n (cells_in n config) reads → outputs ≡ output_bits n.ports
+    → captures ≡ capture_clock n config domain → new.cells ≡ map (λ number. read_value values captures true (get_or old.cells number Unknown) (read_at reads number)) (range_with_len 0 (length reads))
+    → new.outputs ≡ old.outputs ++ map (λ (net : NetId). values net.0) outputs → IsReadyFor n config pattern count old values → IsRisen n config pattern count domain new values
+risen n config pattern count domain values captures reads outputs old new can are bits clock cells shown ready =
+    let before = ready.behind in
+    let state : ℕ → Tri = state_behind n config pattern count old before in
     record {
-      values = values;
-      settled = settled;
+      old = old;
+      before = before;
+      settled = ready.settled;
       cells =
-          cells ∙ (λ j. map (λ number. read_value values (clock j) true (or_unknown (slice_get loaded number)) (read_at reads number)) (range_with_len 0 (length reads)))
-          ∙ cells_read n config merged true values (loaded_values (plan_of n config).chains loaded) (λ number. or_unknown (slice_get loaded number)) reads can are
-          (λ number cell at. sym (ap or_unknown (bit_is (cells_in n config) loaded number cell.0 (λ j k one two. stands_once n config j k cell can one two) at)));
-      outputs = shown ∙ ap (map (λ (net : NetId). values net.0)) bits;
+          cells ∙ (λ j. map (λ number. read_value values (clock j) true (get_or old.cells number Unknown) (read_at reads number)) (range_with_len 0 (length reads)))
+          ∙ cells_read n config pattern.merged.now domain true values state (λ number. get_or old.cells number Unknown) reads can are (λ number cell at. there (λ (c : InstanceId). state c.0) old.cells (cells_in n config) number cell before.cells at);
+      outputs = shown ∙ ap (λ (nets : List NetId). old.outputs ++ map (λ (net : NetId). values net.0) nets) bits;
     }
 
 -- at the falls
-pub fallen : (n : Netlist) (config : Config) (pattern : Pattern) (values : ℕ → Tri) (captures : Option NetId) (reads : List Read) (old new : Response) → CanCapture n config → AreReads n (cells_in n config) reads
-    → captures ≡ capture_clock n config pattern.merged.now.domain
-    → new.cells ≡ map (λ number. read_value values captures false (get_or old.cells number Unknown) (read_at reads number)) (range_with_len 0 (length reads)) → new.outputs ≡ old.outputs
-    → CanFall n config pattern old values → Captures n config pattern new
-fallen n config pattern values captures reads old new can are clock cells shown falls =
-    let merged = pattern.merged.now in
-    let state : ℕ → Tri = risen_values n config pattern falls.risen.values in
-    by_one_vector n config (plan_of n config).chains merged pattern.loaded.now new
-    (record {
-      step = record { first = falls.risen.values; second = values };
-      are = record { first = falls.risen.settled; second = falls.settled };
+pub fallen : (n : Netlist) (config : Config) (pattern : Pattern) (count domain : ℕ) (values : ℕ → Tri) (captures : Option NetId) (reads : List Read) (old new : Response) → CanCapture n config → AreReads n (cells_in n config) reads
+    → captures ≡ capture_clock n config domain → new.cells ≡ map (λ number. read_value values captures false (get_or old.cells number Unknown) (read_at reads number)) (range_with_len 0 (length reads)) → new.outputs ≡ old.outputs
+    → slice_get (captured_domains pattern.merged.now) count ≡ Some domain → CanFall n config pattern count domain old values → HasPulsed n config pattern (count + 1) new values
+fallen n config pattern count domain values captures reads old new can are clock cells shown at falls =
+    let is = falls.risen in
+    let state : ℕ → Tri = risen_values n config pattern domain falls.first (state_behind n config pattern count is.old is.before) in
+    pulse_ends n config pattern count domain is.old new falls.first values is.before is.settled falls.settled at
+    (cells ∙ (λ j. map (λ number. read_value values (clock j) false (get_or old.cells number Unknown) (read_at reads number)) (range_with_len 0 (length reads)))
+    ∙ cells_read n config pattern.merged.now domain false values state (λ number. get_or old.cells number Unknown) reads can are (λ number cell stands. there (λ (c : InstanceId). state c.0) old.cells (cells_in n config) number cell is.cells stands))
+    (shown ∙ is.outputs) values state falls.settled (λ cell apart. stays_apart (original n config) (plan_of n config).chains (vector_of n config pattern.merged.now domain) false values state cell apart)
+
+-- before all vectors the cells have their loaded bits
+pub begun : (n : Netlist) (config : Config) (pattern : Pattern) (reads : List Read) (r : Response) → CanCapture n config → AreReads n (cells_in n config) reads
+    → r.cells ≡ map (λ number. or_unknown (slice_get pattern.loaded.now number)) (range_with_len 0 (length reads)) → r.outputs ≡ [] → CapturedBehind n config pattern 0 r
+begun n config pattern reads r can are cells outputs =
+    let loaded = pattern.loaded.now in
+    record {
+      settled = [];
+      are = tt;
       cells =
-          cells ∙ (λ j. map (λ number. read_value values (clock j) false (get_or old.cells number Unknown) (read_at reads number)) (range_with_len 0 (length reads)))
-          ∙ cells_read n config merged false values state (λ number. get_or old.cells number Unknown) reads can are (λ number cell at. there (λ (c : InstanceId). state c.0) old.cells (cells_in n config) number cell falls.risen.cells at);
-      outputs = shown ∙ falls.risen.outputs;
-    })
+          cells ∙ (λ j. map (λ number. or_unknown (slice_get loaded number)) (range_with_len 0 (are.count j)))
+          ∙ map_numbers (λ number. or_unknown (slice_get loaded number)) (λ (cell : InstanceId). loaded_values (plan_of n config).chains loaded cell.0) 0 (cells_in n config)
+          (λ k cell at. (
+          let from : 0 + k ≡ k = omega arith in
+          ap (λ number. or_unknown (slice_get loaded number)) from ∙ sym (ap or_unknown (bit_is (cells_in n config) loaded k cell.0 (λ j i one two. stands_once n config j i cell can one two) at))));
+      outputs = outputs;
+    }
 
 pub values_more : (f : ℕ → Tri) (old new : List Tri) (k : ℕ) (value : Tri) → old ≡ map f (range_with_len 0 k) → new ≡ old ++ value ∷ [] → value ≡ f k → new ≡ map f (range_with_len 0 (k + 1))
 values_more f old new k value before more is = more ∙ (λ i. before i ++ is i ∷ []) ∙ sym (map-range_with_len_more f 0 k k (omega arith))
 
 -- ---- the responses of all patterns
 
-risen_case : (n : Netlist) (config : Config) (patterns : List Pattern) (place : ℕ) (here : Pattern) (old new : List Response) (r : Response) → length old ≡ place
-    → ((p : ℕ) (pattern : Pattern) (q : Response) → slice_get patterns p ≡ Some pattern → slice_get old p ≡ Some q → IsRisen n config pattern q) → slice_get patterns place ≡ Some here → IsRisen n config here r → new ≡ old ++ r ∷ []
-    → (p : ℕ) (pattern : Pattern) (q : Response) → slice_get patterns p ≡ Some pattern → slice_get new p ≡ Some q → (p < length old) ⊎ (length old ≤ p) → IsRisen n config pattern q
-risen_case n config patterns place here old new r count each at is more p pattern q there found (inl less) =
+-- one response more
+pushed_case : (Done : Pattern → Response → Type 0) (patterns : List Pattern) (place : ℕ) (here : Pattern) (old new : List Response) (r : Response) → length old ≡ place
+    → ((p : ℕ) (pattern : Pattern) (q : Response) → slice_get patterns p ≡ Some pattern → slice_get old p ≡ Some q → Done pattern q) → slice_get patterns place ≡ Some here → Done here r → new ≡ old ++ r ∷ []
+    → (p : ℕ) (pattern : Pattern) (q : Response) → slice_get patterns p ≡ Some pattern → slice_get new p ≡ Some q → (p < length old) ⊎ (length old ≤ p) → Done pattern q
+pushed_case Done patterns place here old new r count each at is more p pattern q there found (inl less) =
     let item : get_or old p q ≡ q = sym (get_or-append old (r ∷ []) q p less) ∙ ap (λ (l : List Response). get_or l p q) (sym more) ∙ get_or_from_slice_get new p q q found in
     each p pattern q there (slice_get-get_or old p q less ∙ ap (λ (y : Response). Some y) item)
-risen_case n config patterns place here old new r count each at is more p pattern q there found (inr past) =
+pushed_case Done patterns place here old new r count each at is more p pattern q there found (inr past) =
     let less = slice_get_within new p q found in
     let last : p ≡ length old = omega (arith, past, less, ap length more, length-append old (r ∷ [])) in
     let same : r ≡ q = sym (get_or-append_seam old r [] q) ∙ ap (λ (k : ℕ). get_or (old ++ r ∷ []) k q) (sym last) ∙ ap (λ (l : List Response). get_or l p q) (sym more) ∙ get_or_from_slice_get new p q q found in
     let one : here ≡ pattern = same_Some here pattern (sym at ∙ ap (slice_get patterns) (sym (last ∙ count)) ∙ there) in
-    subst (λ (x : Pattern). IsRisen n config x q) one (subst (λ (y : Response). IsRisen n config here y) same is)
+    subst (λ (x : Pattern). Done x q) one (subst (λ (y : Response). Done here y) same is)
 
-pub risen_more : (n : Netlist) (config : Config) (patterns : List Pattern) (place : ℕ) (here : Pattern) (old new : List Response) (r : Response) → (count : length old ≡ place)
-    → (each : ((p : ℕ) (pattern : Pattern) (q : Response) → slice_get patterns p ≡ Some pattern → slice_get old p ≡ Some q → IsRisen n config pattern q)) → (at : slice_get patterns place ≡ Some here) → (is : IsRisen n config here r) → (more : new ≡ old ++ r ∷ [])
-    → (p : ℕ) (pattern : Pattern) (q : Response) → (there : slice_get patterns p ≡ Some pattern) → (found : slice_get new p ≡ Some q) → IsRisen n config pattern q
-risen_more n config patterns place here old new r count each at is more p pattern q there found = risen_case n config patterns place here old new r count each at is more p pattern q there found (cases_lt p (length old))
+pub pushed_more : (Done : Pattern → Response → Type 0) (patterns : List Pattern) (place : ℕ) (here : Pattern) (old new : List Response) (r : Response) → (count : length old ≡ place)
+    → (each : ((p : ℕ) (pattern : Pattern) (q : Response) → slice_get patterns p ≡ Some pattern → slice_get old p ≡ Some q → Done pattern q)) → (at : slice_get patterns place ≡ Some here) → (is : Done here r) → (more : new ≡ old ++ r ∷ [])
+    → (p : ℕ) (pattern : Pattern) (q : Response) → (there : slice_get patterns p ≡ Some pattern) → (found : slice_get new p ≡ Some q) → Done pattern q
+pushed_more Done patterns place here old new r count each at is more p pattern q there found = pushed_case Done patterns place here old new r count each at is more p pattern q there found (cases_lt p (length old))
 
--- the first so many patterns are captured, and the others are as before
-pub record AreFalling (n : Netlist) (config : Config) (patterns : List Pattern) (done : ℕ) (old new : List Response) : Type 0 where
+-- of the first so many patterns this holds, and the responses of the others are as before
+pub record AreUpTo (Done : (place : ℕ) → Pattern → Response → Type 0) (patterns : List Pattern) (done : ℕ) (old new : List Response) : Type 0 where
   pub count : length new ≡ length old
-  pub each : (p : ℕ) (pattern : Pattern) (r : Response) → p < done → slice_get patterns p ≡ Some pattern → slice_get new p ≡ Some r → Captures n config pattern r
+  pub each : (p : ℕ) (pattern : Pattern) (r : Response) → p < done → slice_get patterns p ≡ Some pattern → slice_get new p ≡ Some r → Done p pattern r
   pub left : (p : ℕ) → done ≤ p → slice_get new p ≡ slice_get old p
 
-pub fallen_on : (n : Netlist) (config : Config) (patterns : List Pattern) (done : ℕ) (here : Pattern) (old cur : List Response) (was r : Response) → AreFalling n config patterns done old cur → slice_get patterns done ≡ Some here → slice_get cur done ≡ Some was → Captures n config here r
-    → AreFalling n config patterns (done + 1) old (slice_set cur done r)
-fallen_on n config patterns done here old cur was r before at stood is = record {
+-- one pattern more, whose response is this one now
+pub up_to_set : (Done : (place : ℕ) → Pattern → Response → Type 0) (patterns : List Pattern) (done : ℕ) (here : Pattern) (old cur : List Response) (was r : Response) → AreUpTo Done patterns done old cur → slice_get patterns done ≡ Some here → slice_get cur done ≡ Some was → Done done here r
+    → AreUpTo Done patterns (done + 1) old (slice_set cur done r)
+up_to_set Done patterns done here old cur was r before at stood is = record {
   count = length-set cur done r ∙ before.count;
   each = λ p pattern q below there found. one p pattern q below there found (cases_eq p done);
   left = λ p past. get_set_other cur done p r (λ e. (let no : ⊥ = omega (arith, past, e) in no)) ∙ before.left p (omega (arith, past));
 }
   where
-    one : (p : ℕ) (pattern : Pattern) (q : Response) → p < done + 1 → slice_get patterns p ≡ Some pattern → slice_get (slice_set cur done r) p ≡ Some q → (p ≡ done) ⊎ (p ≢ done) → Captures n config pattern q
+    one : (p : ℕ) (pattern : Pattern) (q : Response) → p < done + 1 → slice_get patterns p ≡ Some pattern → slice_get (slice_set cur done r) p ≡ Some q → (p ≡ done) ⊎ (p ≢ done) → Done p pattern q
     one p pattern q below there found (inl e) =
         let same : here ≡ pattern = same_Some here pattern (sym at ∙ ap (slice_get patterns) (sym e) ∙ there) in
         let own : r ≡ q = same_Some r q (sym (get_set_same cur done was r stood) ∙ ap (slice_get (slice_set cur done r)) (sym e) ∙ found) in
-        subst (λ (x : Pattern). Captures n config x q) same (subst (λ (y : Response). Captures n config here y) own is)
+        subst (λ (k : ℕ). Done k pattern q) (sym e) (subst (λ (x : Pattern). Done done x q) same (subst (λ (y : Response). Done done here y) own is))
     one p pattern q below there found (inr ne) = before.each p pattern q (omega (arith, below, ne)) there (sym (get_set_other cur done p r (λ e. ne (sym e))) ∙ found)
+
+-- one pattern more, whose response stays
+pub up_to_kept : (Done : (place : ℕ) → Pattern → Response → Type 0) (patterns : List Pattern) (done : ℕ) (here : Pattern) (old cur : List Response) → AreUpTo Done patterns done old cur → slice_get patterns done ≡ Some here → ((was : Response) → slice_get old done ≡ Some was → Done done here was)
+    → AreUpTo Done patterns (done + 1) old cur
+up_to_kept Done patterns done here old cur before at is = record {
+  count = before.count;
+  each = λ p pattern q below there found. one p pattern q below there found (cases_eq p done);
+  left = λ p past. before.left p (omega (arith, past));
+}
+  where
+    one : (p : ℕ) (pattern : Pattern) (q : Response) → p < done + 1 → slice_get patterns p ≡ Some pattern → slice_get cur p ≡ Some q → (p ≡ done) ⊎ (p ≢ done) → Done p pattern q
+    one p pattern q below there found (inl e) =
+        let same : here ≡ pattern = same_Some here pattern (sym at ∙ ap (slice_get patterns) (sym e) ∙ there) in
+        subst (λ (k : ℕ). Done k pattern q) (sym e) (subst (λ (x : Pattern). Done done x q) same (is q (sym (ap (slice_get old) e) ∙ sym (before.left p (omega (arith, e))) ∙ found)))
+    one p pattern q below there found (inr ne) = before.each p pattern q (omega (arith, below, ne)) there found
+
+-- of all of them
+pub up_to_all : (Done : (place : ℕ) → Pattern → Response → Type 0) (patterns : List Pattern) (done : ℕ) (old new : List Response) → AreUpTo Done patterns done old new → length patterns ≤ done → length old ≡ length patterns → AreResponses Done patterns new
+up_to_all Done patterns done old new are whole count = record {
+  count = are.count ∙ count;
+  each = λ p pattern r there found. are.each p pattern r (omega (arith, whole, slice_get_within patterns p pattern there)) there found;
+}
 
 -- ---- where no cell falls
 

@@ -21,6 +21,7 @@ use Rattle.dft_config.specs.Config.{Config}
 use Rattle.dft_rules.specs.Rules.{is_net}
 pub use Rattle.dft_rules.specs.ConfigPorts.{config_ports}
 use Rattle.dft_cubes.specs.declared.cube.Merged.{Merged}
+use Rattle.dft_cubes.specs.Domains.{captured}
 use Rattle.dft_expect.specs.declared.response.Response.{Response}
 use Rattle.dft_expect.specs.Loaded.{all_cells, loaded_values}
 
@@ -48,9 +49,9 @@ vector_of n config merged domain = record {
   pulsed = λ net. is_net net (capture_clock n config domain);
 }
 
--- the domains that a pattern captures, in order: as yet one
+-- the domains that a pattern captures, in order
 abbrev pub captured_domains : Merged → List ℕ
-captured_domains merged = merged.domain ∷ []
+captured_domains merged = captured merged.domains
 
 -- its capture vectors, one for each
 abbrev pub capture_vectors : Netlist → Config → Merged → List Vector
@@ -58,7 +59,7 @@ capture_vectors n config merged = map (vector_of n config merged) (captured_doma
 
 -- the first of them
 abbrev pub capture_vector : Netlist → Config → Merged → Vector
-capture_vector n config merged = vector_of n config merged merged.domain
+capture_vector n config merged = vector_of n config merged merged.domains.first
 
 -- ---- one vector
 
@@ -126,11 +127,15 @@ output_bits ports = flat_map (λ port. bits_out port.dir port.bits) ports
 abbrev pub outputs_before : Netlist → Settled → List Tri
 outputs_before n s = map (λ net. s.first net.0) (output_bits n.ports)
 
--- What a pattern with these loaded bits captures: the values that the cells of the chains have after its capture vectors, chain by chain, and those
--- of the output ports' bits in each of the vectors. It begins with the loaded bits, and every flip-flop that is no cell of the chains is Unknown
--- throughout.
-pub record IsCapture (n : Netlist) (config : Config) (chains : List (List InstanceId)) (merged : Merged) (loaded : List Bool) (r : Response) : Type 0 where
+-- What a pattern with these loaded bits captures in some vectors: the values that the cells of the chains have behind them, chain by chain, and
+-- those of the output ports' bits in each of them in turn. It begins with the loaded bits, and every flip-flop that is no cell of the chains is
+-- Unknown throughout.
+pub record CapturesIn (n : Netlist) (config : Config) (chains : List (List InstanceId)) (xs : List Vector) (loaded : List Bool) (r : Response) : Type 0 where
   pub settled : List Settled
-  pub are : AllSettled (original n config) chains (capture_vectors n config merged) (loaded_values chains loaded) settled
-  pub cells : r.cells ≡ map (λ cell. last_state (original n config) chains (capture_vectors n config merged) (loaded_values chains loaded) settled cell.0) (all_cells chains)
+  pub are : AllSettled (original n config) chains xs (loaded_values chains loaded) settled
+  pub cells : r.cells ≡ map (λ cell. last_state (original n config) chains xs (loaded_values chains loaded) settled cell.0) (all_cells chains)
   pub outputs : r.outputs ≡ flat_map (outputs_before n) settled
+
+-- what it captures: in all its capture vectors
+abbrev pub IsCapture : Netlist → Config → List (List InstanceId) → Merged → (loaded : List Bool) → Response → Type 0
+IsCapture n config chains merged loaded r = CapturesIn n config chains (capture_vectors n config merged) loaded r

@@ -5,6 +5,7 @@ pub mod Settings
 pub mod Sources
 pub mod Reads
 pub mod Capturing
+pub mod Fixed
 pub mod CapturerShown
 pub mod Masks
 pub mod Expected

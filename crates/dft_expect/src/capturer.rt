@@ -3,13 +3,12 @@
 ghost use Rattle.std.specs.Prelude.{◌≡◌, ◌≤◌, ◌<◌, ◌^◌, length, IfOk};
 ghost use Rattle.dft_expect.specs.Capturing.{AreCaptures, Captures, IsPrepared, cells_in};
 
-use crate::moving::settle_again;
+use crate::fixed::Fixed;
 use crate::pattern::Pattern;
-use crate::reading::{Reading, fall, fall_all, rise, rise_all};
+use crate::pulsing::captures;
 use crate::reads::{Read, any_falls, outputs, reads};
 use crate::response::Response;
 use crate::settings::{Finding, Setting, flags, settings};
-use crate::sources::settle_all;
 use crate::unloading::starts;
 use dft_config::Config;
 use dft_evaluator::Evaluator;
@@ -17,9 +16,8 @@ use dft_netlist::{Design, NetId};
 use dft_stitch::Planned;
 use std::alloc::{AllocError, Global};
 use std::marker::Model;
-use std::slice::from_ref;
 
-/// What captures the responses of a design's patterns, up to 512 in one sweep over its nets, or in two where cells fall. A clause
+/// What captures the responses of a design's patterns, up to 512 at a time: a sweep over its nets for each edge of each capture vector. A clause
 /// sees the design and the configuration.
 #[derive(Drop)]
 pub struct Capturer<'a> {
@@ -70,7 +68,7 @@ impl<'a> Capturer<'a> {
     }
 
     /// What each of these patterns, 512 at most, captures: the values of the cells, chain by chain, and those of the output
-    /// ports' bits.
+    /// ports' bits in each of its capture vectors in turn.
     pub fn capture_all(
         &mut self,
         alloc: Global,
@@ -80,28 +78,15 @@ impl<'a> Capturer<'a> {
         ensures captures { IfOk result (λ responses. AreCaptures self.old patterns.now responses.items) }
         ensures same { self.new ≡ self.old }
     {
-        settle_all(&mut self.evaluator, &self.settings, patterns);
-        let reading = Reading {
+        let fixed = Fixed {
             design: self.design,
             config: self.config,
-            evaluator: &self.evaluator,
+            settings: &self.settings,
             reads: &self.reads,
             outputs: &self.outputs,
+            falls: self.falls,
         };
-        let mut responses = rise_all(alloc, &reading, patterns)?;
-        if !self.falls {
-            return Ok(responses);
-        }
-        settle_again(&mut self.evaluator, &self.settings, &responses);
-        let reading = Reading {
-            design: self.design,
-            config: self.config,
-            evaluator: &self.evaluator,
-            reads: &self.reads,
-            outputs: &self.outputs,
-        };
-        fall_all(alloc, &reading, patterns, &mut responses)?;
-        Ok(responses)
+        captures(alloc, &fixed, &mut self.evaluator, patterns)
     }
 
     /// What a pattern captures.
@@ -109,28 +94,8 @@ impl<'a> Capturer<'a> {
         ensures captures { IfOk result (λ response. Captures self.old.design self.old.config pattern.now response) }
         ensures same { self.new ≡ self.old }
     {
-        settle_all(&mut self.evaluator, &self.settings, &[*pattern]);
-        let reading = Reading {
-            design: self.design,
-            config: self.config,
-            evaluator: &self.evaluator,
-            reads: &self.reads,
-            outputs: &self.outputs,
-        };
-        let mut response = rise(alloc, &reading, pattern, 0)?;
-        if !self.falls {
-            return Ok(response);
-        }
-        settle_again(&mut self.evaluator, &self.settings, from_ref(&response));
-        let reading = Reading {
-            design: self.design,
-            config: self.config,
-            evaluator: &self.evaluator,
-            reads: &self.reads,
-            outputs: &self.outputs,
-        };
-        fall(alloc, &reading, pattern, 0, &mut response)?;
-        Ok(response)
+        let mut responses = self.capture_all(alloc, &[*pattern])?;
+        Ok(responses.swap_remove(0))
     }
 }
 

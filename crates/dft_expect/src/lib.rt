@@ -2,12 +2,14 @@
 #![tactic(auto)]
 
 mod capturer;
+mod fixed;
 mod laws;
 mod loading;
 mod masking;
 mod moving;
 mod pattern;
 mod policy;
+mod pulsing;
 mod reading;
 mod reads;
 mod response;

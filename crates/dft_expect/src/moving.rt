@@ -8,7 +8,8 @@ ghost use Rattle.dft_evaluator.specs.Wides.{IsWide, value_in};
 ghost use Rattle.dft_evaluator.specs.Evaluations.{IsFor, value_at};
 ghost use Rattle.dft_expect.specs.declared.pattern.Pattern.{Pattern as PatternOf};
 ghost use Rattle.dft_expect.specs.declared.response.Response.{Response as ResponseOf};
-ghost use Rattle.dft_expect.specs.Capturing.{CanCapture, CanFall, IsPrepared, IsRisen, Settles};
+ghost use Rattle.dft_base.specs.declared.tri.Tri.{Tri as ATri};
+ghost use Rattle.dft_expect.specs.Capturing.{CanCapture, HasMoved, IsPrepared, Settles};
 ghost use Rattle.dft_expect.specs.Settings as spec;
 ghost use Rattle.dft_expect.specs.Settings.{moved_by, setting_at};
 ghost use Rattle.dft_expect.specs.Sources.{IsSame, IsCellSet};
@@ -81,15 +82,17 @@ fn set_cells(evaluator: &mut Evaluator, settings: &[Setting], risen: &[Response]
     }
 }
 
-// Settles all nets again, where the rising cells have moved.
-pub(crate) fn settle_again(evaluator: &mut Evaluator, settings: &[Setting], risen: &[Response])
-    requires risen { length risen.now ≤ 512 }
+// Settles all nets again, where cells have moved: what is settled in a state is so in another one, in which cells have what these responses
+// have and all other flip-flops are as before.
+pub(crate) fn settle_again(evaluator: &mut Evaluator, settings: &[Setting], moved: &[Response])
+    requires moved { length moved.now ≤ 512 }
     requires small { length settings.now < 2 ^ 32 }
     requires nets { length settings.now ≡ length evaluator.old.wides }
     ensures design { (n : Netlist) → IsFor n evaluator.old → IsFor n evaluator.new }
     ensures settled { (n : Netlist) (config : Config) → CanCapture n config → IsPrepared n config settings.now → IsFor n evaluator.old →
-        (p : ℕ) (pattern : PatternOf) (r : ResponseOf) → slice_get risen.now p ≡ Some r → Settles n config pattern (value_at evaluator.old p) → IsRisen n config pattern r → CanFall n config pattern r (value_at evaluator.new p) }
+        (p : ℕ) (pattern : PatternOf) (r : ResponseOf) (state next : ℕ → ATri) → slice_get moved.now p ≡ Some r → HasMoved n config state next r →
+        Settles n config pattern state (value_at evaluator.old p) → Settles n config pattern next (value_at evaluator.new p) }
 {
-    set_cells(evaluator, settings, risen);
+    set_cells(evaluator, settings, moved);
     evaluator.settle();
 }

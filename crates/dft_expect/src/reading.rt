@@ -1,17 +1,18 @@
 //! What patterns capture, read from settled values.
 
-ghost use Rattle.std.specs.Prelude.{◌≡◌, ℕ, ◌<◌, ◌≤◌, Some, length, map, slice_get, slice_index_or, IfOk, OnOk};
-ghost use Rattle.std.specs.List.{range_with_len};
+ghost use Rattle.std.specs.Prelude.{◌≡◌, ℕ, ◌+◌, ◌<◌, ◌≤◌, ◌++◌, Some, is_some, length, map, slice_get, slice_index_or, IfOk, OnOk};
+ghost use Rattle.std.specs.List.{list_any, range_with_len};
 ghost use Rattle.dft_base.specs.declared.tri.Tri.TheVariants.{Unknown};
 ghost use Rattle.dft_evaluator.specs.Evaluations.{value_at};
 ghost use Rattle.dft_expect.specs.declared.pattern.Pattern.{Pattern as PatternOf};
-ghost use Rattle.dft_expect.specs.declared.response.Response.{Response as ResponseOf};
-ghost use Rattle.dft_expect.specs.Captures.{capture_clock, output_bits};
-ghost use Rattle.dft_expect.specs.Capturing.{AreCaptures, AreRisen, CanCapture, CanFall, Captures, IsRisen, Settles, cells_in};
+ghost use Rattle.dft_expect.specs.Captures.{capture_clock, captured_domains};
+ghost use Rattle.dft_expect.specs.Capturing.{AreBehind, AreReadyFor, AreRisen, CanAllFall, CanFall, CapturedBehind, HasPulsed, HavePulsed, IsReadyFor, IsRisen};
+ghost use Rattle.dft_expect.specs.Fixed.{IsFixed, capturing_in};
 ghost use Rattle.dft_expect.specs.Loaded.{or_unknown as or_unknown_bit};
 ghost use Rattle.dft_expect.specs.Reads as spec;
-ghost use Rattle.dft_expect.specs.Reads.{AreReads, read_at, read_value, value_of_signal};
+ghost use Rattle.dft_expect.specs.Reads.{read_at, read_value, value_of_signal};
 
+use crate::fixed::Fixed;
 use crate::moving::value_of;
 use crate::pattern::Pattern;
 use crate::reads::Read;
@@ -23,17 +24,6 @@ use dft_evaluator::Evaluator;
 use dft_logic::takes;
 use dft_netlist::{ClockRoot, Design, NetId, Signal};
 use std::alloc::{AllocError, Global};
-
-// What is read: the settled values of a design, where the next values of its cells are read, and the bits of its output
-// ports.
-#[derive(Clone, Copy)]
-pub(crate) struct Reading<'a> {
-    pub design: &'a Design,
-    pub config: &'a Config,
-    pub evaluator: &'a Evaluator,
-    pub reads: &'a [Read],
-    pub outputs: &'a [NetId],
-}
 
 // An edge of the clock that captures, if there is one.
 #[derive(Clone, Copy)]
@@ -76,22 +66,13 @@ fn cell_after(evaluator: &Evaluator, read: &Read, edge: Edge, before: Tri, patte
     }
 }
 
-// The values of all cells after an edge, from the loaded bits.
-fn cells_from_load(
-    alloc: Global,
-    reading: &Reading<'_>,
-    edge: Edge,
-    loaded: &[bool],
-    pattern: u16,
-) -> Result<Vec<Tri>, AllocError>
-    requires { pattern < 512 }
-    ensures { IfOk result (λ cells. cells.items ≡ map (λ number. read_value (value_at reading.now.evaluator.now pattern) edge.clock edge.rising (or_unknown_bit (slice_get loaded.now number)) (read_at reading.now.reads.now number)) (range_with_len 0 (length reading.now.reads.now))) }
+// The values of all cells as they are loaded.
+fn cells_loaded(alloc: Global, count: usize, loaded: &[bool]) -> Result<Vec<Tri>, AllocError>
+    ensures { IfOk result (λ cells. cells.items ≡ map (λ number. or_unknown_bit (slice_get loaded.now number)) (range_with_len 0 count)) }
 {
-    let mut cells = Vec::with_capacity(alloc, reading.reads.len())?;
-    for number in 0..reading.reads.len() {
-        let read = &reading.reads[number];
-        let before = or_unknown(bit_at(loaded, number));
-        cells.push(cell_after(reading.evaluator, read, edge, before, pattern))?;
+    let mut cells = Vec::with_capacity(alloc, count)?;
+    for number in 0..count {
+        cells.push(or_unknown(bit_at(loaded, number)))?;
     }
     Ok(cells)
 }
@@ -99,38 +80,37 @@ fn cells_from_load(
 // The values of all cells after an edge, from those before it.
 fn cells_from(
     alloc: Global,
-    reading: &Reading<'_>,
+    reads: &[Read],
+    evaluator: &Evaluator,
     edge: Edge,
     before: &[Tri],
     pattern: u16,
 ) -> Result<Vec<Tri>, AllocError>
     requires { pattern < 512 }
-    ensures { IfOk result (λ cells. cells.items ≡ map (λ number. read_value (value_at reading.now.evaluator.now pattern) edge.clock edge.rising (slice_index_or before.now number Unknown) (read_at reading.now.reads.now number)) (range_with_len 0 (length reading.now.reads.now))) }
+    ensures { IfOk result (λ cells. cells.items ≡ map (λ number. read_value (value_at evaluator.now pattern) edge.clock edge.rising (slice_index_or before.now number Unknown) (read_at reads.now number)) (range_with_len 0 (length reads.now))) }
 {
-    let mut cells = Vec::with_capacity(alloc, reading.reads.len())?;
-    for number in 0..reading.reads.len() {
-        let read = &reading.reads[number];
+    let mut cells = Vec::with_capacity(alloc, reads.len())?;
+    for number in 0..reads.len() {
         let before = value_of(before, number);
-        cells.push(cell_after(reading.evaluator, read, edge, before, pattern))?;
+        cells.push(cell_after(evaluator, &reads[number], edge, before, pattern))?;
     }
     Ok(cells)
 }
 
-// The values of these nets.
-fn values(
-    alloc: Global,
+// Adds the values of these nets.
+fn push_values(
+    values: &mut Vec<Tri>,
     evaluator: &Evaluator,
     nets: &[NetId],
     pattern: u16,
-) -> Result<Vec<Tri>, AllocError>
+) -> Result<(), AllocError>
     requires { pattern < 512 }
-    ensures { IfOk result (λ values. values.items ≡ map (λ net. value_at evaluator.now pattern net.0) nets.now) }
+    ensures { OnOk result (values.new.items ≡ values.old.items ++ map (λ net. value_at evaluator.now pattern net.0) nets.now) }
 {
-    let mut values = Vec::with_capacity(alloc, nets.len())?;
     for net in nets {
         values.push(evaluator.value_at(*net, pattern))?;
     }
-    Ok(values)
+    Ok(())
 }
 
 // The clock that captures in a pattern, by the place of its domain.
@@ -143,97 +123,149 @@ fn clock_of(design: &Design, config: &Config, domain: u8) -> Option<NetId>
     }
 }
 
-// What a pattern has captured when its clock has risen, where its values are settled before that.
-pub(crate) fn rise(
-    alloc: Global,
-    reading: &Reading<'_>,
-    pattern: &Pattern<'_>,
-    place: u16,
-) -> Result<Response, AllocError>
-    requires place { place < 512 }
-    requires can { CanCapture reading.now.design.now reading.now.config.now }
-    requires reads { AreReads reading.now.design.now (cells_in reading.now.design.now reading.now.config.now) reading.now.reads.now }
-    requires outputs { reading.now.outputs.now ≡ output_bits reading.now.design.now.ports }
-    ensures { IfOk result (λ r. Settles reading.now.design.now reading.now.config.now pattern.now (value_at reading.now.evaluator.now place) → IsRisen reading.now.design.now reading.now.config.now pattern.now r) }
+// What a pattern has captured before its first capture vector: its loaded bits, and no outputs.
+fn begin(alloc: Global, fixed: &Fixed<'_>, pattern: &Pattern<'_>) -> Result<Response, AllocError>
+    requires fixed { IsFixed fixed.now }
+    ensures { IfOk result (CapturedBehind fixed.now.design.now fixed.now.config.now pattern.now 0) }
 {
-    let clock = clock_of(reading.design, reading.config, pattern.merged.domain);
-    let edge = Edge {
-        clock,
-        rising: true,
-    };
-    let cells = cells_from_load(alloc, reading, edge, pattern.loaded, place)?;
-    let outputs = values(alloc, reading.evaluator, reading.outputs, place)?;
+    let cells = cells_loaded(alloc, fixed.reads.len(), pattern.loaded)?;
     Ok(Response {
         cells: Listed::from_vec(cells),
-        outputs: Listed::from_vec(outputs),
+        outputs: Listed::from_vec(Vec::new(alloc)),
     })
 }
 
-// What each pattern has captured when its clock has risen, where their values are settled before that.
-pub(crate) fn rise_all(
+// The same of each pattern.
+pub(crate) fn begin_all(
     alloc: Global,
-    reading: &Reading<'_>,
+    fixed: &Fixed<'_>,
     patterns: &[Pattern<'_>],
 ) -> Result<Vec<Response>, AllocError>
-    requires patterns { length patterns.now ≤ 512 }
-    requires can { CanCapture reading.now.design.now reading.now.config.now }
-    requires reads { AreReads reading.now.design.now (cells_in reading.now.design.now reading.now.config.now) reading.now.reads.now }
-    requires outputs { reading.now.outputs.now ≡ output_bits reading.now.design.now.ports }
-    requires settled { (p : ℕ) (pattern : PatternOf) → slice_get patterns.now p ≡ Some pattern → Settles reading.now.design.now reading.now.config.now pattern (value_at reading.now.evaluator.now p) }
-    ensures { IfOk result (λ responses. AreRisen (record { design = reading.now.design.now; config = reading.now.config.now }) patterns.now responses.items) }
+    requires fixed { IsFixed fixed.now }
+    ensures { IfOk result (λ responses. AreBehind (capturing_in fixed.now) 0 patterns.now responses.items) }
 {
     let mut responses = Vec::with_capacity(alloc, patterns.len())?;
     for place in 0..patterns.len() {
-        responses.push(rise(alloc, reading, &patterns[place], place as u16)?)?;
+        responses.push(begin(alloc, fixed, &patterns[place])?)?;
     }
     Ok(responses)
 }
 
-// Lets the clock of a pattern fall, where its values are settled before that.
-pub(crate) fn fall(
+// Lets the clock of this domain rise, where the values of a pattern are settled before that.
+fn rise(
     alloc: Global,
-    reading: &Reading<'_>,
-    pattern: &Pattern<'_>,
+    fixed: &Fixed<'_>,
+    evaluator: &Evaluator,
+    domain: u8,
     place: u16,
     response: &mut Response,
 ) -> Result<(), AllocError>
+    requires fixed { IsFixed fixed.now }
     requires place { place < 512 }
-    requires can { CanCapture reading.now.design.now reading.now.config.now }
-    requires reads { AreReads reading.now.design.now (cells_in reading.now.design.now reading.now.config.now) reading.now.reads.now }
-    ensures { OnOk result (CanFall reading.now.design.now reading.now.config.now pattern.now response.old (value_at reading.now.evaluator.now place) → Captures reading.now.design.now reading.now.config.now pattern.now response.new) }
+    ensures { OnOk result ((pattern : PatternOf) (count : ℕ) → IsReadyFor fixed.now.design.now fixed.now.config.now pattern count response.old (value_at evaluator.now place)
+        → IsRisen fixed.now.design.now fixed.now.config.now pattern count domain response.new (value_at evaluator.now place)) }
 {
-    let clock = clock_of(reading.design, reading.config, pattern.merged.domain);
     let edge = Edge {
-        clock,
+        clock: clock_of(fixed.design, fixed.config, domain),
+        rising: true,
+    };
+    let before = response.cells.as_slice();
+    let cells = cells_from(alloc, fixed.reads, evaluator, edge, before, place)?;
+    let mut outputs = Vec::from_slice(alloc, response.outputs.as_slice())?;
+    push_values(&mut outputs, evaluator, fixed.outputs, place)?;
+    response.cells = Listed::from_vec(cells);
+    response.outputs = Listed::from_vec(outputs);
+    Ok(())
+}
+
+// Lets the clocks of this vector rise in all patterns that have one, where their values are settled before that.
+pub(crate) fn rise_all(
+    alloc: Global,
+    fixed: &Fixed<'_>,
+    evaluator: &Evaluator,
+    patterns: &[Pattern<'_>],
+    vector: u8,
+    responses: &mut [Response],
+) -> Result<(), AllocError>
+    requires fixed { IsFixed fixed.now }
+    requires patterns { length patterns.now ≤ 512 }
+    requires ready { AreReadyFor (capturing_in fixed.now) vector patterns.now responses.old (value_at evaluator.now) }
+    ensures { OnOk result (AreRisen (capturing_in fixed.now) vector patterns.now responses.new (value_at evaluator.now)) }
+{
+    for place in 0..patterns.len() {
+        if let Some(domain) = patterns[place].merged.domains.at(vector) {
+            rise(
+                alloc,
+                fixed,
+                evaluator,
+                domain,
+                place as u16,
+                &mut responses[place],
+            )?;
+        }
+    }
+    Ok(())
+}
+
+// Lets the clock of this domain fall, where the values of a pattern are settled before that.
+fn fall(
+    alloc: Global,
+    fixed: &Fixed<'_>,
+    evaluator: &Evaluator,
+    domain: u8,
+    place: u16,
+    response: &mut Response,
+) -> Result<(), AllocError>
+    requires fixed { IsFixed fixed.now }
+    requires place { place < 512 }
+    ensures { OnOk result ((pattern : PatternOf) (count : ℕ) → slice_get (captured_domains pattern.merged.now) count ≡ Some domain
+        → CanFall fixed.now.design.now fixed.now.config.now pattern count domain response.old (value_at evaluator.now place)
+        → HasPulsed fixed.now.design.now fixed.now.config.now pattern (count + 1) response.new (value_at evaluator.now place)) }
+{
+    let edge = Edge {
+        clock: clock_of(fixed.design, fixed.config, domain),
         rising: false,
     };
-    let cells = cells_from(alloc, reading, edge, response.cells.as_slice(), place)?;
+    let before = response.cells.as_slice();
+    let cells = cells_from(alloc, fixed.reads, evaluator, edge, before, place)?;
     response.cells = Listed::from_vec(cells);
     Ok(())
 }
 
-// Lets the clocks of all patterns fall, where their values are settled before that.
+// Lets the clocks of this vector fall in all patterns that have one, where their values are settled before that.
 pub(crate) fn fall_all(
     alloc: Global,
-    reading: &Reading<'_>,
+    fixed: &Fixed<'_>,
+    evaluator: &Evaluator,
     patterns: &[Pattern<'_>],
+    vector: u8,
     responses: &mut [Response],
 ) -> Result<(), AllocError>
+    requires fixed { IsFixed fixed.now }
     requires patterns { length patterns.now ≤ 512 }
-    requires count { length responses.old ≡ length patterns.now }
-    requires can { CanCapture reading.now.design.now reading.now.config.now }
-    requires reads { AreReads reading.now.design.now (cells_in reading.now.design.now reading.now.config.now) reading.now.reads.now }
-    requires settled { (p : ℕ) (pattern : PatternOf) (r : ResponseOf) → slice_get patterns.now p ≡ Some pattern → slice_get responses.old p ≡ Some r → CanFall reading.now.design.now reading.now.config.now pattern r (value_at reading.now.evaluator.now p) }
-    ensures { OnOk result (AreCaptures (record { design = reading.now.design.now; config = reading.now.config.now }) patterns.now responses.new) }
+    requires settled { CanAllFall (capturing_in fixed.now) vector patterns.now responses.old (value_at evaluator.now) }
+    ensures { OnOk result (HavePulsed (capturing_in fixed.now) (vector + 1) patterns.now responses.new (value_at evaluator.now)) }
 {
     for place in 0..patterns.len() {
-        fall(
-            alloc,
-            reading,
-            &patterns[place],
-            place as u16,
-            &mut responses[place],
-        )?;
+        if let Some(domain) = patterns[place].merged.domains.at(vector) {
+            fall(
+                alloc,
+                fixed,
+                evaluator,
+                domain,
+                place as u16,
+                &mut responses[place],
+            )?;
+        }
     }
     Ok(())
+}
+
+// Whether a pattern has a second capture vector.
+pub(crate) fn any_second(patterns: &[Pattern<'_>]) -> bool
+    ensures { result ≡ list_any (λ pattern. is_some pattern.merged.now.domains.second) patterns.now }
+{
+    patterns
+        .iter()
+        .any(|pattern| pattern.merged.domains.second.is_some())
 }

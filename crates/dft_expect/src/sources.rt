@@ -8,7 +8,9 @@ ghost use Rattle.dft_expect.specs.declared.pattern.Pattern.{Pattern as PatternOf
 ghost use Rattle.dft_config.specs.Config.{Config};
 ghost use Rattle.dft_expect.specs.Captures.{bit_of_port};
 ghost use Rattle.dft_expect.specs.Capturing.{CanCapture, IsPrepared, Settles};
+ghost use Rattle.dft_stitch.specs.Chains.{plan_of};
 ghost use Rattle.dft_expect.specs.Loaded as spec;
+ghost use Rattle.dft_expect.specs.Loaded.{loaded_values};
 ghost use Rattle.dft_expect.specs.Settings.{setting_at, value_by, is_input, port_or};
 ghost use Rattle.dft_expect.specs.Settings as by;
 ghost use Rattle.dft_expect.specs.Sources.{IsSame, IsPortSet, ArePortsSet};
@@ -156,7 +158,7 @@ pub(crate) fn settle_all(evaluator: &mut Evaluator, settings: &[Setting], patter
     requires nets { length settings.now ≡ length evaluator.old.wides }
     ensures design { (n : Netlist) → IsFor n evaluator.old → IsFor n evaluator.new }
     ensures settled { (n : Netlist) (config : Config) → CanCapture n config → IsPrepared n config settings.now → IsFor n evaluator.old →
-        (p : ℕ) (pattern : PatternOf) → slice_get patterns.now p ≡ Some pattern → Settles n config pattern (value_at evaluator.new p) }
+        (p : ℕ) (pattern : PatternOf) → slice_get patterns.now p ≡ Some pattern → Settles n config pattern (loaded_values (plan_of n config).chains pattern.loaded.now) (value_at evaluator.new p) }
 {
     set_sources(evaluator, settings, patterns);
     evaluator.settle();

@@ -11,7 +11,7 @@ pub struct Said {
     pub advice: &'static str,
 }
 
-static SENTENCES: [Said; 63] = [
+static SENTENCES: [Said; 68] = [
     Said {
         code: "F1",
         sentence: "the option's file has more bytes than its limit: 67,108,864, of patterns and reports 268,435,456",
@@ -55,7 +55,7 @@ static SENTENCES: [Said; 63] = [
     Said {
         code: "V8",
         sentence: "a second module",
-        advice: "flatten the design to one module, in yosys by flatten",
+        advice: "read the text by the call that takes several",
     },
     Said {
         code: "V9",
@@ -76,6 +76,31 @@ static SENTENCES: [Said; 63] = [
         code: "V12",
         sentence: "a pin that was connected before",
         advice: "connect each pin once",
+    },
+    Said {
+        code: "H1",
+        sentence: "a module has the name of a module before it, or of a cell of the library",
+        advice: "rename the module",
+    },
+    Said {
+        code: "H2",
+        sentence: "an instance of what is no cell of the library and no module of the text",
+        advice: "add the cell to the library, map to its cells, or add the module to the text",
+    },
+    Said {
+        code: "H3",
+        sentence: "a module has an instance of itself, or below one of its instances",
+        advice: "break the circle",
+    },
+    Said {
+        code: "H4",
+        sentence: "the modules that no module has an instance of are not one",
+        advice: "leave out what the top does not reach, in yosys by synth -top",
+    },
+    Said {
+        code: "H5",
+        sentence: "a connection that fits no port of its module: the module has none of this name, it has another width, or it is an output and joined to a constant",
+        advice: "name the module's ports, and give each its width",
     },
     Said {
         code: "N3",
@@ -259,7 +284,7 @@ static SENTENCES: [Said; 63] = [
     },
     Said {
         code: "Q1",
-        sentence: "a line that is none of these in its place, or has a byte outside of 33 to 126 in a word before its comment",
+        sentence: "a line that is none of these in its place, as a second clock in version 1, or has a byte outside of 33 to 126 in a word before its comment",
         advice: "write cube NAME CLOCK, then lines cell NAME BIT and port NAME BIT, then end",
     },
     Said {

@@ -123,7 +123,7 @@ module _ (size : ℕ) (words : List ℕ) (few : size ≤ 20000) (some : 0 < size
 
   -- a cube that has not ended
   abbrev pub pending : List Cube → (name : Text) → (domain : ℕ) → List Given → Reading
-  pending cubes name domain cells = record { cubes = cubes; pending = Some (record { name = name; domain = domain; cells = cells; ports = [] }) }
+  pending cubes name domain cells = record { version = Some 1; cubes = cubes; pending = Some (record { name = name; domains = record { first = domain; second = None }; cells = cells; ports = [] }) }
 
   bit_by : (bit : ℕ) (word : ℕ) (cubes : List Cube) (name : Text) (domain : ℕ) (cells : List Given) (before : List ℕ) → word / 2 ^ 31 ≡ bit → bit < 2 → is_named size before (word % size) ≡ false → Fits cells before
       → Takes (pending cubes name domain cells) ((codes "cell" ++ 32 ∷ (f_of (word % size) ++ 32 ∷ decimal bit)) ++ 10 ∷ []) (pending cubes name domain (cells ++ (flop_of (word % size), bit == 1) ∷ []))
@@ -135,7 +135,7 @@ module _ (size : ℕ) (words : List ℕ) (few : size ≤ 20000) (some : 0 < size
       cell_inside : list_all is_inside (f_of (word % size)) ≡ true
       cell_inside = digits_inside (word % size) (let m = mod-lt word some in omega (arith, m, few))
 
-      free : has_cell (record { name = name; domain = domain; cells = cells; ports = [] }) (flop_of (word % size)) ≡ false
+      free : has_cell (record { name = name; domains = record { first = domain; second = None }; cells = cells; ports = [] }) (flop_of (word % size)) ≡ false
       free = fits (word % size) ∙ new
 
       named : flip_flop_named (design size words) (f_of (word % size)) ≡ Some (flop_of (word % size))

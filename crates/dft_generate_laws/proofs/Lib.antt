@@ -24,6 +24,7 @@ pub mod Plans
 pub mod Said
 pub mod ScannedTexts
 pub mod Seeds
+pub mod Singles
 pub mod Sizes
 pub mod Sound
 pub mod Ties

@@ -1,5 +1,5 @@
 -- The cubes that a generated cube text stands for.
-use Rattle.std.specs.Prelude.{ℕ, suc, ◌+◌, ◌*◌, ◌/◌, ◌%◌, ◌^◌, ◌<◌, ◌≤◌, ◌==◌, Bool, true, false, List, [], ◌∷◌, ◌++◌, length, map, take}
+use Rattle.std.specs.Prelude.{ℕ, suc, ◌+◌, ◌*◌, ◌/◌, ◌%◌, ◌^◌, ◌<◌, ◌≤◌, ◌==◌, Bool, true, false, List, [], ◌∷◌, ◌++◌, length, map, take, None}
 use Rattle.std.specs.List.{All, range_with_len}
 use Rattle.dft_netlist.specs.declared.ids.InstanceId.{InstanceId}
 use Rattle.dft_cubes.specs.declared.cube.Cube.{Cube}
@@ -34,7 +34,7 @@ bits_given size words = new_bit size (take 0 words) (word_at words 0) ++ (new_bi
 
 -- a cube, as `k5`, with its clock
 abbrev pub cube_in : (size : ℕ) → (words : List ℕ) → (cube : ℕ) → Cube
-cube_in size words cube = record { name = numbered 107 cube; domain = cube % 2; cells = bits_given size (words_in size words cube); ports = [] }
+cube_in size words cube = record { name = numbered 107 cube; domains = record { first = cube % 2; second = None }; cells = bits_given size (words_in size words cube); ports = [] }
 
 abbrev pub cubes_in : (size : ℕ) → (words : List ℕ) → List Cube
 cubes_in size words = map (cube_in size words) (range_with_len 0 (size / 4))

@@ -13,7 +13,7 @@ use Rattle.dft_scan_hardware.specs.Statements.{scanned}
 use Rattle.dft_stil_tokens.specs.declared.blanks.TheConstants.{MAX_TEXT}
 use Rattle.dft_stil_out.specs.WrittenLength.{written_length}
 use Rattle.dft_vectors.specs.Signals.{signals_of}
-use Rattle.dft_vectors.specs.VectorList.{notes_of}
+use Rattle.dft_vectors.specs.VectorList.{captures_in, notes_of}
 use Rattle.dft_encode.specs.Compiled.{Placing}
 use Rattle.dft_encode.specs.Laws.{vectors_in}
 use Rattle.dft_cubes.specs.Cubes.{cubes_of}
@@ -65,14 +65,14 @@ JobsAreRead = (seed size : ℕ) (job : Job) → IsSize size → IsJob size (word
 abbrev pub PatternsFit : Type 0
 PatternsFit =
     (size : ℕ) (words : List ℕ) → IsSize size → size ≤ 16240 → (placing : Placing configuration (plan_of (design size words) configuration) (cubes_in size words)) →
-    vectors_in (plan_of (design size words) configuration).cycles (length placing.merged) ≤ MAX_VECTORS
+    vectors_in (plan_of (design size words) configuration).cycles (captures_in placing.merged) ≤ MAX_VECTORS
 
 -- of every size, and however the cubes are placed, the text of their patterns is no longer than a pattern text may be
 abbrev pub PatternTextsFit : Type 0
 PatternTextsFit =
     (size : ℕ) (words : List ℕ) → IsSize size → (placing : Placing configuration (plan_of (design size words) configuration) (cubes_in size words)) →
     let cycles = (plan_of (design size words) configuration).cycles in
-    let patterns = length placing.merged in written_length (signals_of (scanned Edt (design size words) configuration)) (vectors_in cycles patterns) (notes_of cycles patterns) ≤ MAX_TEXT
+    let captures = captures_in placing.merged in written_length (signals_of (scanned Edt (design size words) configuration)) (vectors_in cycles captures) (notes_of cycles captures) ≤ MAX_TEXT
 
 -- up to a size of 16,240, and however the cubes are placed, the report is no longer than a report may be
 abbrev pub ReportsFit : Type 0

@@ -102,7 +102,7 @@ ports_nets (p ∷ ports) n m e = by (port_refusal n p.name p.range) e (ports_net
 
 -- ---- the whole
 
-map_same : (names : List Text) → map (λ name. [] ++ name) names ≡ names
+pub map_same : (names : List Text) → map (λ name. [] ++ name) names ≡ names
 map_same [] = refl
 map_same (n ∷ names) = ap (λ (ns : List Text). n ∷ ns) (map_same names)
 

@@ -35,4 +35,11 @@ pub mod OneDesign
 pub mod SpotLemmas
 pub mod InstanceSpotLemmas
 pub mod OneForOne
+pub mod OneModule
+pub mod Positions
+pub mod Images
+pub mod DriverImages
+pub mod NetRanks
+pub mod JoinedRoots
+pub mod SettledByPath
 mod FlatExamples

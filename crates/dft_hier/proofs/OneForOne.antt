@@ -81,10 +81,10 @@ among_kept p (x ∷ ms) t is = by (p x) is (among_kept p ms t)
     by true is more = let e : x ≡ t = cc in (0, ap (λ (y : Module). Some y) e)
     by false is more = let r = more is in (suc r.0, r.1)
 
-top_there : (ms : List Module) (top : Module) → IsHierarchy ms top → (k : ℕ) × (slice_get ms k ≡ Some top)
+pub top_there : (ms : List Module) (top : Module) → IsHierarchy ms top → (k : ℕ) × (slice_get ms k ≡ Some top)
 top_there ms top h = among_kept (λ (m : Module). not (list_any (λ other. has_instance_of other m.name) ms)) ms top h.one
 
-top_tall : (ms : List Module) (top : Module) → IsHierarchy ms top → StandsTall ms (length ms) top
+pub top_tall : (ms : List Module) (top : Module) → IsHierarchy ms top → StandsTall ms (length ms) top
 top_tall ms top h =
     let r = top_there ms top h in
     let size = graph_count ms in
@@ -133,7 +133,7 @@ parts_have parts p n within none is = by (add_nets (drop (length p.nets) parts.n
         ((omega arith), instances_added parts.instances (with_joins q parts.joins) n is ∙ ap (λ (xs : List Instance). xs ++ parts.instances) (own ∙ none))
     by (Err e) at is = absurd (let f : ⊥ = cc in f)
 
-flat_has : (ms : List Module) (library : List Cell) (top : Module) (n : Netlist) → length (bit_names_of top.ports) ≤ length (flat_parts ms top).nets → flat_netlist ms library top ≡ Ok n → (length n.nets ≡ length (flat_parts ms top).nets) × (n.instances ≡ (flat_parts ms top).instances)
+pub flat_has : (ms : List Module) (library : List Cell) (top : Module) (n : Netlist) → length (bit_names_of top.ports) ≤ length (flat_parts ms top).nets → flat_netlist ms library top ≡ Ok n → (length n.nets ≡ length (flat_parts ms top).nets) × (n.instances ≡ (flat_parts ms top).instances)
 unfolding flat_netlist
 flat_has ms library top n bits is = by (add_ports top.ports (empty_netlist top.name library)) refl is
   where
@@ -144,7 +144,7 @@ flat_has ms library top n bits is = by (add_ports top.ports (empty_netlist top.n
     by (Err e) at is = absurd (let f : ⊥ = cc in f)
 
 -- the top's own nets are among all
-own_within : (ms : List Module) (top : Module) → StandsTall ms (length ms) top → length top.nets ≤ length (flat_parts ms top).nets
+pub own_within : (ms : List Module) (top : Module) → StandsTall ms (length ms) top → length top.nets ≤ length (flat_parts ms top).nets
 own_within ms top tall =
     let same = ap (λ (xs : List Text). length xs) (nets_same (length ms) ms [] 0 top ∙ nets_deep_enough ms (length ms) top tall []) in
     let split = length-append (map (λ name. [] ++ name) top.nets) (subs_nets (nets_in (length ms) ms) ms [] (subs_of top.items)) in

@@ -63,7 +63,7 @@ once_both (x ∷ xs) ys h k apart = (
 
 -- ---- the spots of one module
 
-abbrev own_from : Path → (from count : ℕ) → List Spot
+abbrev pub own_from : Path → (from count : ℕ) → List Spot
 own_from path from count = map (λ number. record { path = path; at = number }) (going_up from count)
 
 own_at : (path : Path) (from count k : ℕ) (s : Spot) → slice_get (own_from path from count) k ≡ Some s → (s.path ≡ path) × (s.at ≡ from + k)
@@ -81,12 +81,12 @@ own_once : (path : Path) (from count : ℕ) → AreOnce (own_from path from coun
 own_once path from zero = tt
 own_once path from (suc count) = ((λ k at. (let r = own_at path (suc from) count k (spot path from) at in let number = r.1 in absurd (omega arith))), own_once path (suc from) count)
 
-own_there : (path : Path) (from count at : ℕ) → at < count → slice_get (own_from path from count) at ≡ Some (spot path (from + at))
+pub own_there : (path : Path) (from count at : ℕ) → at < count → slice_get (own_from path from count) at ≡ Some (spot path (from + at))
 own_there path from zero at less = absurd (omega (arith, less))
 own_there path from (suc count) zero less = let e : from ≡ from + 0 = omega arith in ap (λ (n : ℕ). Some (spot path n)) e
 own_there path from (suc count) (suc at) less = let e : suc from + at ≡ from + suc at = omega arith in own_there path (suc from) count at (omega (arith, less)) ∙ ap (λ (n : ℕ). Some (spot path n)) e
 
-own_count : (path : Path) (from count : ℕ) → length (own_from path from count) ≡ count
+pub own_count : (path : Path) (from count : ℕ) → length (own_from path from count) ≡ count
 own_count path from zero = refl
 own_count path from (suc count) = ap suc (own_count path (suc from) count)
 

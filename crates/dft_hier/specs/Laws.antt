@@ -1,4 +1,4 @@
--- Laws of flat designs. `FlatIsJoined` and `OneModuleGives` are statements that nothing proves yet.
+-- Laws of flat designs.
 use Rattle.std.specs.Prelude.{◌≡◌, ◌↔◌, None, Ok, ℕ, ◌<◌, ◌≤◌, Bool, List, length, Some, slice_get}
 use Rattle.dft_base.specs.Lexing.{Text}
 use Rattle.dft_cells.specs.declared.cell.Cell.{Cell}
@@ -81,6 +81,15 @@ pub record Gives (library : List Cell) (text : Text) (design : Netlist) : Type 0
 -- a text of one module that has no cell's name stands for the design that it stands for alone
 abbrev pub OneModuleGives : Type 0
 OneModuleGives = (library : List Cell) (text : Text) (design : Netlist) → StandsFor library text design → find_cell library design.name ≡ None → Gives library text design
+
+-- the design is over these cells, and its name is none of theirs
+pub record IsOver (library : List Cell) (design : Netlist) : Type 0 where
+  pub cells : design.library ≡ library
+  pub named : find_cell library design.name ≡ None
+
+-- what a text stands for is over the cells that it was read over, and has the name of none of them
+abbrev pub GivenAreOver : Type 0
+GivenAreOver = (library : List Cell) (text : Text) (design : Netlist) → Gives library text design → IsOver library design
 
 -- a text stands for one design at most
 abbrev pub GivesOne : Type 0

@@ -1,7 +1,8 @@
 -- Lists of what flip-flops take.
-use Rattle.std.proofs.Common.{ℕ, true, ◌&&◌, Option, None, Some, is_none, map, List, [], ◌∷◌, ◌++◌, ◌≡◌, ◌<◌, ◌+◌, ◌≢◌, ◌⊎◌, inl, inr, refl, sym, ap, ◌∙◌, subst, length, get_or, slice_set, get_or-set_same, get_or-set_other, below_more, arith}
-use Rattle.std.proofs.lemmas.List.{get_or_default, get_or_append_left, get_or_push, length-append}
-use Rattle.std.proofs.lemmas.Bool.Decides.{eqb_tells}
+use Rattle.std.specs.Prelude.{nat_lt, if◌then◌else◌}
+use Rattle.std.proofs.Common.{ℕ, zero, suc, Bool, true, false, ◌&&◌, Option, None, Some, is_none, map, List, [], ◌∷◌, ◌++◌, ◌≡◌, ◌<◌, ◌≤◌, ◌+◌, ◌≢◌, ◌⊎◌, inl, inr, refl, sym, ap, ◌∙◌, subst, length, get_or, slice_set, get_or-set_same, get_or-set_other, below_more, arith}
+use Rattle.std.proofs.lemmas.List.{get_or_past, get_or_default, get_or_append_left, get_or_push, length-append}
+use Rattle.std.proofs.lemmas.Bool.Decides.{eqb_tells, leb_tells}
 use Rattle.dft_base.specs.declared.tri.Tri.{Tri}
 use Rattle.dft_base.specs.declared.tri.Tri.TheVariants.{Zero, One, Unknown}
 use Rattle.dft_netlist.specs.Drivers.{Source, Net, Tied, Loose}
@@ -13,10 +14,12 @@ use Rattle.dft_logic.specs.declared.entries.Entry.{Entry}
 use Rattle.dft_logic.specs.declared.entries.Entry.TheVariants.{Keeps}
 use Rattle.dft_logic.specs.declared.circuit.FlipFlop.{FlipFlop}
 use Rattle.dft_logic.specs.declared.takings.Taking.{Taking}
-use Rattle.dft_logic.specs.Values.{value_at}
-use Rattle.dft_logic.specs.Circuit.{cell_of, cell_at, next_at}
+use Rattle.dft_registers.specs.Layout.{Layout, place_at, cells_at}
+use Rattle.dft_registers.specs.Layout as layout
+use Rattle.dft_registers.specs.Cells.{Contents, value_at, Course, Rests, course_in, course, IsCarried, IsShifted}
+use Rattle.dft_logic.specs.Circuit.{cell_of, cell_at, next_at, flag_at}
 use Rattle.dft_logic.specs.EntryTables.{entry_of, entry_at}
-use Rattle.dft_logic.specs.Takings.{taking_at, is_loose_input, is_loose, is_idle, IsAmong, ArePut}
+use Rattle.dft_logic.specs.Takings.{taking_at, is_loose_input, is_loose, is_idle, IsAmong, IsLeft, AreMoves, ArePut}
 use Rattle.dft_logic.proofs.Writings.{cell_read}
 
 -- ---- what is idle
@@ -43,33 +46,30 @@ idle_value cell old values next c (entries.Follows other) idle loose = absurd cc
 idle_value cell old values next c (entries.Reads net) idle loose = absurd cc
 idle_value cell old values next c entries.Computes idle loose = absurd cc
 
--- ---- what is not idle is listed
+-- ---- what is not left out is listed
 
-pub record Taken (cells : ℕ → Cell) (table : List Entry) (takings : List Taking) (place : ℕ) : Type 0 where
+pub record Taken (cells : ℕ → Cell) (table : List Entry) (moved : ℕ → Course) (takings : List Taking) (place : ℕ) : Type 0 where
   pub few : length takings < place + 1
   pub live : (j : ℕ) → j < length takings → (taking_at takings j).place < place
   pub each : (j : ℕ) → j < length takings → entry_at table (taking_at takings j).place ≡ entry_of (taking_at takings j).entry
-  pub all : (c : ℕ) → c < place → IsAmong takings (length takings) c ⊎ (is_idle (cells c) (entry_at table c) ≡ true)
+  pub all : (c : ℕ) → c < place → IsAmong takings (length takings) c ⊎ IsLeft (cells c) (entry_at table c) (moved c)
 
-pub taken_none : (cells : ℕ → Cell) (table : List Entry) → Taken cells table [] 0
-taken_none cells table = record { few = omega arith; live = λ j h. absurd (omega arith); each = λ j h. absurd (omega arith); all = λ c h. absurd (omega arith) }
+pub taken_none : (cells : ℕ → Cell) (table : List Entry) (moved : ℕ → Course) → Taken cells table moved [] 0
+taken_none cells table moved = record { few = omega arith; live = λ j h. absurd (omega arith); each = λ j h. absurd (omega arith); all = λ c h. absurd (omega arith) }
 
-pub taken_idle : (flops : List FlipFlop) (table : List Entry) (takings : List Taking) (place : ℕ) (f : FlipFlop) (d : Entry) → place < length flops → place < length table →
-    is_idle (cell_of (get_or flops place f)) (entry_of (get_or table place d)) ≡ true → Taken (cell_at (map cell_of flops)) table takings place → Taken (cell_at (map cell_of flops)) table takings (place + 1)
-taken_idle flops table takings place f d here less idle t =
+pub taken_left : (cells : ℕ → Cell) (table : List Entry) (moved : ℕ → Course) (takings : List Taking) (place : ℕ) → IsLeft (cells place) (entry_at table place) (moved place) → Taken cells table moved takings place → Taken cells table moved takings (place + 1)
+taken_left cells table moved takings place left t =
     let few : length takings < place + 1 = t.few in
-    let C : Cell → Type 0 = λ cell. is_idle cell (entry_of (get_or table place d)) ≡ true in
-    let E : Entry → Type 0 = λ entry. is_idle (cell_at (map cell_of flops) place) (entry_of entry) ≡ true in
     record {
       few = omega arith;
       live = λ j h. (let was : (taking_at takings j).place < place = t.live j h in omega arith);
       each = t.each;
-      all = below_more _ place t.all (inr (subst E (get_or_default table place d Keeps less) (subst C (cell_read flops place f here) idle)));
+      all = below_more _ place t.all (inr left);
     }
 
-pub taken_more : (cells : ℕ → Cell) (table : List Entry) (takings : List Taking) (place : ℕ) (d : Entry) → place < length table → Taken cells table takings place →
-    Taken cells table (takings ++ (record { place = place; entry = get_or table place d }) ∷ []) (place + 1)
-taken_more cells table takings place d less t =
+pub taken_more : (cells : ℕ → Cell) (table : List Entry) (moved : ℕ → Course) (takings : List Taking) (place : ℕ) (d : Entry) → place < length table → Taken cells table moved takings place →
+    Taken cells table moved (takings ++ (record { place = place; entry = get_or table place d }) ∷ []) (place + 1)
+taken_more cells table moved takings place d less t =
     let new : Taking = record { place = place; entry = get_or table place d } in
     let none : Taking = record { place = 0; entry = Keeps } in
     let all : List Taking = takings ++ new ∷ [] in
@@ -90,36 +90,86 @@ taken_more cells table takings place d less t =
       all = below_more _ place
           (λ c h. elim (t.all c h) [
             | inl a ↦ inl (record { at = a.at; before = (let was : a.at < length takings = a.before in omega (arith, size)); here = ap (λ (x : Taking). x.place) (there a.at a.before) ∙ a.here })
-            | inr idle ↦ inr idle
+            | inr left ↦ inr left
           ])
           (inl (record { at = length takings; before = omega (arith, size); here = ap (λ (x : Taking). x.place) here }));
     }
 
+-- a flip-flop with this entry is left out: it takes the value of the one before it as its register moves, or it is idle where it rests
+pub left_out : (flops : List FlipFlop) (table : List Entry) (l : Layout) (moves : List Bool) (c : ℕ) (f : FlipFlop) (d : Entry) (idle : Bool) → c < length flops → c < length table → AreMoves (entry_at table) l moves →
+    (place_at l.places c).index < length (cells_at l.registers (place_at l.places c).register) → layout.cell_at l.registers (place_at l.places c).register (place_at l.places c).index ≡ c →
+    idle ≡ is_idle (cell_of (get_or flops c f)) (entry_of (get_or table c d)) → (if flag_at moves (place_at l.places c).register then nat_lt 0 (place_at l.places c).index else idle) ≡ true →
+    IsLeft (cell_at (map cell_of flops) c) (entry_at table c) (course l moves c)
+left_out flops table l moves c f d idle live less are within here is left = go (flag_at moves (place_at l.places c).register) (place_at l.places c).register (place_at l.places c).index refl within here left where
+  go : (b : Bool) (r i : ℕ) → flag_at moves r ≡ b → i < length (cells_at l.registers r) → layout.cell_at l.registers r i ≡ c → (if b then nat_lt 0 i else idle) ≡ true →
+      IsLeft (cell_at (map cell_of flops) c) (entry_at table c) (if b then course_in (cells_at l.registers r) i else Rests)
+  go false r i up within here left =
+      let C : Cell → Type 0 = λ cell. is_idle cell (entry_of (get_or table c d)) ≡ true in
+      let E : Entry → Type 0 = λ entry. is_idle (cell_at (map cell_of flops) c) (entry_of entry) ≡ true in
+      subst E (get_or_default table c d Keeps less) (subst C (cell_read flops c f live) (sym is ∙ left))
+  go true r zero up within here left = absurd cc
+  go true r (suc i) up within here left = ap (entry_at table) (sym here) ∙ are r up i within
+
 -- ---- what is taken is put
 
-pub put_none : (takings : List Taking) (value : Taking → Tri) (old now : List Tri) → now ≡ old → ArePut takings 0 value old now
-put_none takings value old now same = record { each = λ c. inr (λ a. (let less = a.before in absurd (omega arith)), ap (λ (l : List Tri). value_at l c) same) }
+pub put_none : (takings : List Taking) (row : ℕ → Tri) (l : Layout) (moves : List Bool) (old new : Contents) → old.layout ≡ l → IsShifted moves old new → ArePut takings 0 row (course l moves) old.values new.values
+put_none takings row l moves old new same is =
+    record {
+      each = λ c live. inr (λ a. (let less = a.before in absurd (omega arith)), subst (λ (k : Layout). IsCarried (value_at old.values) c (value_at new.values c) (course k moves c)) same (is.each c live));
+    }
 
-pub put_more : (takings : List Taking) (value : Taking → Tri) (old now : List Tri) (at : ℕ) (d : Taking) (t : Tri) → at < length takings → (get_or takings at d).place < length now → t ≡ value (get_or takings at d) →
-    ArePut takings at value old now → ArePut takings (at + 1) value old (slice_set now (get_or takings at d).place t)
-put_more takings value old now at d t less there is put =
+pub put_more : (takings : List Taking) (row : ℕ → Tri) (moved : ℕ → Course) (old now : List Tri) (at : ℕ) (d : Taking) (t : Tri) → at < length takings → (get_or takings at d).place < length now → t ≡ row at →
+    ArePut takings at row moved old now → ArePut takings (at + 1) row moved old (slice_set now (get_or takings at d).place t)
+put_more takings row moved old now at d t less there is put =
     let place : ℕ = (get_or takings at d).place in
     let read : get_or takings at d ≡ taking_at takings at = get_or_default takings at d (record { place = 0; entry = Keeps }) less in
     let mine : (taking_at takings at).place ≡ place = ap (λ (x : Taking). x.place) (sym read) in
     record {
-      each = λ c. elim (eqb_tells c place) [
-        | inl q ↦ inl (at, (omega arith, (mine ∙ sym q.1, ap (λ (k : ℕ). value_at (slice_set now place t) k) q.1 ∙ get_or-set_same now place t Unknown there ∙ is ∙ ap value read)))
+      each = λ c live. elim (eqb_tells c place) [
+        | inl q ↦ inl (at, (omega arith, (mine ∙ sym q.1, ap (λ (k : ℕ). value_at (slice_set now place t) k) q.1 ∙ get_or-set_same now place t Unknown there ∙ is)))
         | inr q ↦ (let ne : c ≢ place = q.1 in
             let same : value_at (slice_set now place t) c ≡ value_at now c = get_or-set_other now place c t Unknown ne in
-            elim (put.each c) [
+            elim (put.each c live) [
               | inl was ↦ inl (was.0, ((let h = was.1.0 in omega arith), (was.1.1.0, same ∙ was.1.1.1)))
               | inr none ↦ inr (
                 λ a. elim (eqb_tells a.at at) [
                   | inl e ↦ ne (sym a.here ∙ ap (λ (k : ℕ). (taking_at takings k).place) e.1 ∙ mine)
                   | inr e ↦ (let far : a.at ≢ at = e.1 in none.0 (record { at = a.at; before = (let h = a.before in omega arith); here = a.here }))
                 ],
-                same ∙ none.1,
+                subst (λ (b : Tri). IsCarried (value_at old) c b (moved c)) (sym same) none.1,
               )
             ])
       ];
     }
+
+-- ---- what is taken is found
+
+pub found_more : (takings : List Taking) (value : Taking → Tri) (row : List Tri) (at : ℕ) (d : Taking) (t : Tri) → at < length takings → at < length row → t ≡ value (get_or takings at d) →
+    ((j : ℕ) → j < at → value_at row j ≡ value (taking_at takings j)) → (j : ℕ) → j < at + 1 → value_at (slice_set row at t) j ≡ value (taking_at takings j)
+found_more takings value row at d t less there is before =
+    below_more _ at (λ j h. (let ne : j ≢ at = omega (arith, h) in get_or-set_other row at j t Unknown ne ∙ before j h))
+    (get_or-set_same row at t Unknown there ∙ is ∙ ap value (get_or_default takings at d (record { place = 0; entry = Keeps }) less))
+
+-- ---- the registers that move
+
+pub moves_more : (moves : List Bool) (r : ℕ) (b : Bool) (P : ℕ → Type 0) → r < length moves → (r ≡ 0 → b ≡ false) → (b ≡ true → P r) → (0 < r → flag_at moves 0 ≡ false) × ((k : ℕ) → k < r → flag_at moves k ≡ true → P k) →
+    (0 < r + 1 → flag_at (slice_set moves r b) 0 ≡ false) × ((k : ℕ) → k < r + 1 → flag_at (slice_set moves r b) k ≡ true → P k)
+moves_more moves r b P less rest each before =
+    let here : flag_at (slice_set moves r b) r ≡ b = get_or-set_same moves r b false less in
+    let there : (k : ℕ) → k ≢ r → flag_at (slice_set moves r b) k ≡ flag_at moves k = λ k ne. get_or-set_other moves r k b false ne in (
+      λ h. elim (eqb_tells 0 r) [
+        | inl q ↦ ap (λ (k : ℕ). flag_at (slice_set moves r b) k) q.1 ∙ here ∙ rest (sym q.1)
+        | inr q ↦ (let ne : 0 ≢ r = q.1 in there 0 ne ∙ before.0 (omega (arith, ne)))
+      ],
+      below_more _ r (λ k h up. (let ne : k ≢ r = omega (arith, h) in before.1 k h (sym (there k ne) ∙ up))) (λ up. each (sym here ∙ up)),
+    )
+
+pub moves_rest : (moves : List Bool) (r : ℕ) → length moves ≤ r → (0 < r → flag_at moves 0 ≡ false) → flag_at moves 0 ≡ false
+moves_rest [] r past rest = refl
+moves_rest (b ∷ moves) r past rest = rest (omega (arith, past))
+
+pub moves_all : (moves : List Bool) (r : ℕ) (P : ℕ → Type 0) → length moves ≤ r → ((k : ℕ) → k < r → flag_at moves k ≡ true → P k) → (k : ℕ) → flag_at moves k ≡ true → P k
+moves_all moves r P past each k up = elim (leb_tells r k) [
+  | inl out ↦ absurd (let none : true ≡ false = sym up ∙ get_or_past moves k false (omega (arith, past, out.1)) in cc)
+  | inr live ↦ each k live.1 up
+]

@@ -161,7 +161,7 @@ flag_at flags place = slice_index_or flags place false
 
 -- a phase of a pulse, from values by net and by instance
 abbrev pub pulse_at : Pulse → Cycle.Pulse
-pulse_at p = record { rising = p.rising; ports = value_at p.ports.now; pulsed = flag_at p.pulsed.now; old = value_at p.old.now }
+pulse_at p = record { rising = p.rising; ports = value_at p.ports.now; pulsed = flag_at p.pulsed.now; old = value_at p.old.now.values }
 
 -- whether a cell takes a value in a phase
 abbrev pub changed : Cell → Cycle.Pulse → Bool

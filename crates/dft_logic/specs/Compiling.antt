@@ -13,8 +13,7 @@ use Rattle.dft_cells.specs.declared.kind.Kind.{Kind}
 use Rattle.dft_cells.specs.declared.kind.Kind.TheVariants as kind
 use Rattle.dft_netlist.specs.Logic.{Ports, Cell, Meaning, Gate, Lockup, Free, logic_of, same_role, or_loose, domain_at, forcing, scan_of, modelled, locked, is_lockup, lockup_meaning, flop_meaning}
 use Rattle.dft_logic.specs.declared.compiling.Traced.{Traced}
-use Rattle.dft_logic.specs.declared.circuit.Operand.{Operand}
-use Rattle.dft_logic.specs.declared.circuit.Operand.TheVariants.{Net, Tied, Loose}
+use Rattle.dft_logic.specs.declared.circuit.Operand.TheVariants.{Net}
 use Rattle.dft_logic.specs.declared.circuit.Op.{Op}
 use Rattle.dft_logic.specs.declared.circuit.FlipFlop.{FlipFlop}
 use Rattle.dft_logic.specs.declared.circuit.Latch.{Latch}

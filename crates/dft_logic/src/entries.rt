@@ -178,11 +178,10 @@ impl Entry {
         values: &[Tri],
     ) -> Tri
         requires flops { place < length flops.now }
-        requires old { place < length pulse.old.now }
-        ensures { result ≡ spec.entry_value (machine.value_at pulse.entry.old.now) (machine.value_at values.now) (next_at (cell_at (map cell_of flops.now) place) (machine.value_at pulse.entry.ports.now) (machine.value_at values.now)) place (entry_of self) }
+        ensures { result ≡ spec.entry_value (machine.value_at pulse.entry.old.now.values) (machine.value_at values.now) (next_at (cell_at (map cell_of flops.now) place) (machine.value_at pulse.entry.ports.now) (machine.value_at values.now)) place (entry_of self) }
     {
         match self {
-            Entry::Follows(cell) => value_at(pulse.old, cell.0),
+            Entry::Follows(cell) => pulse.old.at(cell.0 as usize),
             other => other.settled_value(place, flops, pulse, values),
         }
     }
@@ -197,13 +196,12 @@ impl Entry {
         values: &[Tri],
     ) -> Tri
         requires flops { place < length flops.now }
-        requires old { place < length pulse.old.now }
-        ensures { result ≡ spec.entry_value (machine.value_at pulse.entry.old.now) (machine.value_at values.now) (next_at (cell_at (map cell_of flops.now) place) (machine.value_at pulse.entry.ports.now) (machine.value_at values.now)) place (entry_of self) }
+        ensures { result ≡ spec.entry_value (machine.value_at pulse.entry.old.now.values) (machine.value_at values.now) (next_at (cell_at (map cell_of flops.now) place) (machine.value_at pulse.entry.ports.now) (machine.value_at values.now)) place (entry_of self) }
     {
         match self {
-            Entry::Keeps => pulse.old[place],
+            Entry::Keeps => pulse.old.at(place),
             Entry::Takes(value) => value,
-            Entry::Follows(cell) => value_at(pulse.old, cell.0),
+            Entry::Follows(cell) => pulse.old.at(cell.0 as usize),
             Entry::Reads(net) => value_at(values, net.0),
             Entry::Computes => flops[place].next(pulse.ports, values),
         }

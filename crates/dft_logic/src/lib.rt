@@ -32,4 +32,4 @@ pub use origins::find_origins;
 pub use settling::{Pulse, View, differ, flag_at, op_value, settle, strobe_view, takes, value_at};
 pub use shown::{Shown, show_all};
 pub use tables::list_of;
-pub use takings::{Taking, list_takings, take_all};
+pub use takings::{Taking, find_moves, find_values, list_takings, put_all};

@@ -11,6 +11,7 @@ use crate::circuit::Circuit;
 use crate::settling::{Pulse, differ, op_before, value_at};
 use dft_base::Tri;
 use dft_netlist::NetId;
+use dft_registers::Cells;
 
 /// Settles these nets before the edges of a phase, whatever the values before.
 pub fn settle_list(circuit: &Circuit, pulse: Pulse<'_>, nets: &[NetId], values: &mut [Tri])
@@ -29,14 +30,14 @@ pub fn settle_list(circuit: &Circuit, pulse: Pulse<'_>, nets: &[NetId], values: 
 pub fn settle_strobe(
     circuit: &Circuit,
     ports: &[Tri],
-    cells: &[Tri],
+    cells: &Cells,
     nets: &[NetId],
     values: &mut [Tri],
 )
     requires circuit { IsCircuit circuit.now }
     requires values { length values.old ≡ length circuit.now.ops.items }
     requires ordered { AreOrdered circuit.now.ops.items [] (numbers_of nets.now) }
-    ensures { (k : ℕ) → Has (numbers_of nets.now) k → spec.value_at values.new k ≡ value_given (strobe_from (spec.value_at ports.now) (spec.value_at cells.now) (spec.value_at values.new)) (spec.value_at values.new) k (meaning (op_at circuit.now.ops.items k)) }
+    ensures { (k : ℕ) → Has (numbers_of nets.now) k → spec.value_at values.new k ≡ value_given (strobe_from (spec.value_at ports.now) (spec.value_at cells.now.values) (spec.value_at values.new)) (spec.value_at values.new) k (meaning (op_at circuit.now.ops.items k)) }
 {
     let pulse = Pulse {
         rising: true,

@@ -16,6 +16,7 @@ use crate::circuit::{Circuit, FlipFlop, Op, Operand, Operands};
 use dft_base::Tri;
 use dft_cells::{Kind, tri_of};
 use dft_netlist::NetId;
+use dft_registers::Cells;
 
 // The most inputs that a gate or a table has.
 const MAX_INPUTS: usize = 8;
@@ -52,13 +53,13 @@ pub fn differ(one: Tri, other: Tri) -> bool
 }
 
 /// A phase of a pulse of some domains, its clocks rise or they fall: the values of ports by net, the clocks that pulse by
-/// net, and the values of flip-flops and lock-ups before, by instance.
+/// net, and the values of flip-flops and lock-ups before.
 #[derive(Clone, Copy)]
 pub struct Pulse<'a> {
     pub rising: bool,
     pub ports: &'a [Tri],
     pub pulsed: &'a [bool],
-    pub old: &'a [Tri],
+    pub old: &'a Cells,
 }
 
 /// The view of a domain in a phase: what flip-flops of other pulsed domains may have, and what lock-ups show that take
@@ -71,15 +72,16 @@ pub struct View<'p, 'q, 'h> {
     pub held: &'h [Tri],
 }
 
-/// The view of net 0 at the old values. Where no clock falls it is a strobe's.
+/// The view of net 0 where no flip-flop may have another value, and no lock-up is held at one. Where no clock falls it is
+/// a strobe's.
 pub fn strobe_view(pulse: Pulse<'_>) -> View<'_, '_, '_>
-    ensures { result ≡ record { pulse = pulse.entry; domain = record { 0 = 0 }; poss = pulse.entry.old; held = pulse.entry.old } }
+    ensures { result.pulse ≡ pulse.entry }
 {
     View {
         pulse,
         domain: NetId(0),
-        poss: pulse.old,
-        held: pulse.old,
+        poss: &[],
+        held: &[],
     }
 }
 
@@ -143,24 +145,24 @@ impl View<'_, '_, '_> {
         if moved && domain_at(flops, instance).0 != self.domain.0 {
             value_at(self.poss, instance)
         } else {
-            value_at(self.pulse.old, instance)
+            self.pulse.old.at(instance as usize)
         }
     }
 
     // What a lock-up shows that takes its bit in the phase.
     fn closing(&self, up: bool, instance: u32) -> Tri
-        ensures { result ≡ cycle.closing self.now.pulse.rising up (spec.value_at self.now.pulse.old.now instance) (spec.value_at self.now.held.now instance) }
+        ensures { result ≡ cycle.closing self.now.pulse.rising up (spec.value_at self.now.pulse.old.now.values instance) (spec.value_at self.now.held.now instance) }
     {
         if self.pulse.rising || up {
             value_at(self.held, instance)
         } else {
-            value_at(self.pulse.old, instance)
+            self.pulse.old.at(instance as usize)
         }
     }
 
     // What the lock-up of an instance and a clock shows, by the value of its input.
     fn lockup(&self, instance: u32, clock: NetId, high: bool, input: Tri) -> Tri
-        ensures { result ≡ cycle.lockup_shown self.now.pulse.rising (circuits.flag_at self.now.pulse.pulsed.now clock.0) (clock.0 == self.now.domain.0) high (spec.value_at self.now.pulse.old.now instance) input (spec.value_at self.now.held.now instance) }
+        ensures { result ≡ cycle.lockup_shown self.now.pulse.rising (circuits.flag_at self.now.pulse.pulsed.now clock.0) (clock.0 == self.now.domain.0) high (spec.value_at self.now.pulse.old.now.values instance) input (spec.value_at self.now.held.now instance) }
     {
         let up = flag_at(self.pulse.pulsed, clock.0);
         if takes(self.pulse.rising, high) {
@@ -170,7 +172,7 @@ impl View<'_, '_, '_> {
                 up,
                 clock.0 == self.domain.0,
                 high,
-                value_at(self.pulse.old, instance),
+                self.pulse.old.at(instance as usize),
                 input,
             )
         }
@@ -288,11 +290,11 @@ pub(crate) fn op_before(op: &Op, net: NetId, pulse: Pulse<'_>, values: &[Tri]) -
         },
         Op::Gate(kind, inputs) => gate_value(*kind, inputs, values),
         Op::Joined(source) => source.value(values),
-        Op::Flop(instance, inverse) => inverted(value_at(pulse.old, instance.0), *inverse),
+        Op::Flop(instance, inverse) => inverted(pulse.old.at(instance.0 as usize), *inverse),
         Op::Lockup(instance, clock, high, source) => if is_wire(*high, pulse.level(*clock)) {
             source.value(values)
         } else {
-            value_at(pulse.old, instance.0)
+            pulse.old.at(instance.0 as usize)
         },
         _ => Tri::Unknown,
     }

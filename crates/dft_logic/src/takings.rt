@@ -1,17 +1,21 @@
-//! The flip-flops that change in a pulse, in a list, and what they take.
+//! What a pulse does: registers that move, and in a list the other flip-flops that change, with what they take.
 
-ghost use Rattle.std.specs.Prelude.{◌≡◌, ℕ, ◌<◌, ◌≤◌, length, map};
+ghost use Rattle.std.specs.Prelude.{◌≡◌, ℕ, ◌<◌, ◌≤◌, length, map, true, false, nat_lt, if◌then◌else◌};
 ghost use Rattle.std.specs.Vec.{vec_capacity};
 ghost use Rattle.dft_logic.specs.Values as machine;
-ghost use Rattle.dft_logic.specs.Circuit.{cell_of, cell_at, pulse_at};
+ghost use Rattle.dft_registers.specs.Layout.{cells_at};
+ghost use Rattle.dft_registers.specs.Cells.{course};
+ghost use Rattle.dft_logic.specs.Circuit.{cell_of, cell_at, pulse_at, flag_at as is_up};
 ghost use Rattle.dft_logic.specs.EntryTables.{entry_of, entry_at};
 ghost use Rattle.dft_logic.specs.Takings as spec;
-ghost use Rattle.dft_logic.specs.Takings.{taking_at, taken_by, AreTakings, ArePut};
+ghost use Rattle.dft_logic.specs.Entries.{Follows};
+ghost use Rattle.dft_logic.specs.Takings.{taking_at, taken_by, TakeFromBefore, AreMoves, AreTakings, ArePut};
 
 use crate::circuit::{FlipFlop, Operand};
 use crate::entries::Entry;
 use crate::settling::Pulse;
 use dft_base::Tri;
+use dft_registers::{Cells, Place};
 
 /// A flip-flop, by its place, and what it takes.
 #[derive(Clone, Copy)]
@@ -42,16 +46,88 @@ fn is_idle(flop: &FlipFlop, entry: Entry) -> bool
     }
 }
 
-/// Lists the flip-flops whose values a pulse may change, where loose ones are `Unknown`.
-pub fn list_takings(flops: &[FlipFlop], entries: &[Entry], takings: &mut Vec<Taking>)
+// Whether a cell is left out of the list: where its register moves all are but the first, and else those that are idle.
+fn is_left(place: Place, moves: &[bool], idle: bool) -> bool
+    ensures { result ≡ (if is_up moves.now place.register then nat_lt 0 place.index else idle) }
+{
+    if moves_on(moves, place.register) {
+        place.index > 0
+    } else {
+        idle
+    }
+}
+
+// Whether a register moves.
+fn moves_on(moves: &[bool], register: usize) -> bool
+    ensures { result ≡ is_up moves.now register }
+{
+    match moves.get(register) {
+        Some(moves) => *moves,
+        None => false,
+    }
+}
+
+// Whether a cell takes the value of another one.
+fn takes_from(entries: &[Entry], cell: usize, other: usize) -> bool
+    ensures { result ≡ true → entry_at entries.now cell ≡ Follows other }
+{
+    match entries.get(cell) {
+        Some(Entry::Follows(found)) => found.0 as usize == other,
+        _ => false,
+    }
+}
+
+// Whether each of these cells but the first takes the value of the one before it.
+fn all_take(cells: &[usize], entries: &[Entry]) -> bool
+    ensures { result ≡ true → TakeFromBefore (entry_at entries.now) cells.now }
+{
+    for index in 1..cells.len() {
+        if !takes_from(entries, cells[index], cells[index - 1]) {
+            return false;
+        }
+    }
+    true
+}
+
+// Whether a register moves, where its cells take what these entries tell. In the first one cells rest.
+fn may_move(cells: &Cells, entries: &[Entry], register: usize) -> bool
+    ensures rest { register ≡ 0 → result ≡ false }
+    ensures each { result ≡ true → TakeFromBefore (entry_at entries.now) (cells_at cells.now.layout.registers register) }
+{
+    register > 0 && all_take(cells.register(register), entries)
+}
+
+/// Finds the registers that move in a pulse: each of their cells but the first takes the value of the one before it. The
+/// first register, in which cells rest, is none of them.
+pub fn find_moves(cells: &Cells, entries: &[Entry], moves: &mut [bool])
+    ensures rest { is_up moves.new 0 ≡ false }
+    ensures each { AreMoves (entry_at entries.now) cells.now.layout moves.new }
+{
+    for register in 0..moves.len() {
+        moves[register] = may_move(cells, entries, register);
+    }
+}
+
+/// Lists the flip-flops whose values a pulse may change beyond what the moves of registers do, where loose ones are
+/// `Unknown`.
+pub fn list_takings(
+    flops: &[FlipFlop],
+    entries: &[Entry],
+    cells: &Cells,
+    moves: &[bool],
+    takings: &mut Vec<Taking>,
+)
     requires flops { length entries.now ≡ length flops.now }
+    requires cells { length cells.now.values ≡ length flops.now }
+    requires moves { AreMoves (entry_at entries.now) cells.now.layout moves.now }
     requires room { length entries.now ≤ vec_capacity takings.old }
-    ensures listed { AreTakings (cell_at (map cell_of flops.now)) (entry_at entries.now) (length entries.now) takings.new.items }
+    ensures listed { AreTakings (cell_at (map cell_of flops.now)) (entry_at entries.now) (length entries.now) (course cells.now.layout moves.now) takings.new.items }
     ensures room { vec_capacity takings.new ≡ vec_capacity takings.old }
 {
     takings.clear();
     for (place, entry) in entries.iter().enumerate() {
-        if !is_idle(&flops[place], *entry) {
+        let idle = is_idle(&flops[place], *entry);
+        if !is_left(cells.place(place), moves, idle) {
             takings.push_reserved(Taking {
                 place,
                 entry: *entry,
@@ -60,24 +136,37 @@ pub fn list_takings(flops: &[FlipFlop], entries: &[Entry], takings: &mut Vec<Tak
     }
 }
 
-/// The values of flip-flops after a pulse: those of the list take what it tells, and the others keep theirs. A replay
-/// spends most of its time here.
+/// Finds what the flip-flops of the list take, in its order.
 #[inline(never)]
-pub fn take_all(
+pub fn find_values(
     flops: &[FlipFlop],
     takings: &[Taking],
     pulse: Pulse<'_>,
     values: &[Tri],
-    next: &mut [Tri],
+    row: &mut [Tri],
 )
     requires live { (j : ℕ) → j < length takings.now → (taking_at takings.now j).place < length flops.now }
-    requires old { length pulse.old.now ≡ length flops.now }
-    requires next { length next.old ≡ length flops.now }
-    ensures { ArePut takings.now (length takings.now) (taken_by (cell_at (map cell_of flops.now)) (pulse_at pulse.entry) (machine.value_at values.now)) pulse.entry.old.now next.new }
+    requires row { length takings.now ≤ length row.old }
+    ensures { (j : ℕ) → j < length takings.now → machine.value_at row.new j ≡ taken_by (cell_at (map cell_of flops.now)) (pulse_at pulse.entry) (machine.value_at values.now) (taking_at takings.now j) }
 {
-    next.copy_from_slice(pulse.old);
-    for taking in takings {
-        let value = taking.entry.value(taking.place, flops, pulse, values);
-        next[taking.place] = value;
+    for (at, taking) in takings.iter().enumerate() {
+        row[at] = taking.entry.value(taking.place, flops, pulse, values);
+    }
+}
+
+/// The values of flip-flops after a pulse: registers move, those of the list take what the row tells, and the others keep
+/// theirs.
+#[inline(never)]
+pub fn put_all(takings: &[Taking], row: &[Tri], moves: &[bool], cells: &mut Cells)
+    requires live { (j : ℕ) → j < length takings.now → (taking_at takings.now j).place < length cells.old.values }
+    requires row { length takings.now ≤ length row.now }
+    requires rest { is_up moves.now 0 ≡ false }
+    ensures layout { cells.new.layout ≡ cells.old.layout }
+    ensures count { length cells.new.values ≡ length cells.old.values }
+    ensures put { ArePut takings.now (length takings.now) (machine.value_at row.now) (course cells.old.layout moves.now) cells.old.values cells.new.values }
+{
+    cells.shift(moves);
+    for (at, taking) in takings.iter().enumerate() {
+        cells.set(taking.place, row[at]);
     }
 }

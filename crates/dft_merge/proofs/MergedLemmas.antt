@@ -145,11 +145,11 @@ holds_joined number P pattern cube one other =
 -- ---- patterns
 
 begun_sound : (n : Netlist) (config : Config) (cube : Cube) → IsCube n config cube → IsMerged n config (begun cube)
-begun_sound n config cube is = record { domain = is.domain; cells = is.cells; ports = is.ports }
+begun_sound n config cube is = record { domains = is.domains; cells = is.cells; ports = is.ports }
 
 joined_sound : (n : Netlist) (config : Config) (pattern : Merged) (cube : Cube) → IsMerged n config pattern → IsCube n config cube → IsMerged n config (joined pattern cube)
 joined_sound n config pattern cube is given = record {
-  domain = is.domain;
+  domains = is.domains;
   cells = record {
     once = once_joined cell_number pattern.cells cube.cells is.cells.once given.cells.once;
     live = holds_joined cell_number (λ (g : InstanceId × Bool). g.0.0 < length n.instances) pattern.cells cube.cells is.cells.live given.cells.live;
@@ -167,11 +167,16 @@ joined_sound n config pattern cube is given = record {
 abbrev AreSound : Netlist → Config → List Merged → Type 0
 AreSound n config patterns = (p : ℕ) (pattern : Merged) → slice_get patterns p ≡ Some pattern → IsMerged n config pattern
 
-sound_set : (n : Netlist) (config : Config) (patterns : List Merged) (p : ℕ) (old new : Merged) → slice_get patterns p ≡ Some old → IsMerged n config new → AreSound n config patterns → AreSound n config (slice_set patterns p new)
-sound_set n config patterns p old new at is all q pattern there = elim (cases_eq p q) [
-  | inl same ↦ subst (IsMerged n config) (same_Some new pattern (sym (get_set_same patterns p old new at) ∙ ap (slice_get (slice_set patterns p new)) same ∙ there)) is
+-- what holds of each pattern holds behind a change of one, where it holds of the new one
+pub kept_set : (P : Merged → Type 0) (patterns : List Merged) (p : ℕ) (old new : Merged) → slice_get patterns p ≡ Some old → P new → ((q : ℕ) (pattern : Merged) → slice_get patterns q ≡ Some pattern → P pattern) →
+    (q : ℕ) (pattern : Merged) → slice_get (slice_set patterns p new) q ≡ Some pattern → P pattern
+kept_set P patterns p old new at is all q pattern there = elim (cases_eq p q) [
+  | inl same ↦ subst P (same_Some new pattern (sym (get_set_same patterns p old new at) ∙ ap (slice_get (slice_set patterns p new)) same ∙ there)) is
   | inr apart ↦ all q pattern (sym (get_set_other patterns p q new apart) ∙ there)
 ]
+
+sound_set : (n : Netlist) (config : Config) (patterns : List Merged) (p : ℕ) (old new : Merged) → slice_get patterns p ≡ Some old → IsMerged n config new → AreSound n config patterns → AreSound n config (slice_set patterns p new)
+sound_set n config patterns p old new at is all = kept_set (IsMerged n config) patterns p old new at is all
 
 places_sound : (n : Netlist) (config : Config) (columns : ℕ) (row : CellRows) (window : ℕ) (old new : List Merged) (cube : Cube) (placed : Placed) → IsCube n config cube → Places columns row window old cube placed new → AreSound n config old → AreSound n config new
 places_sound n config columns row window old new cube (Skipped cell) is places all = subst (AreSound n config) (sym places.1) all

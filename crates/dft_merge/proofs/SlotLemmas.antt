@@ -360,11 +360,11 @@ no_opposite pattern cube cells ports cells_are ports_are told =
     let parts = or_parts (opposes_by cell_number cells cube.cells) (opposes_by port_number ports cube.ports) told in
     (sym (opposes_same cell_number pattern.cells cube.cells cells cells_are) ∙ parts.0, sym (opposes_same port_number pattern.ports cube.ports ports ports_are) ∙ parts.1)
 
-pub fits_joined : (n : ℕ) (row : CellRows) (pattern : Merged) (cube : Cube) (cells ports : List (Option Bool)) (s : Elimination) → pattern.domain ≡ cube.domain → IsTable cell_number pattern.cells cells → IsTable port_number pattern.ports ports → Tells cells ports cube ≡ false →
+pub fits_joined : (n : ℕ) (row : CellRows) (pattern : Merged) (cube : Cube) (cells ports : List (Option Bool)) (s : Elimination) → pattern.domains ≡ cube.domains → IsTable cell_number pattern.cells cells → IsTable port_number pattern.ports ports → Tells cells ports cube ≡ false →
     IsSystem n (equations_of row pattern.cells ++ equations_of row cube.cells) s → Fits n row pattern cube
 fits_joined n row pattern cube cells ports s same cells_are ports_are told is =
     let none = no_opposite pattern cube cells ports cells_are ports_are told in
-    record { domain = same; cells = none.0; ports = none.1; solvable = system_solvable n (equations_of row pattern.cells ++ equations_of row cube.cells) s is }
+    record { domains = same; cells = none.0; ports = none.1; solvable = system_solvable n (equations_of row pattern.cells ++ equations_of row cube.cells) s is }
 
 -- ---- reading slots
 
@@ -420,7 +420,7 @@ slot_joined n row pattern next cube slot new lent s told a b is cells ports tell
   ports = new_ports;
 }
 
-pub slot_fits : (n : ℕ) (row : CellRows) (pattern : Merged) (cube : Cube) (slot : Slot) (lent : List (InstanceId × Bool)) (s : Elimination) (told : Bool) (a b : List (Option Bool)) → (is : IsSlot n row pattern slot) → (same : pattern.domain ≡ cube.domain) →
+pub slot_fits : (n : ℕ) (row : CellRows) (pattern : Merged) (cube : Cube) (slot : Slot) (lent : List (InstanceId × Bool)) (s : Elimination) (told : Bool) (a b : List (Option Bool)) → (is : IsSlot n row pattern slot) → (same : pattern.domains ≡ cube.domains) →
     (cells : a ≡ slot.cells.items) → (ports : b ≡ slot.ports.items) → (tells : told ≡ (opposes_by cell_number a cube.cells || opposes_by port_number b cube.ports)) → (not : told ≡ false) → (from : lent ≡ cube.cells) → (columns : s.columns ≡ n) → (run : IsRun n slot.system.kept (equations_of row lent) s.kept []) → Fits n row pattern cube
 slot_fits n row pattern cube slot lent s told a b is same cells ports tells not from columns run =
     fits_joined n row pattern cube slot.cells.items slot.ports.items s same is.cells is.ports (tells_not cube slot told a b cells ports tells not) (both_system n row pattern cube slot lent s is from columns run)

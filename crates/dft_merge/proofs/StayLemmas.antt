@@ -67,19 +67,19 @@ one_port a b same = λ i. record { 0 = same i }
 
 -- a pattern of later has what one has now
 record Within (now later : Merged) : Type 0 where
-  domain : later.domain ≡ now.domain
+  domains : later.domains ≡ now.domains
   cells : AllIn now.cells later.cells
   ports : AllIn now.ports later.ports
 
 within_same : (pattern : Merged) → Within pattern pattern
-within_same pattern = record { domain = refl; cells = all_same pattern.cells; ports = all_same pattern.ports }
+within_same pattern = record { domains = refl; cells = all_same pattern.cells; ports = all_same pattern.ports }
 
 within_then : (a b c : Merged) → Within a b → Within b c → Within a c
-within_then a b c one two = record { domain = two.domain ∙ one.domain; cells = all_then a.cells b.cells c.cells one.cells two.cells; ports = all_then a.ports b.ports c.ports one.ports two.ports }
+within_then a b c one two = record { domains = two.domains ∙ one.domains; cells = all_then a.cells b.cells c.cells one.cells two.cells; ports = all_then a.ports b.ports c.ports one.ports two.ports }
 
 within_joined : (pattern : Merged) (cube : Cube) → Within pattern (joined pattern cube)
 within_joined pattern cube = record {
-  domain = refl;
+  domains = refl;
   cells = all_front pattern.cells (missing cell_number pattern.cells cube.cells);
   ports = all_front pattern.ports (missing port_number pattern.ports cube.ports);
 }
@@ -139,7 +139,7 @@ here_in n row window old new cube p (scanned, inl joins) = record {
   pattern = joined joins.pattern cube;
   is = ap (λ (l : List Merged). slice_get l p) joins.patterns ∙ get_set_same old p joins.pattern (joined joins.pattern cube) joins.is;
   holds = record {
-    domain = joins.fits.domain;
+    domains = joins.fits.domains;
     cells = all_joined cell_number joins.pattern.cells cube.cells same_cell joins.fits.cells;
     ports = all_joined port_number joins.pattern.ports cube.ports one_port joins.fits.ports;
   };
@@ -148,7 +148,7 @@ here_in n row window old new cube p (scanned, inl joins) = record {
 here_in n row window old new cube p (scanned, inr begins) = record {
   pattern = begun cube;
   is = (λ i. slice_get (begins.patterns i) (begins.number i)) ∙ get_push old (begun cube);
-  holds = record { domain = refl; cells = all_same cube.cells; ports = all_same cube.ports };
+  holds = record { domains = refl; cells = all_same cube.cells; ports = all_same cube.ports };
   scanned = scanned;
 }
 
@@ -160,7 +160,7 @@ later_in row old new p cube grow here =
       pattern = l.pattern;
       is = l.is;
       holds = record {
-        domain = l.within.domain ∙ here.holds.domain;
+        domains = l.within.domains ∙ here.holds.domains;
         cells = all_then cube.cells here.pattern.cells l.pattern.cells here.holds.cells l.within.cells;
         ports = all_then cube.ports here.pattern.ports l.pattern.ports here.holds.ports l.within.ports;
       };

@@ -56,9 +56,9 @@ missing number pattern cube = filter (λ given. is_none (bit_in number pattern (
 
 -- ---- patterns
 
--- a cube fits a pattern: both capture by one clock, no bit of a cell or of a port is opposite, and some channel bits load both
+-- a cube fits a pattern: both capture the same domains in the same order, no bit of a cell or of a port is opposite, and some channel bits load both
 pub record Fits (n : ℕ) (row : CellRows) (pattern : Merged) (cube : Cube) : Type 0 where
-  pub domain : pattern.domain ≡ cube.domain
+  pub domains : pattern.domains ≡ cube.domains
   pub cells : has_opposite cell_number pattern.cells cube.cells ≡ false
   pub ports : has_opposite port_number pattern.ports cube.ports ≡ false
   pub solvable : IsSolvable n (equations_of row pattern.cells ++ equations_of row cube.cells)
@@ -66,14 +66,14 @@ pub record Fits (n : ℕ) (row : CellRows) (pattern : Merged) (cube : Cube) : Ty
 -- the pattern with what the cube gives and it does not
 abbrev pub joined : Merged → Cube → Merged
 joined pattern cube = record {
-  domain = pattern.domain;
+  domains = pattern.domains;
   cells = pattern.cells ++ missing cell_number pattern.cells cube.cells;
   ports = pattern.ports ++ missing port_number pattern.ports cube.ports;
 }
 
 -- the pattern of a cube alone
 abbrev pub begun : Cube → Merged
-begun cube = record { domain = cube.domain; cells = cube.cells; ports = cube.ports }
+begun cube = record { domains = cube.domains; cells = cube.cells; ports = cube.ports }
 
 -- of so many patterns the last ones are open, as many as the window has; this is the first of them
 abbrev pub first_open : (window count : ℕ) → ℕ

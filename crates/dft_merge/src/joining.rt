@@ -39,7 +39,7 @@ fn append(
 // Appends to a pattern what a cube gives and the tables do not have, or nothing where memory runs out.
 fn extend(alloc: Global, pattern: &mut Merged, slot: &Slot, cube: &Cube) -> Result<(), AllocError>
     ensures ok { OnOk result (pattern.new ≡ record {
-      domain = pattern.old.domain;
+      domains = pattern.old.domains;
       cells = pattern.old.cells ++ missing_by cell_number slot.now.cells.items cube.now.cells;
       ports = pattern.old.ports ++ missing_by port_number slot.now.ports.items cube.now.ports;
     }) }
@@ -87,7 +87,7 @@ fn join(
         ((Fits (columns_by loads.now) (rows_by loads.now) pattern.old cube.now → ⊥) × (pattern.new ≡ pattern.old))) }
     ensures err { OnErr result (pattern.new ≡ pattern.old) }
 {
-    if pattern.domain != cube.domain || opposes(&slot.cells, &slot.ports, cube) {
+    if !pattern.domains.are(cube.domains) || opposes(&slot.cells, &slot.ports, cube) {
         return Ok(false);
     }
     let mark = slot.system.mark();

@@ -25,7 +25,7 @@ pub fn cubes_stay()
     ensures { CubesStay }
 {}
 
-/// Patterns of sound cubes are sound: the clock is a domain, no cell and no port is given twice, each cell is an instance,
+/// Patterns of sound cubes are sound: each clock is a domain, no cell and no port is given twice, each cell is an instance,
 /// and each port is the bit of an input port that is no clock and no reset of the configuration.
 pub fn patterns_are_sound()
     ensures { PatternsAreSound }

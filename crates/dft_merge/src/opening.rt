@@ -30,7 +30,7 @@ fn pattern_of(alloc: Global, cube: &Cube) -> Result<Merged, AllocError>
     ensures { IfOk result (λ pattern. pattern ≡ begun cube.now) }
 {
     Ok(Merged {
-        domain: cube.domain,
+        domains: cube.domains,
         cells: Listed::from_vec(Vec::from_slice(alloc, cube.cells.as_slice())?),
         ports: Listed::from_vec(Vec::from_slice(alloc, cube.ports.as_slice())?),
     })

@@ -1,13 +1,14 @@
 -- A capture leaves what the pattern says that it captures.
-use Rattle.std.proofs.Common.{ℕ, zero, suc, ◌<◌, ◌≤◌, ◌≡◌, Bool, true, false, List, [], ◌∷◌, ◌++◌, length, Option, None, Some, is_some, option_map, slice_get, refl, sym, ap, subst, arith, ◌∙◌}
-use Rattle.std.specs.Prelude.{if◌then◌else◌}
+use Rattle.std.proofs.Common.{ℕ, zero, suc, ◌<◌, ◌≤◌, ◌≡◌, Bool, true, false, List, [], ◌∷◌, ◌++◌, length, map, drop, Option, None, Some, is_some, slice_get, refl, sym, ap, subst, arith, ◌∙◌}
+use Rattle.std.specs.Prelude.{flat_map, if◌then◌else◌}
+use Rattle.std.specs.List.{AllByRecursion}
 use Rattle.std.proofs.lemmas.Bool.{eqb-true, eq-eqb}
-use Rattle.std.proofs.lemmas.Option.{none-some, same_Some, slice_get-map, slice_get_within}
+use Rattle.std.proofs.lemmas.Option.{none-some, same_Some, slice_get_within}
 use Rattle.dft_base.specs.Solutions.{bit_at}
 use Rattle.dft_base.specs.declared.dir.Dir.{Dir}
 use Rattle.dft_base.specs.declared.dir.Dir.TheVariants as dir
 use Rattle.dft_base.specs.declared.tri.Tri.{Tri}
-use Rattle.dft_base.specs.declared.tri.Tri.TheVariants.{One}
+use Rattle.dft_base.specs.declared.tri.Tri.TheVariants.{One, Unknown}
 use Rattle.dft_base.specs.Tri.{known, AboveTri}
 use Rattle.dft_cells.specs.declared.kind.Role.TheVariants as role
 use Rattle.dft_cells.specs.FlipFlops.{is_flip_flop, tri_forced}
@@ -43,11 +44,11 @@ use Rattle.dft_chains.specs.ScanOff.{Places}
 use Rattle.dft_edt.specs.Captures.{IsCaptured, StandsOver}
 use Rattle.dft_edt.specs.Captures as edt
 use Rattle.dft_edt.specs.Loads.{load_sum}
-use Rattle.dft_edt.specs.Vectors.{IsClearing}
-use Rattle.dft_expect.specs.Captures.{Settled, after_edges, bit_of_port, bits_out, capture_vector, output_bits, port_value}
-use Rattle.dft_expect.specs.Loaded.{all_cells, loaded_bit, loaded_of, loaded_values}
-use Rattle.dft_expect.proofs.CellNumbers.{number_of}
-use Rattle.dft_expect.proofs.VectorLemmas.{chained}
+use Rattle.dft_edt.specs.Unloads.{AreMasked}
+use Rattle.dft_edt.specs.Vectors.{Clears, IsClearing}
+use Rattle.dft_cubes.specs.Domains.{later_of}
+use Rattle.dft_expect.specs.Captures.{AllSettled, AreSettled, Settled, after_edges, bit_of_port, bits_out, captured_domains, is_chained, last_state, next_state, output_bits, outputs_before, port_value, vector_of}
+use Rattle.dft_expect.specs.Loaded.{loaded_bit, loaded_values}
 use Rattle.dft_scan_frame.specs.ConfigPorts.{config_ports}
 use Rattle.dft_scan_frame.specs.Statements.{IsReady}
 use Rattle.dft_scan_frame.proofs.Contained.{AreMatched}
@@ -66,12 +67,13 @@ use Rattle.dft_scan_behavior.proofs.Planned.{planned}
 use Rattle.dft_scan_behavior.proofs.Reaching.{loads_reach, unloads_show}
 use Rattle.dft_stitch.proofs.LengthLemmas.{chains_fit}
 use Rattle.dft_stitch.proofs.CellPlaces.{chain_of}
-use Rattle.dft_pattern_behavior.specs.Given.{Pattern, IsPattern, IsLoadOf, IsCaptureOf}
-use Rattle.dft_pattern_behavior.specs.Rounds.{ShowsCapture}
+use Rattle.dft_pattern_behavior.specs.Given.{AreCapturesFrom, AreCapturesOf, HasClock, Pattern, IsPattern, IsLoadOf, IsCaptureOf}
+use Rattle.dft_pattern_behavior.specs.Rounds.{ShowsCapture, ShowsCaptures}
 use Rattle.dft_pattern_behavior.proofs.Clocks.{named_input, pulsed_rests, reset_rests}
 use Rattle.dft_pattern_behavior.proofs.Loaded.{loaded_above}
-use Rattle.dft_pattern_behavior.proofs.Edges.{captured_same, risen_above}
-use Rattle.dft_pattern_behavior.proofs.Unloading.{HasCaptured, captured_in, loaded_in, vector_in}
+use Rattle.dft_pattern_behavior.proofs.Edges.{captured_same, risen_above, unchained_next, unknown_by}
+use Rattle.dft_pattern_behavior.proofs.Ends.{rounds_end}
+use Rattle.dft_pattern_behavior.proofs.Unloading.{HasCaptured, loaded_in}
 
 -- ---- inputs of the design
 
@@ -182,17 +184,30 @@ bits_before : (count : ℕ) (d : Dir) (bits : List NetId) → AreBefore count bi
 bits_before count dir.Input bits h = tt
 bits_before count dir.Output bits h = h
 
-outputs_before : (count : ℕ) (ports : List design_port.Port) → AreBefore count (bits_of ports) → AreBefore count (output_bits ports)
-outputs_before count [] h = tt
-outputs_before count (port ∷ ports) h =
-    before_both count (bits_out port.dir port.bits) (output_bits ports) (bits_before count port.dir port.bits (before_front count port.bits (bits_of ports) h)) (outputs_before count ports (before_back count port.bits (bits_of ports) h))
+outputs_below : (count : ℕ) (ports : List design_port.Port) → AreBefore count (bits_of ports) → AreBefore count (output_bits ports)
+outputs_below count [] h = tt
+outputs_below count (port ∷ ports) h =
+    before_both count (bits_out port.dir port.bits) (output_bits ports) (bits_before count port.dir port.bits (before_front count port.bits (bits_of ports) h)) (outputs_below count ports (before_back count port.bits (bits_of ports) h))
 
--- ---- a capture
+-- the first of some values and others, by number
+front_of : (f : NetId → Tri) (xs : List NetId) (more : List Tri) (k : ℕ) (x : NetId) → slice_get xs k ≡ Some x → slice_get (map f xs ++ more) k ≡ Some (f x)
+front_of f [] more k x at = absurd (none-some x at)
+front_of f (y ∷ xs) more zero x at = ap (λ (z : NetId). Some (f z)) (same_Some y x at)
+front_of f (y ∷ xs) more (suc k) x at = front_of f xs more k x at
 
-module _ (n : Netlist) (config : Config) (ports : Ports) (p : Pattern) (clear : Vector) (before : ℕ → Tri) (c : Round) (load : List Vector) (capture : Vector) (rs : List Round) (r : Round)
-    (ready : IsReady n config) (suits : SuitsEdt n config ports) (is : IsPattern n config p) (clearing : IsClearing (edt_hardware n config) clear) (cleared : IsRound (edt_logic n config ports) clear before c)
-    (loads : IsLoadOf n config p load) (captures : IsCaptureOf n config p capture) (rounds : AreRounds (edt_logic n config ports) (after_round (edt_logic n config ports) clear before c) load rs)
-    (round : IsRound (edt_logic n config ports) capture (after_rounds (edt_logic n config ports) (after_round (edt_logic n config ports) clear before c) load rs) r) where
+drop_map : (f : NetId → Tri) (xs : List NetId) (more : List Tri) → drop (length xs) (map f xs ++ more) ≡ more
+drop_map f [] more = refl
+drop_map f (x ∷ xs) more = drop_map f xs more
+
+-- ---- one capture vector
+
+-- no more is known of the flip-flops than what they have, and nothing of those that are no cells of the chains
+pub record IsOver (n : Netlist) (config : Config) (its old : ℕ → Tri) : Type 0 where
+  pub above : (cell : ℕ) → (places_in Edt n config).is_flop cell ≡ true → AboveTri (its cell) (old cell)
+  pub unknown : (cell : ℕ) → is_chained (plan_of n config).chains cell ≡ false → its cell ≡ Unknown
+
+module _ (n : Netlist) (config : Config) (ports : Ports) (p : Pattern) (domain : ℕ) (capture : Vector) (old its : ℕ → Tri) (caught : Settled) (r : Round) (ready : IsReady n config) (suits : SuitsEdt n config ports) (clocked : HasClock n config domain)
+    (captures : IsCaptureOf n config p domain capture) (round : IsRound (edt_logic n config ports) capture old r) (are : AreSettled (design_logic n config) (plan_of n config).chains (vector_of n config p.merged domain) its caught) (over_old : IsOver n config its old) where
   abbrev l : Logic
   l = edt_logic n config ports
 
@@ -205,23 +220,14 @@ module _ (n : Netlist) (config : Config) (ports : Ports) (p : Pattern) (clear : 
   abbrev chains : List (List InstanceId)
   chains = (plan_of n config).chains
 
-  abbrev cycles : ℕ
-  cycles = (plan_of n config).cycles
-
-  abbrev late : ℕ → Bool
-  late = falling_head (plan_of n config)
-
   abbrev cv : Vector
-  cv = capture_vector n config p.merged
-
-  abbrev its : ℕ → Tri
-  its = loaded_values chains (loaded_of config.ring p.table cycles late chains)
-
-  abbrev loaded : ℕ → Tri
-  loaded = after_rounds l (after_round l clear before c) load rs
+  cv = vector_of n config p.merged domain
 
   abbrev new : ℕ → Tri
-  new = after_round l capture loaded r
+  new = after_round l capture old r
+
+  abbrev clock : NetId
+  clock = clocked.clock
 
   -- the capture as a vector of the design
   abbrev y : Vector
@@ -234,15 +240,12 @@ module _ (n : Netlist) (config : Config) (ports : Ports) (p : Pattern) (clear : 
   force_input cell f e = (named_input n f.port config.resets (resets cell f e), reset_rests n config f.port ready.range (resets cell f e))
 
   same : SameAt n (config_ports n config) y cv
-  same net its_data = captures.ports net its_data.0 (pulsed_rests n config net p.merged.domain its_data.1)
+  same net its_data = captures.ports net its_data.0 (pulsed_rests n config net domain its_data.1)
 
   flops_same : (state : ℕ → Tri) (cell : ℕ) → (rise_of original y state).old cell ≡ (rise_of original cv state).old cell
   flops_same state cell = forced_same n (config_ports n config) y cv (original.cell cell).force (state cell) same (force_input cell)
 
-  -- the values that are settled before the clock rises, and those before it falls
-  abbrev caught : Settled
-  caught = (vector_in n config p is).step
-
+  -- the state in which the clock has risen
   abbrev risen : ℕ → Tri
   risen = after_edges original chains cv true caught.first its
 
@@ -251,39 +254,20 @@ module _ (n : Netlist) (config : Config) (ports : Ports) (p : Pattern) (clear : 
       settles net ∙ sym (given_same n (config_ports n config) original y cv state values net (original.net net) (input_by n (config_ports n config) net (driver n net)) same (flops_same state))
 
   settled : IsTriSettled original (strobe_sources original y its caught.first) caught.first
-  settled = settled_same its caught.first (vector_in n config p is).are.first
+  settled = settled_same its caught.first are.first
 
-  -- each cell has what the load brings to it
-  brought : (chain place : ℕ) (cell : InstanceId) → cell_at chains chain place ≡ Some cell → loaded cell.0 ≡ known (loaded_bit config.ring p.table cycles (late chain) chain place)
-  brought chain place cell stands =
-      let there = chain_of chains chain place cell (slice_get chains chain) refl stands in
-      let chain_less : chain < config.chains = (let inside = slice_get_within chains chain there.0 there.1 in let count = chain_count (cells_of n config) config.chains in omega (arith, inside, count)) in
-      let place_less : place < cycles = (let inside = slice_get_within there.0 place cell there.2 in let fits = chains_fit n config chain there.0 ready.range there.1 in omega (arith, inside, fits)) in
-      let within : place < length load = (let long = loads.count in omega (arith, place_less, long)) in
-      (loads_reach n config ports ready suits).1 p.table clear load before c rs clearing loads.carries cleared rounds chain place cell stands within
-      ∙ ap (λ k. known (load_sum config p.table k (late chain) chain place)) loads.count
-      ∙ ap known (sym (loads_sum config p.table cycles (late chain) chain place ready.range chain_less place_less))
+  over : StandsOver s y capture its old
+  over = record { ports = λ net less. above_self (capture.ports (s.moved net)); flops = over_old.above }
 
-  over : StandsOver s y capture its loaded
-  over = record {
-    ports = λ net less. above_self (capture.ports (s.moved net));
-    flops = λ cell modelled. loaded_above config.ring p.table cycles late chains cell (loaded cell) (λ chain place stands. brought chain place (record { 0 = cell }) stands);
-  }
+  pulses : (e : ℕ) → capture.pulsed (s.moved e) ≡ is_net e (Some clock)
+  pulses e = captures.pulsed e ∙ ap (is_net e) clocked.is
 
-  pulses : (e : ℕ) → capture.pulsed (s.moved e) ≡ is_net e (Some is.clock)
-  pulses e = captures.pulsed e ∙ ap (is_net e) is.clocked
-
-  is_capture : edt.IsCapture s is.clock.0 capture
+  is_capture : edt.IsCapture s clock.0 capture
   is_capture = record {
-    pulsed = pulses is.clock.0 ∙ net_is is.clock;
-    alone = λ e pulse. sym (eqb-true is.clock.0 e (sym (pulses e) ∙ pulse));
+    pulsed = pulses clock.0 ∙ net_is clock;
+    alone = λ e pulse. sym (eqb-true clock.0 e (sym (pulses e) ∙ pulse));
     off = captures.off;
   }
-
-  flop_modelled : (chain place : ℕ) (cell : InstanceId) → cell_at chains chain place ≡ Some cell → s.is_flop cell.0 ≡ true
-  flop_modelled chain place cell stands =
-      let it = planned Edt n config chain place cell ready stands in
-      modelled_old s (flip_flop n (config_ports n config) cell.0) (flip_flop (scanned Edt n config) (ports_in Edt n config) cell.0) it.flop it.is (instance_matched Edt n config ready (spared Edt n config ready) cell.0 it.instance it.at)
 
   next_same : (values : ℕ → Tri) (cell : ℕ) → next_from original y values cell ≡ next_from original cv values cell
   next_same values cell = forced_same n (config_ports n config) y cv (original.cell cell).force _ same (force_input cell)
@@ -294,31 +278,134 @@ module _ (n : Netlist) (config : Config) (ports : Ports) (p : Pattern) (clear : 
   idle : (cell : ℕ) (t : Tri) → tri_forced_by (original.cell cell).force y.ports t ≡ t
   idle cell t = not_forced (original.cell cell).force y.ports t (one cell)
 
-  halves : AreHalves l capture loaded r.halves
-  halves = closed_views l capture loaded r.halves (least_closed l capture loaded r.halves round.least)
+  halves : AreHalves l capture old r.halves
+  halves = closed_views l capture old r.halves (least_closed l capture old r.halves round.least)
 
-  is_caught : IsCaptured original is.clock.0 y its risen caught.first caught.second
+  is_caught : IsCaptured original clock.0 y its risen caught.first caught.second
   is_caught = record {
     first = settled;
-    above = risen_above n config chains p.merged is.clock is.clocked y next_same idle caught.first (loaded_in n config p);
-    second = settled_same risen caught.second (vector_in n config p is).are.second;
+    above = risen_above n config chains p.merged domain clock clocked.is y next_same idle caught.first its over_old.unknown;
+    second = settled_same risen caught.second are.second;
   }
 
-  cell_above : (chain place : ℕ) (cell : InstanceId) → cell_at chains chain place ≡ Some cell → AboveTri (captured_in n config p is cell) (new cell.0)
-  cell_above chain place cell stands =
-      subst (λ (t : Tri). AboveTri t (new cell.0)) (sym (captured_same n config chains p.merged is.clock is.clocked y next_same idle caught its cell.0 (chained (all_cells chains) _ cell.0 (number_of chains chain place cell stands))))
-      (captures_follow n config ports ready suits is.clock.0 y capture its risen loaded r.halves caught.first caught.second is_capture over is_caught halves cell.0 (flop_modelled chain place cell stands))
+  next_by : (cell : ℕ) (b : Bool) → is_chained chains cell ≡ b → s.is_flop cell ≡ true → AboveTri (next_state original chains cv its caught cell) (new cell)
+  next_by cell true is flop =
+      subst (λ (t : Tri). AboveTri t (new cell)) (sym (captured_same n config chains p.merged domain clock clocked.is y next_same idle caught its cell is))
+      (captures_follow n config ports ready suits clock.0 y capture its risen old r.halves caught.first caught.second is_capture over is_caught halves cell flop)
+  next_by cell false is flop = subst (λ (t : Tri). AboveTri t (new cell)) (sym (unchained_next original chains cv caught its cell is ∙ over_old.unknown cell is)) tt
 
-  pub has_captured : HasCaptured n config p is new
+  -- so it is behind the vector
+  pub over_next : IsOver n config (next_state original chains cv its caught) new
+  over_next = record {
+    above = λ cell flop. next_by cell (is_chained chains cell) refl flop;
+    unknown = λ cell apart. unchained_next original chains cv caught its cell apart ∙ over_old.unknown cell apart;
+  }
+
+  -- and the outputs show no other values than these
+  pub shows_own : (more : List Tri) → ShowsCapture n config (outputs_before n caught ++ more) r
+  shows_own more k net value at here =
+      let less : net.0 < length n.nets = design_ports_few n config net.0 ready (before_at (length (bits_of n.ports)) (output_bits n.ports) k net (outputs_below (length (bits_of n.ports)) n.ports (ports_before n config ready)) at) in
+      let its_value : Some (caught.first net.0) ≡ Some value = sym (front_of (λ (k : NetId). caught.first k.0) (output_bits n.ports) more k net at) ∙ here in
+      subst (λ (t : Tri). AboveTri t (r.strobe (s.moved net.0))) (same_Some (caught.first net.0) value its_value)
+      (strobes_follow n config ports ready suits y capture its old caught.first r.strobe over settled round.strobe net.0 less)
+
+-- ---- one after another
+
+record AllShown (n : Netlist) (config : Config) (ports : Ports) (p : Pattern) (domains : List ℕ) (xs : List Vector) (old its : ℕ → Tri) (settled : List Settled) (ts : List Round) : Type 0 where
+  shows : ShowsCaptures n config (flat_map (outputs_before n) settled) ts
+  over : IsOver n config (last_state (design_logic n config) (plan_of n config).chains (map (vector_of n config p.merged) domains) its settled) (after_rounds (edt_logic n config ports) old xs ts)
+
+all_shown : (n : Netlist) (config : Config) (ports : Ports) (p : Pattern) (domain : ℕ) (later : List ℕ) (xs : List Vector) (old its : ℕ → Tri) (settled : List Settled) (ts : List Round) → IsReady n config → SuitsEdt n config ports →
+    AllByRecursion (HasClock n config) (domain ∷ later) → AreCapturesFrom n config p domain later xs → AreRounds (edt_logic n config ports) old xs ts →
+    AllSettled (design_logic n config) (plan_of n config).chains (map (vector_of n config p.merged) (domain ∷ later)) its settled → IsOver n config its old → AllShown n config ports p (domain ∷ later) xs old its settled ts
+all_shown n config ports p domain [] [] old its settled ts ready suits clocked captures rounds are over = absurd captures
+all_shown n config ports p domain [] (x ∷ y ∷ xs) old its settled ts ready suits clocked captures rounds are over = absurd captures
+all_shown n config ports p domain [] (x ∷ []) old its [] ts ready suits clocked captures rounds are over = absurd are
+all_shown n config ports p domain [] (x ∷ []) old its (s ∷ t ∷ settled) ts ready suits clocked captures rounds are over = absurd are.1
+all_shown n config ports p domain [] (x ∷ []) old its (s ∷ []) [] ready suits clocked captures rounds are over = absurd rounds
+all_shown n config ports p domain [] (x ∷ []) old its (s ∷ []) (r ∷ q ∷ ts) ready suits clocked captures rounds are over = absurd rounds.1
+all_shown n config ports p domain [] (x ∷ []) old its (s ∷ []) (r ∷ []) ready suits clocked captures rounds are over = record {
+  shows = (shows_own n config ports p domain x old its s r ready suits clocked.0 captures.0 rounds.0 are.0 over [], tt);
+  over = over_next n config ports p domain x old its s r ready suits clocked.0 captures.0 rounds.0 are.0 over;
+}
+all_shown n config ports p domain (next ∷ later) [] old its settled ts ready suits clocked captures rounds are over = absurd captures
+all_shown n config ports p domain (next ∷ later) (x ∷ xs) old its [] ts ready suits clocked captures rounds are over = absurd are
+all_shown n config ports p domain (next ∷ later) (x ∷ xs) old its (s ∷ settled) [] ready suits clocked captures rounds are over = absurd rounds
+all_shown n config ports p domain (next ∷ later) (x ∷ xs) old its (s ∷ settled) (r ∷ ts) ready suits clocked captures rounds are over =
+    let l : Logic = edt_logic n config ports in
+    let more : List Tri = flat_map (outputs_before n) settled in
+    let own : List Tri = outputs_before n s in
+    let after = over_next n config ports p domain x old its s r ready suits clocked.0 captures.0 rounds.0 are.0 over in
+    let rest =
+    all_shown n config ports p next later xs (after_round l x old r) (next_state (design_logic n config) (plan_of n config).chains (vector_of n config p.merged domain) its s) settled ts ready suits clocked.1 captures.2 rounds.1 are.1 after in
+    record {
+      shows = (
+        shows_own n config ports p domain x old its s r ready suits clocked.0 captures.0 rounds.0 are.0 over more,
+        subst (λ (os : List Tri). ShowsCaptures n config os ts) (sym (drop_map (λ (k : NetId). s.first k.0) (output_bits n.ports) more)) rest.shows,
+      );
+      over = rest.over;
+    }
+
+-- ---- a pattern's load and its captures
+
+module _ (n : Netlist) (config : Config) (ports : Ports) (p : Pattern) (clear : Vector) (before : ℕ → Tri) (c : Round) (load xs : List Vector) (rs ts : List Round) (ready : IsReady n config) (suits : SuitsEdt n config ports) (is : IsPattern n config p)
+    (clearing : IsClearing (edt_hardware n config) clear) (cleared : IsRound (edt_logic n config ports) clear before c) (loads : IsLoadOf n config p load) (captures : AreCapturesOf n config p xs)
+    (rounds : AreRounds (edt_logic n config ports) (after_round (edt_logic n config ports) clear before c) load rs)
+    (caught : AreRounds (edt_logic n config ports) (after_rounds (edt_logic n config ports) (after_round (edt_logic n config ports) clear before c) load rs) xs ts) where
+  abbrev written : Logic
+  written = edt_logic n config ports
+
+  abbrev planned_chains : List (List InstanceId)
+  planned_chains = (plan_of n config).chains
+
+  abbrev cycles : ℕ
+  cycles = (plan_of n config).cycles
+
+  abbrev late : ℕ → Bool
+  late = falling_head (plan_of n config)
+
+  abbrev begun : ℕ → Tri
+  begun = loaded_values planned_chains (loaded_in n config p)
+
+  abbrev loaded : ℕ → Tri
+  loaded = after_rounds written (after_round written clear before c) load rs
+
+  -- each cell has what the load brings to it
+  brought : (chain place : ℕ) (cell : InstanceId) → cell_at planned_chains chain place ≡ Some cell → loaded cell.0 ≡ known (loaded_bit config.ring p.table cycles (late chain) chain place)
+  brought chain place cell stands =
+      let there = chain_of planned_chains chain place cell (slice_get planned_chains chain) refl stands in
+      let chain_less : chain < config.chains = (let inside = slice_get_within planned_chains chain there.0 there.1 in let count = chain_count (cells_of n config) config.chains in omega (arith, inside, count)) in
+      let place_less : place < cycles = (let inside = slice_get_within there.0 place cell there.2 in let fits = chains_fit n config chain there.0 ready.range there.1 in omega (arith, inside, fits)) in
+      let within : place < length load = (let long = loads.count in omega (arith, place_less, long)) in
+      (loads_reach n config ports ready suits).1 p.table clear load before c rs clearing loads.carries cleared rounds chain place cell stands within
+      ∙ ap (λ k. known (load_sum config p.table k (late chain) chain place)) loads.count
+      ∙ ap known (sym (loads_sum config p.table cycles (late chain) chain place ready.range chain_less place_less))
+
+  over_loaded : IsOver n config begun loaded
+  over_loaded = record {
+    above = λ cell modelled. loaded_above config.ring p.table cycles late planned_chains cell (loaded cell) (λ chain place stands. brought chain place (record { 0 = cell }) stands);
+    unknown = λ cell apart. unknown_by planned_chains (loaded_in n config p) cell apart;
+  }
+
+  shown : AllShown n config ports p (captured_domains p.merged) xs loaded begun is.captured.settled ts
+  shown = all_shown n config ports p p.merged.domains.first (later_of p.merged.domains) xs loaded begun is.captured.settled ts ready suits is.clocked captures caught is.captured.are over_loaded
+
+  flop_modelled : (chain place : ℕ) (cell : InstanceId) → cell_at planned_chains chain place ≡ Some cell → (places_in Edt n config).is_flop cell.0 ≡ true
+  flop_modelled chain place cell stands =
+      let it = planned Edt n config chain place cell ready stands in
+      modelled_old (places_in Edt n config) (flip_flop n (config_ports n config) cell.0) (flip_flop (scanned Edt n config) (ports_in Edt n config) cell.0) it.flop it.is
+      (instance_matched Edt n config ready (spared Edt n config ready) cell.0 it.instance it.at)
+
+  pub has_captured : HasCaptured n config p is (after_rounds written loaded xs ts)
   has_captured =
       let long : longest_segment config ≤ length load = (let count = loads.count in omega (arith, count)) in
-      let arrive = (unloads_show n config ports ready suits).2 (bit_at p.masks) load [] capture (after_round l clear before c) rs [] r loads.sends long tt captures.clearing rounds tt round in
-      record { clear = arrive.1; masked = arrive.0; cells = cell_above }
+      let ends = rounds_end n config ports p p.merged.domains.first (later_of p.merged.domains) xs loaded ts captures caught in
+      let arrive = (unloads_show n config ports ready suits).2 (bit_at p.masks) load ends.front ends.last (after_round written clear before c) rs ends.before ends.round loads.sends long ends.rests ends.clearing rounds ends.fronts ends.ends in
+      record {
+        clear = subst (Clears config (edt_hardware n config)) (sym ends.same) arrive.1;
+        masked = subst (AreMasked config (edt_hardware n config) (bit_at p.masks)) (sym ends.same) arrive.0;
+        cells = λ chain place cell stands. shown.over.above cell.0 (flop_modelled chain place cell stands);
+      }
 
-  pub shows_capture : ShowsCapture n config p r
-  shows_capture k net value at here =
-      let less : net.0 < length n.nets = design_ports_few n config net.0 ready (before_at (length (bits_of n.ports)) (output_bits n.ports) k net (outputs_before (length (bits_of n.ports)) n.ports (ports_before n config ready)) at) in
-      let its_value : Some (caught.first net.0) ≡ Some value =
-      sym (ap (option_map (λ (k : NetId). caught.first k.0)) at) ∙ sym (slice_get-map (λ (k : NetId). caught.first k.0) (output_bits n.ports) k) ∙ ap (λ (os : List Tri). slice_get os k) (sym (vector_in n config p is).outputs) ∙ here in
-      subst (λ (t : Tri). AboveTri t (r.strobe (s.moved net.0))) (same_Some (caught.first net.0) value its_value)
-      (strobes_follow n config ports ready suits y capture its loaded caught.first r.strobe over settled round.strobe net.0 less)
+  pub shows_captures : ShowsCaptures n config p.response.outputs ts
+  shows_captures = subst (λ (os : List Tri). ShowsCaptures n config os ts) (sym is.captured.outputs) shown.shows

@@ -18,41 +18,45 @@ use Rattle.dft_rules.specs.Rules.{is_net}
 use Rattle.dft_edt.specs.Captures.{after_edge}
 use Rattle.dft_cubes.specs.declared.cube.Merged.{Merged}
 use Rattle.dft_expect.specs.Loaded.{all_cells, loaded_values, or_unknown}
-use Rattle.dft_expect.specs.Captures.{Settled, after_edges, capture_clock, capture_vector, is_chained, next_state, original}
+use Rattle.dft_expect.specs.Captures.{Settled, after_edges, capture_clock, is_chained, next_state, original, vector_of}
 use Rattle.dft_expect.proofs.CellNumbers.{bit_none}
 use Rattle.dft_expect.proofs.VectorLemmas.{chained}
 
 -- a flip-flop that is no cell of the chains is not known
-unknown_by : (chains : List (List InstanceId)) (loaded : List Bool) (c : ℕ) → is_chained chains c ≡ false → loaded_values chains loaded c ≡ Unknown
+pub unknown_by : (chains : List (List InstanceId)) (loaded : List Bool) (c : ℕ) → is_chained chains c ≡ false → loaded_values chains loaded c ≡ Unknown
 unknown_by chains loaded c apart = ap or_unknown (bit_none (all_cells chains) loaded c (λ k at. (let never : true ≡ false = sym (chained (all_cells chains) k c at) ∙ apart in cc)))
 
+-- what is no cell of the chains does not move
+unmoved : (l : Logic) (chains : List (List InstanceId)) (x : Vector) (rising : Bool) (values its : ℕ → Tri) (cell : ℕ) → is_chained chains cell ≡ false → after_edges l chains x rising values its cell ≡ its cell
+unmoved l chains x rising values its cell is = ap (λ (b : Bool). if b && (x.pulsed (l.cell cell).domain && takes rising (l.cell cell).falling) then next_from l x values cell else its cell) is
+
+pub unchained_next : (l : Logic) (chains : List (List InstanceId)) (x : Vector) (s : Settled) (its : ℕ → Tri) (cell : ℕ) → is_chained chains cell ≡ false → next_state l chains x its s cell ≡ its cell
+unchained_next l chains x s its cell is = unmoved l chains x false s.second (after_edges l chains x true s.first its) cell is ∙ unmoved l chains x true s.first its cell is
+
 -- a vector of the design in which flip-flops take what they take in the pattern's, and no reset or set acts
-module _ (n : Netlist) (config : Config) (chains : List (List InstanceId)) (merged : Merged) (clock : NetId) (captures : capture_clock n config merged.domain ≡ Some clock) (y : Vector)
-    (next : (values : ℕ → Tri) (cell : ℕ) → next_from (original n config) y values cell ≡ next_from (original n config) (capture_vector n config merged) values cell)
+module _ (n : Netlist) (config : Config) (chains : List (List InstanceId)) (merged : Merged) (domain : ℕ) (clock : NetId) (captures : capture_clock n config domain ≡ Some clock) (y : Vector)
+    (next : (values : ℕ → Tri) (cell : ℕ) → next_from (original n config) y values cell ≡ next_from (original n config) (vector_of n config merged domain) values cell)
     (idle : (cell : ℕ) (t : Tri) → tri_forced_by ((original n config).cell cell).force y.ports t ≡ t) where
   abbrev l : Logic
   l = original n config
 
   abbrev x : Vector
-  x = capture_vector n config merged
+  x = vector_of n config merged domain
 
-  pulsed : (cell : ℕ) → is_net (l.cell cell).domain (capture_clock n config merged.domain) ≡ ((l.cell cell).domain == clock.0)
+  pulsed : (cell : ℕ) → is_net (l.cell cell).domain (capture_clock n config domain) ≡ ((l.cell cell).domain == clock.0)
   pulsed cell = ap (is_net (l.cell cell).domain) captures ∙ eqb_turned clock.0 (l.cell cell).domain
 
   edges_same : (rising : Bool) (values old : ℕ → Tri) (cell : ℕ) → is_chained chains cell ≡ true → after_edges l chains x rising values old cell ≡ after_edge l y clock.0 rising values old cell
   edges_same rising values old cell is = λ i. if is i && (pulsed cell i && takes rising (l.cell cell).falling) then sym (next values cell) i else old cell
 
-  above_by : (values : ℕ → Tri) (loaded : List Bool) (cell : ℕ) (b : Bool) → is_chained chains cell ≡ b → AboveTri (after_edges l chains x true values (loaded_values chains loaded) cell) (after_edge l y clock.0 true values (loaded_values chains loaded) cell)
-  above_by values loaded cell true is =
-      subst (AboveTri (after_edges l chains x true values (loaded_values chains loaded) cell)) (edges_same true values (loaded_values chains loaded) cell is) (above_self (after_edges l chains x true values (loaded_values chains loaded) cell))
-  above_by values loaded cell false is =
-      let still : after_edges l chains x true values (loaded_values chains loaded) cell ≡ loaded_values chains loaded cell =
-      ap (λ (b : Bool). if b && (is_net (l.cell cell).domain (capture_clock n config merged.domain) && takes true (l.cell cell).falling) then next_from l x values cell else loaded_values chains loaded cell) is in
-      subst (λ (t : Tri). AboveTri t (after_edge l y clock.0 true values (loaded_values chains loaded) cell)) (sym (still ∙ unknown_by chains loaded cell is)) tt
+  above_by : (values its : ℕ → Tri) (cell : ℕ) (b : Bool) → (is_chained chains cell ≡ false → its cell ≡ Unknown) → is_chained chains cell ≡ b → AboveTri (after_edges l chains x true values its cell) (after_edge l y clock.0 true values its cell)
+  above_by values its cell true unknown is =
+      subst (AboveTri (after_edges l chains x true values its cell)) (edges_same true values its cell is) (above_self (after_edges l chains x true values its cell))
+  above_by values its cell false unknown is = subst (λ (t : Tri). AboveTri t (after_edge l y clock.0 true values its cell)) (sym (unmoved l chains x true values its cell is ∙ unknown is)) tt
 
-  -- after the rises no more is known than what flip-flops have
-  pub risen_above : (values : ℕ → Tri) (loaded : List Bool) (cell : ℕ) → AboveTri (after_edges l chains x true values (loaded_values chains loaded) cell) (after_edge l y clock.0 true values (loaded_values chains loaded) cell)
-  risen_above values loaded cell = above_by values loaded cell (is_chained chains cell) refl
+  -- after the rises no more is known than what flip-flops have, where flip-flops that are no cells of the chains are Unknown
+  pub risen_above : (values its : ℕ → Tri) → ((cell : ℕ) → is_chained chains cell ≡ false → its cell ≡ Unknown) → (cell : ℕ) → AboveTri (after_edges l chains x true values its cell) (after_edge l y clock.0 true values its cell)
+  risen_above values its unknown cell = above_by values its cell (is_chained chains cell) (unknown cell) refl
 
   -- and a cell of the chains has what both edges leave
   pub captured_same : (s : Settled) (its : ℕ → Tri) (cell : ℕ) → is_chained chains cell ≡ true → next_state l chains x its s cell ≡ after_edge l y clock.0 false s.second (after_edge l y clock.0 true s.first (rise_of l y its).old) cell

@@ -17,7 +17,7 @@ use Rattle.dft_abstract.specs.Laws.{next_from}
 use Rattle.dft_config.specs.Config.{Config}
 use Rattle.dft_config.specs.Range.{IsInRange}
 use Rattle.dft_cubes.specs.declared.cube.Merged.{Merged}
-use Rattle.dft_expect.specs.Captures.{capture_vector, config_ports, original}
+use Rattle.dft_expect.specs.Captures.{config_ports, original, vector_of}
 use Rattle.dft_expect.proofs.GivenLemmas.{stays}
 use Rattle.dft_rules.proofs.NamedPorts.{named_input, reset_rests}
 
@@ -46,39 +46,39 @@ data_above true false value other above = above refl refl
 data_above false clock value other above = tt
 
 -- the capture vector without values elsewhere
-abbrev pub data_vector : Netlist → Config → Merged → Vector
-data_vector n config merged = record {
-  ports = λ net. of_data (is_input (driver n net)) ((config_ports n config).is_clock net) ((capture_vector n config merged).ports net);
-  pulsed = (capture_vector n config merged).pulsed;
+abbrev pub data_vector : Netlist → Config → Merged → (domain : ℕ) → Vector
+data_vector n config merged domain = record {
+  ports = λ net. of_data (is_input (driver n net)) ((config_ports n config).is_clock net) ((vector_of n config merged domain).ports net);
+  pulsed = (vector_of n config merged domain).pulsed;
 }
 
-same_data : (n : Netlist) (config : Config) (merged : Merged) → SameAt n (config_ports n config) (data_vector n config merged) (capture_vector n config merged)
-same_data n config merged net own = data_same (is_input (driver n net)) ((config_ports n config).is_clock net) ((capture_vector n config merged).ports net) own.0 own.1
+same_data : (n : Netlist) (config : Config) (merged : Merged) (domain : ℕ) → SameAt n (config_ports n config) (data_vector n config merged domain) (vector_of n config merged domain)
+same_data n config merged domain net own = data_same (is_input (driver n net)) ((config_ports n config).is_clock net) ((vector_of n config merged domain).ports net) own.0 own.1
 
 force_data : (n : Netlist) (config : Config) (cell : ℕ) (f : Force) → IsInRange config → ((original n config).cell cell).force ≡ Some f → IsData n (config_ports n config) f.port
 force_data n config cell f range e =
     let reset : (config_ports n config).is_reset f.port ≡ true = flop_reset n (config_ports n config) cell (is_flip_flop (kind_at n cell)) f (sym (stored_force n (config_ports n config) cell) ∙ e) in
     (named_input n f.port config.resets reset, reset_rests n config f.port range reset)
 
-data_forced : (n : Netlist) (config : Config) (merged : Merged) (cell : ℕ) (t : Tri) → IsInRange config →
-    tri_forced_by ((original n config).cell cell).force (data_vector n config merged).ports t ≡ tri_forced_by ((original n config).cell cell).force (capture_vector n config merged).ports t
-data_forced n config merged cell t range =
-    forced_same n (config_ports n config) (data_vector n config merged) (capture_vector n config merged) ((original n config).cell cell).force t (same_data n config merged) (λ f e. force_data n config cell f range e)
+data_forced : (n : Netlist) (config : Config) (merged : Merged) (domain : ℕ) (cell : ℕ) (t : Tri) → IsInRange config →
+    tri_forced_by ((original n config).cell cell).force (data_vector n config merged domain).ports t ≡ tri_forced_by ((original n config).cell cell).force (vector_of n config merged domain).ports t
+data_forced n config merged domain cell t range =
+    forced_same n (config_ports n config) (data_vector n config merged domain) (vector_of n config merged domain) ((original n config).cell cell).force t (same_data n config merged domain) (λ f e. force_data n config cell f range e)
 
 -- the same values are settled
-pub data_settled : (n : Netlist) (config : Config) (merged : Merged) (its values : ℕ → Tri) → IsInRange config →
-    IsTriSettled (original n config) (strobe_sources (original n config) (capture_vector n config merged) its values) values →
-    IsTriSettled (original n config) (strobe_sources (original n config) (data_vector n config merged) its values) values
-data_settled n config merged its values range settled net =
+pub data_settled : (n : Netlist) (config : Config) (merged : Merged) (domain : ℕ) (its values : ℕ → Tri) → IsInRange config →
+    IsTriSettled (original n config) (strobe_sources (original n config) (vector_of n config merged domain) its values) values →
+    IsTriSettled (original n config) (strobe_sources (original n config) (data_vector n config merged domain) its values) values
+data_settled n config merged domain its values range settled net =
     settled net
-    ∙ sym (given_same n (config_ports n config) (original n config) (data_vector n config merged) (capture_vector n config merged) its values net ((original n config).net net)
-    (input_by n (config_ports n config) net (driver n net)) (same_data n config merged) (λ cell. data_forced n config merged cell (its cell) range))
+    ∙ sym (given_same n (config_ports n config) (original n config) (data_vector n config merged domain) (vector_of n config merged domain) its values net ((original n config).net net)
+    (input_by n (config_ports n config) net (driver n net)) (same_data n config merged domain) (λ cell. data_forced n config merged domain cell (its cell) range))
 
 -- each flip-flop has the same next value
-pub data_next : (n : Netlist) (config : Config) (merged : Merged) (values : ℕ → Tri) (cell : ℕ) → IsInRange config →
-    next_from (original n config) (data_vector n config merged) values cell ≡ next_from (original n config) (capture_vector n config merged) values cell
-data_next n config merged values cell range = data_forced n config merged cell _ range
+pub data_next : (n : Netlist) (config : Config) (merged : Merged) (domain : ℕ) (values : ℕ → Tri) (cell : ℕ) → IsInRange config →
+    next_from (original n config) (data_vector n config merged domain) values cell ≡ next_from (original n config) (vector_of n config merged domain) values cell
+data_next n config merged domain values cell range = data_forced n config merged domain cell _ range
 
 -- no reset or set acts
-pub data_stays : (n : Netlist) (config : Config) (merged : Merged) (cell : ℕ) (t : Tri) → IsInRange config → tri_forced_by ((original n config).cell cell).force (data_vector n config merged).ports t ≡ t
-data_stays n config merged cell t range = data_forced n config merged cell t range ∙ stays n config merged cell t
+pub data_stays : (n : Netlist) (config : Config) (merged : Merged) (domain : ℕ) (cell : ℕ) (t : Tri) → IsInRange config → tri_forced_by ((original n config).cell cell).force (data_vector n config merged domain).ports t ≡ t
+data_stays n config merged domain cell t range = data_forced n config merged domain cell t range ∙ stays n config merged cell t

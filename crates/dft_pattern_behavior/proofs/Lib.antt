@@ -2,6 +2,7 @@ pub mod Clocks
 pub mod Lists
 pub mod Loaded
 pub mod Edges
+pub mod Ends
 pub mod Unloading
 pub mod Capturing
 pub mod Patterns

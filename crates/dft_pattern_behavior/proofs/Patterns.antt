@@ -1,10 +1,11 @@
 -- One pattern after another.
-use Rattle.std.proofs.Common.{ℕ, List, [], ◌∷◌, Option, Some, None}
+use Rattle.std.proofs.Common.{ℕ, List, [], ◌∷◌, Option, Some, None, subst}
 use Rattle.dft_base.specs.declared.tri.Tri.{Tri}
 use Rattle.dft_netlist.specs.Logic.{Logic, Ports}
 use Rattle.dft_netlist.specs.Netlist.{Netlist}
 use Rattle.dft_netlist.specs.Runs.{Vector}
 use Rattle.dft_abstract.specs.Cycle.{Round, IsRound, after_round}
+use Rattle.dft_cubes.specs.Domains.{later_of}
 use Rattle.dft_config.specs.Config.{Config}
 use Rattle.dft_config.specs.Ring.{Table}
 use Rattle.dft_runs.specs.Passes.{AreRounds, after_rounds}
@@ -15,16 +16,17 @@ use Rattle.dft_scan_behavior.specs.Experiments.{Carry}
 use Rattle.dft_scan_behavior.specs.Facts.{edt_hardware}
 use Rattle.dft_pattern_behavior.specs.Given.{Pattern}
 use Rattle.dft_pattern_behavior.specs.Rounds.{ShowsBefore, LoadsShow, Played, LastLoad, ArePlayed, AreShown, PatternsShow}
-use Rattle.dft_pattern_behavior.proofs.Capturing.{has_captured, shows_capture}
+use Rattle.dft_pattern_behavior.proofs.Capturing.{has_captured, shows_captures}
+use Rattle.dft_pattern_behavior.proofs.Ends.{rounds_end}
 use Rattle.dft_pattern_behavior.proofs.Unloading.{unload_shows}
 
 pub loads_show : LoadsShow
-loads_show n config ports p clear before c load capture rs r ready suits is clearing cleared loads captures rounds round =
+loads_show n config ports p clear before c load captures rs ts ready suits is clearing cleared loads are rounds caught =
     let l : Logic = edt_logic n config ports in
-    let new : ℕ → Tri = after_round l capture (after_rounds l (after_round l clear before c) load rs) r in
-    let has = has_captured n config ports p clear before c load capture rs r ready suits is clearing cleared loads captures rounds round in
+    let new : ℕ → Tri = after_rounds l (after_rounds l (after_round l clear before c) load rs) captures ts in
+    let has = has_captured n config ports p clear before c load captures rs ts ready suits is clearing cleared loads are rounds caught in
     record {
-      captures = shows_capture n config ports p clear before c load capture rs r ready suits is clearing cleared loads captures rounds round;
+      captures = shows_captures n config ports p clear before c load captures rs ts ready suits is clearing cleared loads are rounds caught;
       unloads = λ running xs qs carry next. unload_shows n config ports p new ready suits is has running xs qs carry next;
     }
 
@@ -41,10 +43,13 @@ module _ (n : Netlist) (config : Config) (ports : Ports) (ready : IsReady n conf
   from_here clear old c before [] end clearing cleared next are = next end.table end.load end.rounds are.0 are.1
   from_here clear old c before (p ∷ more) end clearing cleared next are =
       let loaded : ℕ → Tri = after_rounds l (after_round l clear old c) p.load p.rounds in
-      let one = loads_show n config ports p.pattern clear old c p.load p.capture p.rounds p.round ready suits are.0 clearing cleared are.1 are.2 are.3 are.4 in (
+      let new : ℕ → Tri = after_rounds l loaded p.captures p.capturing in
+      let one = loads_show n config ports p.pattern clear old c p.load p.captures p.rounds p.capturing ready suits are.0 clearing cleared are.1 are.2 are.3 are.4 in
+      let last = rounds_end n config ports p.pattern p.pattern.merged.domains.first (later_of p.pattern.merged.domains) p.captures loaded p.capturing are.2 are.4 in (
         next p.pattern.table p.load p.rounds are.1.carries are.3,
         one.captures,
-        from_here p.capture loaded p.round (Some p.pattern) more end are.2.clearing are.4 one.unloads are.5,
+        from_here last.last (after_rounds l loaded last.front last.before) last.round (Some p.pattern) more end last.clearing last.ends (subst (ShowsNext n config ports (Some p.pattern)) last.same one.unloads)
+            (subst (λ (now : ℕ → Tri). ArePlayed n config ports now more end) last.same are.5),
       )
 
 pub patterns_show : PatternsShow

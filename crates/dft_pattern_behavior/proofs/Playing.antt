@@ -1,5 +1,5 @@
 -- Listed vectors clear, load and capture.
-use Rattle.std.proofs.Common.{ℕ, zero, suc, ◌+◌, ◌<◌, ◌≤◌, ◌≡◌, ◌==◌, ◌||◌, ◌⊎◌, inl, inr, Bool, true, false, List, [], ◌∷◌, ◌++◌, length, map, Option, None, Some, refl, sym, ap, subst, arith, ◌∙◌}
+use Rattle.std.proofs.Common.{ℕ, zero, suc, ◌+◌, ◌<◌, ◌≤◌, ◌≡◌, ◌==◌, ◌||◌, ◌⊎◌, inl, inr, Bool, true, false, List, [], ◌∷◌, ◌++◌, drop, length, map, Option, None, Some, refl, sym, ap, subst, arith, ◌∙◌}
 use Rattle.std.specs.List.{range_with_len}
 use Rattle.std.proofs.lemmas.Bool.{cases_lt, eqb-true, false_from_ne_true}
 use Rattle.std.proofs.lemmas.List.{append_assoc}
@@ -23,9 +23,8 @@ use Rattle.dft_edt.specs.Unloads.{SendMasks}
 use Rattle.dft_config.specs.Segments.{sent_mask}
 use Rattle.dft_edt.specs.Vectors.{IsEdtShift}
 use Rattle.dft_cubes.specs.declared.cube.Merged.{Merged}
-use Rattle.dft_expect.specs.Captures.{bit_of_port, capture_vector, port_value}
+use Rattle.dft_expect.specs.Captures.{bit_of_port, output_bits, port_value, vector_of}
 use Rattle.dft_patterns.specs.declared.act.Act.{Act}
-use Rattle.dft_patterns.specs.declared.act.Act.TheVariants.{Pulse}
 use Rattle.dft_patterns.specs.Steadiness.{is_pulse}
 use Rattle.dft_scan_frame.specs.ConfigPorts.{config_ports}
 use Rattle.dft_scan_frame.specs.Moves.{Gap, moved}
@@ -40,11 +39,12 @@ use Rattle.dft_scan_equivalence.specs.Agreeing.{ports_in}
 use Rattle.dft_scan_equivalence.proofs.MadeGood.{from_at}
 use Rattle.dft_scan_behavior.specs.Facts.{chain_nets, edt_hardware}
 use Rattle.dft_pattern_behavior.proofs.Clocks.{named_input, pulsed_clock, reset_rests}
-use Rattle.dft_vectors.specs.AddedPorts.{added_inputs, no_bits, set_all, shifting}
+use Rattle.dft_vectors.specs.AddedPorts.{added_inputs, no_bits, ring_clock, set_all, shifting}
 use Rattle.dft_vectors.specs.OwnPorts.{driven, inputs_by, outputs_ignored, pulsing_vector, quiet_vector, set_to}
 use Rattle.dft_vectors.specs.PatternData.{PatternData}
 use Rattle.dft_vectors.specs.Signals.{input_bits}
 use Rattle.dft_vectors.specs.VectorList.{shift_acts, unloaded}
+use Rattle.dft_pattern_behavior.specs.Given.{IsCaptureOf, Pattern}
 use Rattle.dft_pattern_behavior.specs.Doing.{set_by, DoesAt, Does, AllDo, SetUpClears, LoadsLoad, CapturesCapture}
 use Rattle.dft_pattern_behavior.proofs.Listed.{is_in, input_listed}
 use Rattle.dft_pattern_behavior.proofs.Places.{added_nets, all_inputs, gap_within, not_in, not_in_both, own_before}
@@ -60,6 +60,10 @@ pulse_is true t = refl
 pulse_is false Zero = refl
 pulse_is false One = refl
 pulse_is false Unknown = refl
+
+ring_is : (b : Bool) → is_pulse (ring_clock b) ≡ b
+ring_is true = refl
+ring_is false = refl
 
 value_is : (b : Bool) (o : Option Bool) → set_by (driven false (port_value b o)) ≡ port_value b o
 value_is true o = refl
@@ -113,10 +117,10 @@ does_past x b from (suc count) bits more rest h = does_past x (suc b) (from + 1)
 
 -- ---- what a listed vector does
 
-pub record Plays (n : Netlist) (config : Config) (v : Vector) (enable update : Bool) (channels masks : ℕ → Bool) (x : Vector) : Type 0 where
+pub record Plays (n : Netlist) (config : Config) (v : Vector) (enable pulse update : Bool) (channels masks : ℕ → Bool) (x : Vector) : Type 0 where
   pub own : (net : ℕ) → is_in (input_bits n.ports) net ≡ true → Acts x v net
   pub enabled : x.ports (gap_in Edt n config).before ≡ known enable
-  pub clock : x.pulsed ((gap_in Edt n config).before + 1) ≡ true
+  pub clock : x.pulsed ((gap_in Edt n config).before + 1) ≡ pulse
   pub updated : x.ports ((gap_in Edt n config).before + 2) ≡ known update
   pub carried : (j : ℕ) → j < config.ring.channels → x.ports ((gap_in Edt n config).before + 3 + j) ≡ known (channels j)
   pub sent : (m : ℕ) → m < config.compactor.mask_inputs → x.ports ((gap_in Edt n config).before + 3 + config.ring.channels + m) ≡ known (masks m)
@@ -126,9 +130,9 @@ outside : (low width net : ℕ) → (net < low) ⊎ (low + width ≤ net) → (l
 outside low width net (inl less) h = omega (arith, less, h.0)
 outside low width net (inr past) h = omega (arith, past, h.1)
 
-pub plays : (n : Netlist) (config : Config) (v : Vector) (enable update : Bool) (channels masks : ℕ → Bool) (outs : List Act) (x : Vector) → IsReady n config →
-    Does (scanned Edt n config) (inputs_by n v ++ (added_inputs config enable update channels masks ++ outs)) x → Plays n config v enable update channels masks x
-plays n config v enable update channels masks outs x ready does =
+pub plays : (n : Netlist) (config : Config) (v : Vector) (enable pulse update : Bool) (channels masks : ℕ → Bool) (outs : List Act) (x : Vector) → IsReady n config →
+    Does (scanned Edt n config) (inputs_by n v ++ (added_inputs config enable pulse update channels masks ++ outs)) x → Plays n config v enable pulse update channels masks x
+plays n config v enable pulse update channels masks outs x ready does =
     let before : ℕ = (gap_in Edt n config).before in
     let own : List NetId = input_bits n.ports in
     let cs : List NetId = nets_from (before + 3) config.ring.channels in
@@ -137,22 +141,22 @@ plays n config v enable update channels masks outs x ready does =
     let a : List Act = set_all config.ring.channels channels in
     let b : List Act = set_all config.compactor.mask_inputs masks in
     let rest : List Act = (a ++ b) ++ outs in
-    let all : DoesAt x (own ++ added_nets before config.ring.channels config.compactor.mask_inputs) (inputs_by n v ++ (added_inputs config enable update channels masks ++ outs)) =
-    subst (λ (nets : List NetId). DoesAt x nets (inputs_by n v ++ (added_inputs config enable update channels masks ++ outs))) (all_inputs n config) does.inputs in
-    let added : DoesAt x (added_nets before config.ring.channels config.compactor.mask_inputs) (added_inputs config enable update channels masks ++ outs) =
-    does_more x v own (added_nets before config.ring.channels config.compactor.mask_inputs) (added_inputs config enable update channels masks ++ outs) all in
-    let first = does_head x (record { 0 = before }) (record { 0 = before + 1 } ∷ two) (set_to enable) (Pulse ∷ set_to update ∷ rest) added in
-    let after_one = does_tail x (record { 0 = before }) (record { 0 = before + 1 } ∷ two) (set_to enable) (Pulse ∷ set_to update ∷ rest) added in
-    let second = does_head x (record { 0 = before + 1 }) two Pulse (set_to update ∷ rest) after_one in
-    let after_two = does_tail x (record { 0 = before + 1 }) two Pulse (set_to update ∷ rest) after_one in
+    let all : DoesAt x (own ++ added_nets before config.ring.channels config.compactor.mask_inputs) (inputs_by n v ++ (added_inputs config enable pulse update channels masks ++ outs)) =
+    subst (λ (nets : List NetId). DoesAt x nets (inputs_by n v ++ (added_inputs config enable pulse update channels masks ++ outs))) (all_inputs n config) does.inputs in
+    let added : DoesAt x (added_nets before config.ring.channels config.compactor.mask_inputs) (added_inputs config enable pulse update channels masks ++ outs) =
+    does_more x v own (added_nets before config.ring.channels config.compactor.mask_inputs) (added_inputs config enable pulse update channels masks ++ outs) all in
+    let first = does_head x (record { 0 = before }) (record { 0 = before + 1 } ∷ two) (set_to enable) (ring_clock pulse ∷ set_to update ∷ rest) added in
+    let after_one = does_tail x (record { 0 = before }) (record { 0 = before + 1 } ∷ two) (set_to enable) (ring_clock pulse ∷ set_to update ∷ rest) added in
+    let second = does_head x (record { 0 = before + 1 }) two (ring_clock pulse) (set_to update ∷ rest) after_one in
+    let after_two = does_tail x (record { 0 = before + 1 }) two (ring_clock pulse) (set_to update ∷ rest) after_one in
     let third = does_head x (record { 0 = before + 2 }) (cs ++ (ms ++ [])) (set_to update) rest after_two in
     let after_three = does_tail x (record { 0 = before + 2 }) (cs ++ (ms ++ [])) (set_to update) rest after_two in
     let both : DoesAt x (cs ++ (ms ++ [])) (a ++ (b ++ outs)) = subst (λ (acts : List Act). DoesAt x (cs ++ (ms ++ [])) acts) (append_assoc a b outs) after_three in
     let last : DoesAt x (ms ++ []) (b ++ outs) = does_past x (before + 3) 0 config.ring.channels channels (ms ++ []) (b ++ outs) both in
     record {
-      own = λ net is. does_own x v net own (added_nets before config.ring.channels config.compactor.mask_inputs) (added_inputs config enable update channels masks ++ outs) all is;
+      own = λ net is. does_own x v net own (added_nets before config.ring.channels config.compactor.mask_inputs) (added_inputs config enable pulse update channels masks ++ outs) all is;
       enabled = first.0 ∙ set_bit enable;
-      clock = second.1;
+      clock = second.1 ∙ ring_is pulse;
       updated = third.0 ∙ set_bit update;
       carried = λ j less. does_bits x (before + 3) 0 config.ring.channels channels (ms ++ []) (b ++ outs) both j less ∙ (let at : 0 + j ≡ j = omega arith in ap (λ k. known (channels k)) at);
       sent = λ m less. does_bits x (before + 3 + config.ring.channels) 0 config.compactor.mask_inputs masks [] outs last m less ∙ (let at : 0 + m ≡ m = omega arith in ap (λ k. known (masks k)) at);
@@ -164,18 +168,18 @@ plays n config v enable update channels masks outs x ready does =
 
 pub set_up_clears : SetUpClears
 set_up_clears n config x ready does =
-    let p = plays n config (quiet_vector n config) false true no_bits no_bits _ x ready does in
+    let p = plays n config (quiet_vector n config) false true true no_bits no_bits _ x ready does in
     record { update = p.updated; clock = p.clock }
 
 -- ---- loads
 
-pub clock_pulses : (n : Netlist) (config : Config) (channels masks : ℕ → Bool) (x : Vector) → Plays n config (pulsing_vector n config) true false channels masks x → (net : ℕ) (a b : Bool) →
+pub clock_pulses : (n : Netlist) (config : Config) (channels masks : ℕ → Bool) (x : Vector) → Plays n config (pulsing_vector n config) true true false channels masks x → (net : ℕ) (a b : Bool) →
     (config_ports n config).is_clock net ≡ a → (net == (gap_in Edt n config).before + 1) ≡ b → (a || b) ≡ true → x.pulsed net ≡ true
 clock_pulses n config channels masks x p net true b is at h = (p.own net (input_listed n net (named_input n net config.domains is))).1 ∙ pulse_is ((config_ports n config).is_clock net) _ ∙ is
 clock_pulses n config channels masks x p net false true is at h = ap x.pulsed (eqb-true net ((gap_in Edt n config).before + 1) at) ∙ p.clock
 clock_pulses n config channels masks x p net false false is at h = absurd cc
 
-shift_is : (n : Netlist) (config : Config) (channels masks : ℕ → Bool) (x : Vector) → IsReady n config → Plays n config (pulsing_vector n config) true false channels masks x → IsEdtShift (ports_in Edt n config) (chain_nets Edt n config) (edt_hardware n config) x
+shift_is : (n : Netlist) (config : Config) (channels masks : ℕ → Bool) (x : Vector) → IsReady n config → Plays n config (pulsing_vector n config) true true false channels masks x → IsEdtShift (ports_in Edt n config) (chain_nets Edt n config) (edt_hardware n config) x
 shift_is n config channels masks x ready p = record {
   shift = record {
     enabled = p.enabled;
@@ -206,7 +210,7 @@ loads_from n config table masks shown from (suc count) (x ∷ xs) ready h =
     let outs : List Act = outputs_ignored n ++ unloaded config (plan_of n config) table shown from in
     let does : Does (scanned Edt n config) (inputs_by n (pulsing_vector n config) ++ (shifting config channels sent ++ outs)) x =
     subst (λ (acts : List Act). Does (scanned Edt n config) acts x) (append_assoc (inputs_by n (pulsing_vector n config)) (shifting config channels sent) outs) h.0 in
-    let p = plays n config (pulsing_vector n config) true false channels sent outs x ready does in
+    let p = plays n config (pulsing_vector n config) true true false channels sent outs x ready does in
     let more = loads_from n config table masks shown (from + 1) count xs ready h.1 in
     let next : from + 1 ≡ suc from = omega arith in
     record {
@@ -229,36 +233,48 @@ module _ (n : Netlist) (config : Config) (ready : IsReady n config) where
   pub input_before : (net : ℕ) → is_input (driver n net) ≡ true → net < gap.before
   input_before net is = input_less n net (driver n net) is (driver_fine n config net ready)
 
-  clock_input : (merged : Merged) (e : ℕ) → (capture_vector n config merged).pulsed e ≡ true → is_input (driver n e) ≡ true
-  clock_input merged e pulse = named_input n e config.domains (pulsed_clock n config e merged.domain pulse)
+  clock_input : (merged : Merged) (domain : ℕ) (e : ℕ) → (vector_of n config merged domain).pulsed e ≡ true → is_input (driver n e) ≡ true
+  clock_input merged domain e pulse = named_input n e config.domains (pulsed_clock n config e domain pulse)
 
   -- no other clock of the design pulses
-  front : (merged : Merged) (x : Vector) → Plays n config (capture_vector n config merged) false true no_bits no_bits x → (e : ℕ) (b : Bool) → is_in (input_bits n.ports) e ≡ b → e < gap.before → x.pulsed e ≡ (capture_vector n config merged).pulsed e
-  front merged x it e true is less = (it.own e is).1 ∙ pulse_is ((capture_vector n config merged).pulsed e) ((capture_vector n config merged).ports e)
-  front merged x it e false is less =
-      it.others e is (inl less) ∙ sym (false_from_ne_true ((capture_vector n config merged).pulsed e) (λ pulse. true_false (is_in (input_bits n.ports) e) (input_listed n e (clock_input merged e pulse)) is))
+  front : (merged : Merged) (domain : ℕ) (pulse update : Bool) (x : Vector) → Plays n config (vector_of n config merged domain) false pulse update no_bits no_bits x → (e : ℕ) (b : Bool) → is_in (input_bits n.ports) e ≡ b → e < gap.before → x.pulsed e ≡ (vector_of n config merged domain).pulsed e
+  front merged domain pulse update x it e true is less = (it.own e is).1 ∙ pulse_is ((vector_of n config merged domain).pulsed e) ((vector_of n config merged domain).ports e)
+  front merged domain pulse update x it e false is less =
+      it.others e is (inl less) ∙ sym (false_from_ne_true ((vector_of n config merged domain).pulsed e) (λ does. true_false (is_in (input_bits n.ports) e) (input_listed n e (clock_input merged domain e does)) is))
 
-  capture_pulses : (merged : Merged) (x : Vector) → Plays n config (capture_vector n config merged) false true no_bits no_bits x → (e : ℕ) → x.pulsed (moved gap e) ≡ (capture_vector n config merged).pulsed e
-  capture_pulses merged x it e = elim (cases_lt e gap.before) [
-    | inl less ↦ ap x.pulsed (moved_front gap e less) ∙ front merged x it e (is_in (input_bits n.ports) e) refl less
+  capture_pulses : (merged : Merged) (domain : ℕ) (pulse update : Bool) (x : Vector) → Plays n config (vector_of n config merged domain) false pulse update no_bits no_bits x → (e : ℕ) → x.pulsed (moved gap e) ≡ (vector_of n config merged domain).pulsed e
+  capture_pulses merged domain pulse update x it e = elim (cases_lt e gap.before) [
+    | inl less ↦ ap x.pulsed (moved_front gap e less) ∙ front merged domain pulse update x it e (is_in (input_bits n.ports) e) refl less
     | inr past ↦ (
         let back : gap.before ≤ e = omega (arith, past) in
         let none : is_in (input_bits n.ports) (e + gap.width) ≡ false = not_in (λ k. k < length (bits_of n.ports)) (input_bits n.ports) (e + gap.width) (own_before n config ready) (λ less. omega (arith, less, back)) in
-        let rests : (capture_vector n config merged).pulsed e ≡ false = false_from_ne_true ((capture_vector n config merged).pulsed e) (λ pulse. (let less = input_before e (clock_input merged e pulse) in omega (arith, less, back))) in
+        let rests : (vector_of n config merged domain).pulsed e ≡ false = false_from_ne_true ((vector_of n config merged domain).pulsed e) (λ does. (let less = input_before e (clock_input merged domain e does) in omega (arith, less, back))) in
         ap x.pulsed (moved_back gap e back) ∙ it.others (e + gap.width) none (inr (omega (arith, back))) ∙ sym rests)
   ]
 
-pub captures_capture : CapturesCapture
-captures_capture n config p outputs x ready does =
-    let cv : Vector = capture_vector n config p.merged in
-    let it = plays n config cv false true no_bits no_bits _ x ready does in
+-- a vector that does what is listed for a capture vector is one
+capture_is : (n : Netlist) (config : Config) (p : Pattern) (domain : ℕ) (pulse update : Bool) (x : Vector) → IsReady n config → Plays n config (vector_of n config p.merged domain) false pulse update no_bits no_bits x → IsCaptureOf n config p domain x
+capture_is n config p domain pulse update x ready it =
+    let cv : Vector = vector_of n config p.merged domain in
     record {
-      clearing = record { update = it.updated; clock = it.clock };
       off = it.enabled;
-      pulsed = λ e. capture_pulses n config ready p.merged x it e;
+      pulsed = λ e. capture_pulses n config ready p.merged domain pulse update x it e;
       ports = λ net is rests.
           ap x.ports (moved_front (gap_in Edt n config) net (input_before n config ready net is))
           ∙ (it.own net (input_listed n net is)).0
           ∙ ap (λ b. set_by (driven b (cv.ports net))) rests
           ∙ value_is ((config_ports n config).is_reset net) (bit_of_port p.merged.ports net);
     }
+
+pub captures_capture : CapturesCapture
+captures_capture n config p domain [] outputs [] ready does = absurd does
+captures_capture n config p domain [] outputs (x ∷ []) ready does =
+    let it = plays n config (vector_of n config p.merged domain) false true true no_bits no_bits _ x ready does.0 in (capture_is n config p domain true true x ready it, record { update = it.updated; clock = it.clock })
+captures_capture n config p domain [] outputs (x ∷ y ∷ xs) ready does = absurd does.1
+captures_capture n config p domain (next ∷ later) outputs [] ready does = absurd does
+captures_capture n config p domain (next ∷ later) outputs (x ∷ xs) ready does =
+    let it = plays n config (vector_of n config p.merged domain) false false false no_bits no_bits _ x ready does.0 in (
+      capture_is n config p domain false false x ready it,
+      it.clock,
+      captures_capture n config p next later (drop (length (output_bits n.ports)) outputs) xs ready does.1,
+    )

@@ -6,6 +6,7 @@ use Rattle.dft_netlist.specs.Logic.{Logic, Ports}
 use Rattle.dft_netlist.specs.Netlist.{Netlist}
 use Rattle.dft_netlist.specs.Runs.{Vector}
 use Rattle.dft_abstract.specs.Cycle.{Round, IsRound, after_round}
+use Rattle.dft_cubes.specs.Domains.{later_of}
 use Rattle.dft_config.specs.Config.{Config}
 use Rattle.dft_runs.specs.Passes.{AreRounds, after_rounds}
 use Rattle.dft_stitch.specs.Chains.{plan_of}
@@ -66,19 +67,20 @@ split_patterns n config ports before end (p ∷ ps) old xs rs ready are h rounds
     let load : List (List Act) = load_vectors n config (plan_of n config) (load_of config p) p.masks before in
     let more : List (List Act) = pattern_vectors n config (plan_of n config) (Some p) ps in
     let final : List (List Act) = load_vectors n config (plan_of n config) no_table [] end in
-    let s = split_do w load ((capture_acts n config p ∷ more) ++ final) xs (subst (λ (vs : List (List Act)). AllDo w vs xs) (append_assoc load (capture_acts n config p ∷ more) final) h) in
-    let c = first_do w (capture_acts n config p) (more ++ final) s.1 s.4 in
-    let joined : xs ≡ s.0 ++ (c.0 ∷ c.1) = s.2 ∙ ap (λ (v : List Vector). s.0 ++ v) c.2 in
-    let q = split_rounds l old s.0 (c.0 ∷ c.1) rs (subst (λ (v : List Vector). AreRounds l old v rs) joined rounds) in
-    let r = first_round l (after_rounds l old s.0 q.0) c.0 c.1 q.1 q.4 in
-    let rest = split_patterns n config ports (Some p) end ps (after_round l c.0 (after_rounds l old s.0 q.0) r.0) c.1 r.1 ready are.1 c.4 r.4 in
+    let caught : List (List Act) = capture_acts n config p in
+    let s = split_do w load ((caught ++ more) ++ final) xs (subst (λ (vs : List (List Act)). AllDo w vs xs) (append_assoc load (caught ++ more) final) h) in
+    let c = split_do w caught (more ++ final) s.1 (subst (λ (vs : List (List Act)). AllDo w vs s.1) (append_assoc caught more final) s.4) in
+    let joined : xs ≡ s.0 ++ (c.0 ++ c.1) = s.2 ∙ ap (λ (v : List Vector). s.0 ++ v) c.2 in
+    let q = split_rounds l old s.0 (c.0 ++ c.1) rs (subst (λ (v : List Vector). AreRounds l old v rs) joined rounds) in
+    let r = split_rounds l (after_rounds l old s.0 q.0) c.0 c.1 q.1 q.4 in
+    let rest = split_patterns n config ports (Some p) end ps (after_rounds l (after_rounds l old s.0 q.0) c.0 r.0) c.1 r.1 ready are.1 c.4 r.4 in
     record {
-      played = record { pattern = its; load = s.0; capture = c.0; rounds = q.0; round = r.0 } ∷ rest.played;
+      played = record { pattern = its; load = s.0; captures = c.0; rounds = q.0; capturing = r.0 } ∷ rest.played;
       last = rest.last;
       patterns = ap (λ (v : List Pattern). its ∷ v) rest.patterns;
-      vectors = joined ∙ ap (λ (v : List Vector). s.0 ++ (c.0 ∷ v)) rest.vectors;
-      rounds = q.2 ∙ ap (λ (v : List Round). q.0 ++ v) r.2 ∙ ap (λ (v : List Round). q.0 ++ (r.0 ∷ v)) rest.rounds;
-      are = (are.0, loads_load n config its before s.0 ready s.3, captures_capture n config its p.response.outputs c.0 ready c.3, q.3, r.3, rest.are);
+      vectors = joined ∙ ap (λ (v : List Vector). s.0 ++ (c.0 ++ v)) rest.vectors;
+      rounds = q.2 ∙ ap (λ (v : List Round). q.0 ++ v) r.2 ∙ ap (λ (v : List Round). q.0 ++ (r.0 ++ v)) rest.rounds;
+      are = (are.0, loads_load n config its before s.0 ready s.3, captures_capture n config its p.merged.domains.first (later_of p.merged.domains) p.response.outputs c.0 ready c.3, q.3, r.3, rest.are);
     }
 
 pub listed_show : ListedShow

@@ -1,6 +1,6 @@
 -- A capture's vector, beside a netlist that covers the design.
-use Rattle.std.proofs.Common.{ℕ, zero, suc, ◌+◌, ◌≡◌, ◌<◌, ◌≤◌, ◌==◌, Bool, true, false, List, [], ◌∷◌, ◌++◌, map, length, get_or, slice_get, Option, None, Some, is_some, refl, sym, subst, ap, arith, ◌∙◌}
-use Rattle.std.specs.Prelude.{if◌then◌else◌}
+use Rattle.std.proofs.Common.{ℕ, zero, suc, ◌+◌, ◌≡◌, ◌<◌, ◌≤◌, ◌==◌, Bool, true, false, List, [], ◌∷◌, ◌++◌, map, drop, length, get_or, slice_get, Option, None, Some, is_some, refl, sym, subst, ap, arith, ◌∙◌}
+use Rattle.std.specs.Prelude.{flat_map, if◌then◌else◌}
 use Rattle.std.specs.List.{AllByRecursion}
 use Rattle.std.proofs.lemmas.Bool.{eqb-true}
 use Rattle.std.proofs.lemmas.Bool.Decides.{nat_tests}
@@ -16,30 +16,30 @@ use Rattle.dft_netlist.specs.declared.ids.NetId.{NetId}
 use Rattle.dft_netlist.specs.declared.ids.InstanceId.{InstanceId}
 use Rattle.dft_netlist.specs.declared.port.Port.{Port}
 use Rattle.dft_netlist.specs.Connections.{is_input}
-use Rattle.dft_netlist.specs.Drivers.{driver}
-use Rattle.dft_netlist.specs.Logic.{Logic, flip_flop}
+use Rattle.dft_netlist.specs.Drivers.{IsOrdered, driver}
+use Rattle.dft_netlist.specs.Logic.{IsRanked, Logic, flip_flop}
 use Rattle.dft_netlist.specs.Netlist.{Netlist}
 use Rattle.dft_netlist.specs.NetNumbers.{nets_from}
 use Rattle.dft_netlist.specs.Runs.{Vector}
+use Rattle.dft_netlist.specs.Settled.{IsTriSettled}
 use Rattle.dft_netlist.specs.Sound.{IsNetlist, bit_names_of, bits_of}
 use Rattle.dft_netlist.proofs.LiveLemmas.{length-bits}
 use Rattle.dft_netlist.proofs.Ranks.{order_is_rank}
-use Rattle.dft_abstract.specs.Cycle.{after_halves, tri_forced_by}
+use Rattle.dft_abstract.specs.Cycle.{AreHalves, after_halves, strobe_sources, tri_forced_by}
 use Rattle.dft_abstract.specs.Laws.{next_from}
 use Rattle.dft_config.specs.Config.{Config}
 use Rattle.dft_stitch.specs.Chains.{plan_of}
 use Rattle.dft_chains.specs.ScanOff.{Places}
-use Rattle.dft_edt.specs.Captures.{IsCaptured, StandsOver}
+use Rattle.dft_edt.specs.Captures.{Covers, IsCaptured, StandsOver}
 use Rattle.dft_edt.proofs.Captures.{capture_law, strobe_law}
 use Rattle.dft_cubes.specs.declared.cube.Merged.{Merged}
 use Rattle.dft_expect.specs.Loaded.{bit_of_cell, loaded_values, or_unknown}
-use Rattle.dft_expect.specs.Captures.{Settled, after_edges, bits_out, capture_vector, config_ports, next_state, original, output_bits}
-use Rattle.dft_expect.specs.Capturing.{cells_in}
+use Rattle.dft_expect.specs.Captures.{AllSettled, AreSettled, Settled, after_edges, bits_out, capture_vectors, captured_domains, config_ports, is_chained, last_state, next_state, original, output_bits, outputs_before, vector_of}
+use Rattle.dft_expect.specs.Capturing.{CanCapture, cells_in}
 use Rattle.dft_expect.proofs.GivenLemmas.{number_modelled}
-use Rattle.dft_expect.proofs.VectorLemmas.{IsOneVector, chained, one_vector}
 use Rattle.dft_scan_behavior.proofs.ClockFree.{clock_free, inputs_clear, is_clear}
-use Rattle.dft_pattern_behavior.specs.Statements.{AreLoaded, CapturesStandOver, IsCaptureVector, value_in}
-use Rattle.dft_pattern_behavior.proofs.Edges.{captured_same, risen_above}
+use Rattle.dft_pattern_behavior.specs.Statements.{AreCaptureVectors, AreLoaded, ArePlacesOf, AreSteps, CapturesStandOver, IsCaptureVector, OutputsStand, Step, after_steps, value_in}
+use Rattle.dft_pattern_behavior.proofs.Edges.{captured_same, risen_above, unchained_next, unknown_by}
 use Rattle.dft_pattern_behavior.proofs.Inputs.{data_above, data_next, data_settled, data_stays, data_vector}
 
 -- ---- the loaded bits
@@ -68,13 +68,6 @@ over_by n config loaded old c (Some bit) are is =
 
 loaded_over : (n : Netlist) (config : Config) (loaded : List Bool) (old : ℕ → Tri) (c : ℕ) → AreLoaded n config loaded old → AboveTri (loaded_values (plan_of n config).chains loaded c) (old c)
 loaded_over n config loaded old c are = over_by n config loaded old c (bit_of_cell (cells_in n config) loaded c) are refl
-
-stands_over : (n : Netlist) (config : Config) (merged : Merged) (loaded : List Bool) (p : Places) (x : Vector) (old : ℕ → Tri) → IsCaptureVector n config merged p x → AreLoaded n config loaded old
-    → StandsOver p (data_vector n config merged) x (loaded_values (plan_of n config).chains loaded) old
-stands_over n config merged loaded p x old vector are = record {
-  ports = λ net less. data_above (is_input (driver n net)) ((config_ports n config).is_clock net) ((capture_vector n config merged).ports net) (x.ports (p.moved net)) (λ input own. vector.ports net less input own);
-  flops = λ cell is. loaded_over n config loaded old cell are;
-}
 
 -- ---- the bits of output ports are nets
 
@@ -128,35 +121,127 @@ map_at f (y ∷ xs) (suc k) x at = map_at f xs k x at
 value_at : {A : Type 0} (f : A → Tri) (values : List Tri) (xs : List A) (k : ℕ) (x : A) → values ≡ map f xs → slice_get xs k ≡ Some x → value_in values k ≡ f x
 value_at f values xs k x is at = ap (λ (l : List Tri). value_in l k) is ∙ map_at f xs k x at
 
--- ---- a capture
+-- the first of some values and others, by number
+front_value : (f : NetId → Tri) (xs : List NetId) (more : List Tri) (k : ℕ) (x : NetId) → slice_get xs k ≡ Some x → value_in (map f xs ++ more) k ≡ f x
+front_value f [] more k x at = absurd (none-some x at)
+front_value f (y ∷ xs) more zero x at = ap f (same_Some y x at)
+front_value f (y ∷ xs) more (suc k) x at = front_value f xs more k x at
+
+drop_map : (f : NetId → Tri) (xs : List NetId) (more : List Tri) → drop (length xs) (map f xs ++ more) ≡ more
+drop_map f [] more = refl
+drop_map f (x ∷ xs) more = drop_map f xs more
+
+-- ---- one capture vector
+
+-- no more is known of the flip-flops than what they have, and nothing of those that are no cells of the chains
+record IsOver (n : Netlist) (config : Config) (p : Places) (its old : ℕ → Tri) : Type 0 where
+  above : (cell : ℕ) → p.is_flop cell ≡ true → AboveTri (its cell) (old cell)
+  unknown : (cell : ℕ) → is_chained (plan_of n config).chains cell ≡ false → its cell ≡ Unknown
+
+module _ (n : Netlist) (rank : ℕ → ℕ) (config : Config) (merged : Merged) (written : Logic) (p : Places) (domain : ℕ) (x : Vector) (old its : ℕ → Tri) (s : Settled) (step : Step) (can : CanCapture n config) (ordered : IsOrdered n rank)
+    (covers : Covers (original n config) written p) (places : ArePlacesOf n config p) (vector : IsCaptureVector n config merged p domain x) (are : AreSettled (original n config) (plan_of n config).chains (vector_of n config merged domain) its s) (over_old : IsOver n config p its old)
+    (shown : IsTriSettled written (strobe_sources written x old step.shows) step.shows) (halves : AreHalves written x old step.halves) where
+  abbrev l : Logic
+  l = original n config
+
+  abbrev chains : List (List InstanceId)
+  chains = (plan_of n config).chains
+
+  abbrev y : Vector
+  y = data_vector n config merged domain
+
+  abbrev clock : NetId
+  clock = vector.clock
+
+  abbrev new : ℕ → Tri
+  new = after_halves written x old step.halves
+
+  ranked : IsRanked l rank
+  ranked = order_is_rank n (config_ports n config) rank ordered
+
+  over : StandsOver p y x its old
+  over = record {
+    ports = λ net less. data_above (is_input (driver n net)) ((config_ports n config).is_clock net) ((vector_of n config merged domain).ports net) (x.ports (p.moved net)) (λ input own. vector.ports net less input own);
+    flops = over_old.above;
+  }
+
+  settled_over : IsTriSettled l (strobe_sources l y its s.first) s.first
+  settled_over = data_settled n config merged domain its s.first can.range are.first
+
+  next : (values : ℕ → Tri) (cell : ℕ) → next_from l y values cell ≡ next_from l (vector_of n config merged domain) values cell
+  next values cell = data_next n config merged domain values cell can.range
+
+  idle : (cell : ℕ) (t : Tri) → tri_forced_by (l.cell cell).force y.ports t ≡ t
+  idle cell t = data_stays n config merged domain cell t can.range
+
+  abbrev risen : ℕ → Tri
+  risen = after_edges l chains (vector_of n config merged domain) true s.first its
+
+  caught : IsCaptured l clock.0 y its risen s.first s.second
+  caught = record {
+    first = settled_over;
+    above = risen_above n config chains merged domain clock vector.captures y next idle s.first its over_old.unknown;
+    second = data_settled n config merged domain risen s.second can.range are.second;
+  }
+
+  next_by : (cell : ℕ) (b : Bool) → is_chained chains cell ≡ b → p.is_flop cell ≡ true → AboveTri (next_state l chains (vector_of n config merged domain) its s cell) (new cell)
+  next_by cell true is flop =
+      let modelled : is_some (flip_flop n (config_ports n config) cell) ≡ true = sym (places.flops cell) ∙ flop in
+      let law = capture_law l written rank p clock.0 y x its risen old step.halves s.first s.second (is_clear n config) ranked covers (clock_free n config rank ordered can.netlist can.library can.passed) vector.pulses over caught halves cell flop
+      (λ falls. inputs_clear n config rank ordered can.netlist can.library can.passed cell modelled) in
+      subst (λ (t : Tri). AboveTri t (new cell)) (sym (captured_same n config chains merged domain clock vector.captures y next idle s its cell is)) law
+  next_by cell false is flop = subst (λ (t : Tri). AboveTri t (new cell)) (sym (unchained_next l chains (vector_of n config merged domain) s its cell is ∙ over_old.unknown cell is)) tt
+
+  over_next : IsOver n config p (next_state l chains (vector_of n config merged domain) its s) new
+  over_next = record {
+    above = λ cell flop. next_by cell (is_chained chains cell) refl flop;
+    unknown = λ cell apart. unchained_next l chains (vector_of n config merged domain) s its cell apart ∙ over_old.unknown cell apart;
+  }
+
+  shows_own : (more : List Tri) (number : ℕ) (net : NetId) → slice_get (output_bits n.ports) number ≡ Some net → AboveTri (value_in (outputs_before n s ++ more) number) (step.shows (p.moved net.0))
+  shows_own more number net at =
+      subst (λ (t : Tri). AboveTri t (step.shows (p.moved net.0))) (sym (front_value (λ (k : NetId). s.first k.0) (output_bits n.ports) more number net at))
+      (strobe_law l written rank p y x its old s.first step.shows ranked covers over settled_over shown net.0 (subst (λ (k : ℕ). net.0 < k) (sym places.size) (output_live n number net can.netlist at)))
+
+-- ---- one after another
+
+record AllOver (n : Netlist) (config : Config) (merged : Merged) (written : Logic) (p : Places) (domains : List ℕ) (xs : List Vector) (old its : ℕ → Tri) (settled : List Settled) (steps : List Step) : Type 0 where
+  shows : OutputsStand n p (flat_map (outputs_before n) settled) steps
+  over : IsOver n config p (last_state (original n config) (plan_of n config).chains (map (vector_of n config merged) domains) its settled) (after_steps written old xs steps)
+
+all_over : (n : Netlist) (rank : ℕ → ℕ) (config : Config) (merged : Merged) (written : Logic) (p : Places) (domains : List ℕ) (xs : List Vector) (old its : ℕ → Tri) (settled : List Settled) (steps : List Step) → CanCapture n config → IsOrdered n rank →
+    Covers (original n config) written p → ArePlacesOf n config p → AreCaptureVectors n config merged p domains xs → AllSettled (original n config) (plan_of n config).chains (map (vector_of n config merged) domains) its settled → IsOver n config p its old →
+    AreSteps written old xs steps → AllOver n config merged written p domains xs old its settled steps
+all_over n rank config merged written p [] [] old its [] [] can ordered covers places vectors are over taken = record { shows = tt; over = over }
+all_over n rank config merged written p [] [] old its [] (t ∷ steps) can ordered covers places vectors are over taken = absurd taken
+all_over n rank config merged written p [] [] old its (s ∷ settled) steps can ordered covers places vectors are over taken = absurd are
+all_over n rank config merged written p [] (x ∷ xs) old its settled steps can ordered covers places vectors are over taken = absurd vectors
+all_over n rank config merged written p (d ∷ domains) [] old its settled steps can ordered covers places vectors are over taken = absurd vectors
+all_over n rank config merged written p (d ∷ domains) (x ∷ xs) old its [] steps can ordered covers places vectors are over taken = absurd are
+all_over n rank config merged written p (d ∷ domains) (x ∷ xs) old its (s ∷ settled) [] can ordered covers places vectors are over taken = absurd taken
+all_over n rank config merged written p (d ∷ domains) (x ∷ xs) old its (s ∷ settled) (t ∷ steps) can ordered covers places vectors are over taken =
+    let more : List Tri = flat_map (outputs_before n) settled in
+    let after = over_next n rank config merged written p d x old its s t can ordered covers places vectors.0 are.0 over taken.0 taken.1 in
+    let rest =
+    all_over n rank config merged written p domains xs (after_halves written x old t.halves) (next_state (original n config) (plan_of n config).chains (vector_of n config merged d) its s) settled steps can ordered covers places vectors.1 are.1 after taken.2 in
+    record {
+      shows = (
+        shows_own n rank config merged written p d x old its s t can ordered covers places vectors.0 are.0 over taken.0 taken.1 more,
+        subst (λ (os : List Tri). OutputsStand n p os steps) (sym (drop_map (λ (k : NetId). s.first k.0) (output_bits n.ports) more)) rest.shows,
+      );
+      over = rest.over;
+    }
 
 pub stand_over : CapturesStandOver
-stand_over n rank config merged loaded r written p x old can ordered captured covers places vector are =
+stand_over n rank config merged loaded r written p xs old steps can ordered captured covers places vectors are taken =
     let l : Logic = original n config in
     let chains : List (List InstanceId) = (plan_of n config).chains in
-    let y : Vector = data_vector n config merged in
     let its : ℕ → Tri = loaded_values chains loaded in
-    let one : IsOneVector n config chains merged loaded r = one_vector n config chains merged loaded r captured in
-    let s : Settled = one.step in
-    let clock : NetId = vector.clock in
-    let ranked = order_is_rank n (config_ports n config) rank ordered in
-    let over : StandsOver p y x its old = stands_over n config merged loaded p x old vector are in
-    let settled_over = data_settled n config merged its s.first can.range one.are.first in
-    let next : (values : ℕ → Tri) (cell : ℕ) → next_from l y values cell ≡ next_from l (capture_vector n config merged) values cell = λ values cell. data_next n config merged values cell can.range in
-    let idle : (cell : ℕ) (t : Tri) → tri_forced_by (l.cell cell).force y.ports t ≡ t = λ cell t. data_stays n config merged cell t can.range in
-    let risen : ℕ → Tri = after_edges l chains (capture_vector n config merged) true s.first its in
-    let caught : IsCaptured l clock.0 y its risen s.first s.second = record {
-      first = settled_over;
-      above = risen_above n config chains merged clock vector.captures y next idle s.first loaded;
-      second = data_settled n config merged risen s.second can.range one.are.second;
-    } in (
-      λ shows settled number net at. subst (λ (t : Tri). AboveTri t (shows (p.moved net.0))) (sym (value_at (λ (k : NetId). s.first k.0) r.outputs (output_bits n.ports) number net one.outputs at))
-          (strobe_law l written rank p y x its old s.first shows ranked covers over settled_over settled net.0 (subst (λ (k : ℕ). net.0 < k) (sym places.size) (output_live n number net can.netlist at))),
-      λ h halves number cell at. (
+    let over : IsOver n config p its old = record { above = λ cell flop. loaded_over n config loaded old cell are; unknown = λ cell apart. unknown_by chains loaded cell apart } in
+    let all = all_over n rank config merged written p (captured_domains merged) xs old its captured.settled steps can ordered covers places vectors captured.are over taken in (
+      subst (λ (os : List Tri). OutputsStand n p os steps) (sym captured.outputs) all.shows,
+      λ number cell at. (
           let modelled : is_some (flip_flop n (config_ports n config) cell.0) ≡ true = ap is_some (number_modelled n config number cell.0 can at).flop in
-          let law = capture_law l written rank p clock.0 y x its risen old h s.first s.second (is_clear n config) ranked covers (clock_free n config rank ordered can.netlist can.library can.passed) vector.pulses over caught halves cell.0
-          (places.flops cell.0 ∙ modelled) (λ falls. inputs_clear n config rank ordered can.netlist can.library can.passed cell.0 modelled) in
-          subst (λ (t : Tri). AboveTri t (after_halves written x old h cell.0))
-          (sym (value_at (λ (c : InstanceId). next_state l chains (capture_vector n config merged) its s c.0) r.cells (cells_in n config) number cell one.cells at
-          ∙ captured_same n config chains merged clock vector.captures y next idle s its cell.0 (chained (cells_in n config) number cell.0 at))) law),
+          subst (λ (t : Tri). AboveTri t (after_steps written old xs steps cell.0))
+          (sym (value_at (λ (c : InstanceId). last_state l chains (capture_vectors n config merged) its captured.settled c.0) r.cells (cells_in n config) number cell captured.cells at)) (all.over.above cell.0 (places.flops cell.0 ∙ modelled))),
     )

@@ -28,11 +28,11 @@ ArePatterns n config (p ∷ ps) = IsPattern n config (pattern_of config p) × Ar
 -- the vectors of patterns that are played and of the last load, and their rounds
 abbrev pub vectors_in : List Played → LastLoad → List Vector
 vectors_in [] end = end.load
-vectors_in (p ∷ more) end = p.load ++ (p.capture ∷ vectors_in more end)
+vectors_in (p ∷ more) end = p.load ++ (p.captures ++ vectors_in more end)
 
 abbrev pub rounds_in : List Played → LastLoad → List Round
 rounds_in [] end = end.rounds
-rounds_in (p ∷ more) end = p.rounds ++ (p.round ∷ rounds_in more end)
+rounds_in (p ∷ more) end = p.rounds ++ (p.capturing ++ rounds_in more end)
 
 -- these vectors and rounds are those of a set-up vector and of these patterns, which are shown
 pub record ListShown (n : Netlist) (config : Config) (ps : List PatternData) (xs : List Vector) (rs : List Round) : Type 0 where

@@ -1,5 +1,5 @@
 -- What the abstract cycle shows while patterns are loaded, capture and are unloaded (Rajski and others, 2004).
-use Rattle.std.specs.Prelude.{ℕ, ◌<◌, ◌≡◌, List, [], ◌∷◌, length, Option, None, Some, slice_get}
+use Rattle.std.specs.Prelude.{ℕ, ◌<◌, ◌≡◌, List, [], ◌∷◌, drop, length, Option, None, Some, slice_get}
 use Rattle.dft_base.specs.declared.tri.Tri.{Tri}
 use Rattle.dft_base.specs.Tri.{known, AboveTri}
 use Rattle.dft_netlist.specs.declared.ids.NetId.{NetId}
@@ -23,7 +23,7 @@ use Rattle.dft_scan_equivalence.specs.Agreeing.{places_in}
 use Rattle.dft_scan_behavior.specs.EdtVectors.{SuitsEdt, edt_logic}
 use Rattle.dft_scan_behavior.specs.Experiments.{Carry}
 use Rattle.dft_scan_behavior.specs.Facts.{edt_hardware}
-use Rattle.dft_pattern_behavior.specs.Given.{Pattern, IsPattern, IsLoadOf, IsCaptureOf}
+use Rattle.dft_pattern_behavior.specs.Given.{AreCapturesOf, Pattern, IsPattern, IsLoadOf}
 
 -- ---- what is shown
 
@@ -38,36 +38,41 @@ abbrev pub ShowsBefore : Netlist → Config → Option Pattern → (running : Ta
 ShowsBefore n config None running rs = Unit {0}
 ShowsBefore n config (Some p) running rs = ShowsUnload n config p running rs
 
--- at the capture each output port of the design shows no other value than the captured one, where that is known
-abbrev pub ShowsCapture : Netlist → Config → Pattern → Round → Type 0
-ShowsCapture n config p r =
-    (k : ℕ) (net : NetId) (value : Tri) → slice_get (output_bits n.ports) k ≡ Some net → slice_get p.response.outputs k ≡ Some value → AboveTri value (r.strobe ((places_in Edt n config).moved net.0))
+-- at a capture vector each output port of the design shows no other value than the captured one, where that is known
+abbrev pub ShowsCapture : Netlist → Config → (outputs : List Tri) → Round → Type 0
+ShowsCapture n config outputs r =
+    (k : ℕ) (net : NetId) (value : Tri) → slice_get (output_bits n.ports) k ≡ Some net → slice_get outputs k ≡ Some value → AboveTri value (r.strobe ((places_in Edt n config).moved net.0))
+
+-- so it is at each of a pattern's capture vectors, each with its own of the captured values
+abbrev pub ShowsCaptures : Netlist → Config → (outputs : List Tri) → List Round → Type 0
+ShowsCaptures n config outputs [] = Unit {0}
+ShowsCaptures n config outputs (r ∷ rs) = ShowsCapture n config outputs r × ShowsCaptures n config (drop (length (output_bits n.ports)) outputs) rs
 
 -- ---- one pattern
 
--- Behind a clearing vector the load of a pattern, and its capture, show this; and whatever load comes next shows what was captured.
-pub record LoadShown (n : Netlist) (config : Config) (ports : Ports) (p : Pattern) (old : ℕ → Tri) (load : List Vector) (capture : Vector) (rs : List Round) (r : Round) : Type 0 where
-  pub captures : ShowsCapture n config p r
-  pub unloads : (running : Table) (xs : List Vector) (qs : List Round) → Carry n config running xs → AreRounds (edt_logic n config ports) (after_round (edt_logic n config ports) capture (after_rounds (edt_logic n config ports) old load rs) r) xs qs →
+-- Behind a clearing vector the load of a pattern, and its captures, show this; and whatever load comes next shows what was captured.
+pub record LoadShown (n : Netlist) (config : Config) (ports : Ports) (p : Pattern) (old : ℕ → Tri) (load caught : List Vector) (rs ts : List Round) : Type 0 where
+  pub captures : ShowsCaptures n config p.response.outputs ts
+  pub unloads : (running : Table) (xs : List Vector) (qs : List Round) → Carry n config running xs → AreRounds (edt_logic n config ports) (after_rounds (edt_logic n config ports) (after_rounds (edt_logic n config ports) old load rs) caught ts) xs qs →
       ShowsUnload n config p running qs
 
 abbrev pub LoadsShow : Type 0
 LoadsShow =
-    (n : Netlist) (config : Config) (ports : Ports) (p : Pattern) (clear : Vector) (before : ℕ → Tri) (c : Round) (load : List Vector) (capture : Vector) (rs : List Round) (r : Round) →
+    (n : Netlist) (config : Config) (ports : Ports) (p : Pattern) (clear : Vector) (before : ℕ → Tri) (c : Round) (load captures : List Vector) (rs ts : List Round) →
     let l = edt_logic n config ports in
     let old = after_round l clear before c in
     IsReady n config → SuitsEdt n config ports → IsPattern n config p → IsClearing (edt_hardware n config) clear → IsRound l clear before c →
-    IsLoadOf n config p load → IsCaptureOf n config p capture → AreRounds l old load rs → IsRound l capture (after_rounds l old load rs) r → LoadShown n config ports p old load capture rs r
+    IsLoadOf n config p load → AreCapturesOf n config p captures → AreRounds l old load rs → AreRounds l (after_rounds l old load rs) captures ts → LoadShown n config ports p old load captures rs ts
 
 -- ---- one pattern after another
 
--- a pattern with its vectors and their rounds
+-- a pattern with its load and its captures, and their rounds
 pub record Played : Type 0 where
   pub pattern : Pattern
   pub load : List Vector
-  pub capture : Vector
+  pub captures : List Vector
   pub rounds : List Round
-  pub round : Round
+  pub capturing : List Round
 
 -- the last load, which unloads the last pattern
 pub record LastLoad : Type 0 where
@@ -81,13 +86,13 @@ ArePlayed n config ports old [] end = Carry n config end.table end.load × AreRo
 ArePlayed n config ports old (p ∷ more) end =
     let l = edt_logic n config ports in
     let loaded = after_rounds l old p.load p.rounds in
-    IsPattern n config p.pattern × IsLoadOf n config p.pattern p.load × IsCaptureOf n config p.pattern p.capture × AreRounds l old p.load p.rounds × IsRound l p.capture loaded p.round
-    × ArePlayed n config ports (after_round l p.capture loaded p.round) more end
+    IsPattern n config p.pattern × IsLoadOf n config p.pattern p.load × AreCapturesOf n config p.pattern p.captures × AreRounds l old p.load p.rounds × AreRounds l loaded p.captures p.capturing
+    × ArePlayed n config ports (after_rounds l loaded p.captures p.capturing) more end
 
 -- each load shows what the pattern before it captured, and each capture what it knows
 abbrev pub AreShown : Netlist → Config → (before : Option Pattern) → List Played → LastLoad → Type 0
 AreShown n config before [] end = ShowsBefore n config before end.table end.rounds
-AreShown n config before (p ∷ more) end = ShowsBefore n config before p.pattern.table p.rounds × ShowsCapture n config p.pattern p.round × AreShown n config (Some p.pattern) more end
+AreShown n config before (p ∷ more) end = ShowsBefore n config before p.pattern.table p.rounds × ShowsCaptures n config p.pattern.response.outputs p.capturing × AreShown n config (Some p.pattern) more end
 
 -- Behind a set-up vector that clears, patterns that are played show what is expected of them, in every load and at every capture.
 abbrev pub PatternsShow : Type 0

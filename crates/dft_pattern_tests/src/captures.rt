@@ -177,7 +177,7 @@ pub(crate) fn push_values(line: &mut String, values: &[Tri]) -> Result<(), Alloc
 // What a pattern sets, which a cube says.
 fn merged_of(alloc: Global, cube: &Cube) -> Result<Merged, AllocError> {
     Ok(Merged {
-        domain: cube.domain,
+        domains: cube.domains,
         cells: Listed::from_vec(Vec::from_slice(alloc, cube.cells.as_slice())?),
         ports: Listed::from_vec(Vec::from_slice(alloc, cube.ports.as_slice())?),
     })

@@ -6,7 +6,7 @@ ghost use Rattle.dft_stitch.specs.Chains.{plan_of};
 
 use crate::captures::{all_merged, push_values};
 use crate::lines::{Job, Texts, Told, line_for};
-use crate::texts::{WIDE, wide_patterns};
+use crate::texts::{WIDE, mixed_patterns, wide_patterns};
 use dft_cubes::Merged;
 use dft_expect::{Capturer, Pattern, Response};
 use dft_text_tests::ring_of_forty;
@@ -134,5 +134,21 @@ fn groups_capture_as_their_patterns_one_by_one(rt: HostRuntime) -> Result<(), Fa
     let line = line_for(rt.alloc(), &texts, Told::Groups)?;
     // forty cells and five outputs, with two blanks
     assert_eq!(rt; line.as_str(), "24111 alike");
+    Ok(())
+}
+
+// Of eleven patterns by turns the second, fourth and so on capture in two vectors.
+#[test]
+fn groups_of_one_capture_and_two_do_so(rt: HostRuntime) -> Result<(), Fail> {
+    let netlist = ring_of_forty(rt.alloc())?;
+    let cubes = mixed_patterns(rt.alloc())?;
+    let texts = Texts {
+        netlist: netlist.as_str(),
+        config: WIDE,
+        cubes: cubes.as_str(),
+    };
+    let line = line_for(rt.alloc(), &texts, Told::Groups)?;
+    // 233 of them have five outputs more
+    assert_eq!(rt; line.as_str(), "25276 alike");
     Ok(())
 }

@@ -20,14 +20,15 @@ pub(crate) const ON_CLK: &str = "version = 1\ndomains = ['clk']\nwarm = 2\nwindo
 pub(crate) const WIDE: &str =
     "version = 1\ndomains = ['clk']\nresets = ['rst_n']\nchains = 8\nwarm = 8\nwindow = 16\nring = { stages = 8, channels = 2, taps = [[2, 5]], injectors = [[0, 7], [1, 3]], phase = [[7], [3], [1, 7], [3, 6], [0, 7], [2, 3], [0, 5, 7], [1, 3]] }\ncompactor = { groups = [[0, 2, 4, 6], [1, 3, 5, 7]], mask_inputs = 1 }\n";
 
-// A cube that gives four cells the digits of a number, lowest first, and a port where it is to.
+// A cube of these clocks that gives four cells the digits of a number, lowest first, and a port where it is to.
 fn push_number(
     alloc: Global,
     text: &mut String,
     number: u32,
+    clocks: &str,
     port: &str,
 ) -> Result<(), AllocError> {
-    text.push_str(&format!(in alloc; "cube k{number} clk\n")?)?;
+    text.push_str(&format!(in alloc; "cube k{number} {clocks}\n")?)?;
     for cell in 0..4u32 {
         let digit = number >> cell & 1;
         text.push_str(&format!(in alloc; "cell r_reg[{cell}] {digit}\n")?)?;
@@ -40,7 +41,7 @@ fn push_number(
 pub(crate) fn wide_cubes(alloc: Global) -> Result<String, AllocError> {
     let mut text = String::new(alloc);
     for number in 0..11u32 {
-        push_number(alloc, &mut text, number, "")?;
+        push_number(alloc, &mut text, number, "clk", "")?;
     }
     text.push_str("cube k11 clk\nport en 1\nend\n")?;
     Ok(text)
@@ -51,7 +52,17 @@ pub(crate) fn wide_patterns(alloc: Global) -> Result<String, AllocError> {
     let mut text = String::new(alloc);
     for number in 0..11u32 {
         let port = if number == 0 { "port en 1\n" } else { "" };
-        push_number(alloc, &mut text, number, port)?;
+        push_number(alloc, &mut text, number, "clk", port)?;
+    }
+    Ok(text)
+}
+
+// The same, where every second one captures in two vectors.
+pub(crate) fn mixed_patterns(alloc: Global) -> Result<String, AllocError> {
+    let mut text = String::from_str(alloc, "version 2\n")?;
+    for number in 0..11u32 {
+        let clocks = if number & 1 == 0 { "clk" } else { "clk clk" };
+        push_number(alloc, &mut text, number, clocks, "")?;
     }
     Ok(text)
 }

@@ -14,6 +14,8 @@ mod falling;
 #[cfg(test)]
 mod hardware;
 #[cfg(test)]
+mod hierarchies;
+#[cfg(test)]
 mod large;
 #[cfg(test)]
 mod plans;

@@ -251,7 +251,7 @@ fn netlists_are_refused_by_the_first_fault(rt: HostRuntime) -> Result<(), Fail> 
 // A library, a netlist, and what is printed.
 static LIBRARIES: [(&str, &str, Status, &str); 5] = [
     (LIBRARY, OWN_CELL, Status::Done, PASS),
-    (LIBRARY, NETLIST, Status::Refused, "refused V4 1:43 DFF\n"),
+    (LIBRARY, NETLIST, Status::Refused, "refused H2 DFF\n"),
     (
         "[cells.NAND2]\nkind = 'nand'\ninputs = ['A', 'B']\noutput = 'Y'\n",
         NETLIST,

@@ -366,7 +366,7 @@ static WORDS: [(&str, Status, &str); 8] = [
     (
         "scan --netlist n --config c --out o --report r",
         Status::Refused,
-        "refused V4 1:43 FF\n",
+        "refused H2 FF\n",
     ),
     (
         "scan --netlist n --config c --out o --report o",

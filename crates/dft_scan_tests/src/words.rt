@@ -41,7 +41,7 @@ static REPLAYS: [(&str, &str, Status); 7] = [
     ("replay --patterns p --netlist=n", PASS, Status::Done),
     (
         "replay --library=l --patterns=p --netlist n",
-        "refused V4 1:43 DFF\n",
+        "refused H2 DFF\n",
         Status::Refused,
     ),
     ("replay --netlist - --patterns p", "", Status::ReadFault),

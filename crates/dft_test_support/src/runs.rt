@@ -24,6 +24,11 @@ impl Ended {
         }
         Ok(())
     }
+
+    /// Whether a file was refused.
+    pub fn is_refused(&self) -> bool {
+        self.status == Status::Refused && self.out.bytes().starts_with(b"refused ")
+    }
 }
 
 /// Whether a run of these words over files ends with this status, and prints this line.

@@ -16,7 +16,7 @@ static NETLIST: &[u8] =
 static CONFIG: &[u8] =
     b"version = 1\ndomains = ['clk']\nresets = ['rst']\nchains = 1\nwarm = 0\nwindow = 1\nring = { stages = 2, channels = 1, taps = [], injectors = [], phase = [[0]] }\ncompactor = { groups = [[0]], mask_inputs = 1 }\n";
 
-static CASES: [(&str, &str); 40] = [
+static CASES: [(&str, &str); 61] = [
     // a text, and its cubes with cells and ports by number, or its refusal
     ("", ""),
     ("cube k clk\nend\n", " k"),
@@ -35,7 +35,6 @@ static CASES: [(&str, &str); 40] = [
     ("cube k#1 clk\nend", " k#1"),
     ("cell f2 1\n", "Q1 1:1"),
     ("\nend\n", "Q1 2:1"),
-    ("version 1\n", "Q1 1:1"),
     ("cube k\n", "Q1 1:1"),
     ("cube k clk clk\n", "Q1 1:1"),
     ("cube k clk\nend#x\n", "Q1 2:1"),
@@ -70,6 +69,37 @@ static CASES: [(&str, &str); 40] = [
     ("cube k clk\nport clk 1\ncell zz 1\n", "Q8 2:1 clk"),
     ("cube k clk\ncell zz 1\nport clk 1\n", "Q2 2:1 zz"),
     ("cube k clk\nend\ncell f0 1\n", "Q1 3:1"),
+    ("version 1\n", ""),
+    ("version 2", ""),
+    (
+        "# x\n\n version 2 # x\ncube k clk clk\ncell f0 1\nend\ncube l clk\nend\n",
+        " k @0 c0=1 l",
+    ),
+    ("version 1\ncube k clk clk\n", "Q1 2:1"),
+    ("version 3\n", "Q1 1:1"),
+    ("version 01\n", "Q1 1:1"),
+    ("version\n", "Q1 1:1"),
+    ("version 2 2\n", "Q1 1:1"),
+    ("version 2\nversion 2\n", "Q1 2:1"),
+    ("cube k clk\nend\nversion 1\n", "Q1 3:1"),
+    ("version 2\ncube k clk\nversion 2\n", "Q1 3:1"),
+    ("version 2\ncube k clk clk clk\n", "Q1 2:1"),
+    ("version 2\ncube k clk clk\ncube l clk clk\n", "Q1 3:1"),
+    ("version 2\ncube k clk clk\ncell g 1\n", "Q2 3:1 g"),
+    ("version 2\ncube k clk clk\nport y 1\n", "Q3 3:1 y"),
+    ("version 2\ncube k a b\n", "Q4 2:1 a"),
+    ("version 2\ncube k clk b\n", "Q4 2:1 b"),
+    ("version 2\ncube k clk clk\nend\ncube k clk b\n", "Q4 4:1 b"),
+    (
+        "version 2\ncube k clk clk\nend\ncube k clk clk\n",
+        "Q5 4:1 k",
+    ),
+    (
+        "version 2\ncube k clk clk\ncell f2 1\ncell f2 0\n",
+        "Q6 4:1 f2",
+    ),
+    ("version 2\ncube k clk clk", "Q7 2:1"),
+    ("version 2\ncube k clk clk\nport clk 1\n", "Q8 3:1 clk"),
 ];
 
 fn push_name(line: &mut String, name: &Name) -> Result<(), AllocError> {
@@ -80,11 +110,14 @@ fn push_name(line: &mut String, name: &Name) -> Result<(), AllocError> {
     Ok(())
 }
 
-// The cubes, each with its cells and ports.
+// The cubes, each with its second clock, if there is one, its cells and ports.
 fn cubes_of(alloc: Global, cubes: &[Cube]) -> Result<String, AllocError> {
     let mut line = String::new(alloc);
     for cube in cubes {
         push_name(&mut line, &cube.name)?;
+        if let Some(second) = cube.domains.second {
+            line.push_str(&format!(in alloc; " @{second}")?)?;
+        }
         for (cell, bit) in cube.cells.as_slice() {
             let number = cell.0;
             let bit = u8::from(*bit);
@@ -168,6 +201,64 @@ fn cube_files_are_read_or_refused(rt: HostRuntime) -> Result<(), Fail> {
         let line = line_for(rt.alloc(), text.as_bytes())?;
         assert_eq!(rt; line.as_str(), *wanted, "{text}");
     }
+    Ok(())
+}
+
+// A cube file of version 2.
+const TWICE: &str = "version 2\ncube k clk clk\ncell f0 1\nend\n";
+
+// What its beginnings stand for, from the empty one on, so many one after another.
+static PREFIXES: [(u32, &str); 16] = [
+    (1, ""),
+    (8, "Q1 1:1"),
+    (2, ""),
+    (7, "Q1 2:1"),
+    (1, "Q4 2:1 c"),
+    (1, "Q4 2:1 cl"),
+    (2, "Q7 2:1"),
+    (1, "Q4 2:1 c"),
+    (1, "Q4 2:1 cl"),
+    (1, "Q7 2:1"),
+    (1, "Q7 3:1"),
+    (8, "Q1 3:1"),
+    (1, "Q7 3:1"),
+    (1, "Q7 4:1"),
+    (2, "Q1 4:1"),
+    (2, " k @0 c0=1"),
+];
+
+fn push_line(lines: &mut String, line: &str) -> Result<(), AllocError> {
+    lines.push_str(line)?;
+    lines.push(';')
+}
+
+// What each beginning stands for.
+fn lines_of_prefixes(alloc: Global) -> Result<String, AllocError> {
+    let mut lines = String::new(alloc);
+    let mut text = Vec::new(alloc);
+    push_line(&mut lines, line_for(alloc, &text)?.as_str())?;
+    for byte in TWICE.as_bytes() {
+        text.push(*byte)?;
+        push_line(&mut lines, line_for(alloc, &text)?.as_str())?;
+    }
+    Ok(lines)
+}
+
+fn wanted_of_prefixes(alloc: Global) -> Result<String, AllocError> {
+    let mut lines = String::new(alloc);
+    for (count, line) in &PREFIXES {
+        for _ in 0..*count {
+            push_line(&mut lines, *line)?;
+        }
+    }
+    Ok(lines)
+}
+
+#[test]
+fn each_prefix_of_a_cube_file_is_read_or_refused(rt: HostRuntime) -> Result<(), Fail> {
+    let lines = lines_of_prefixes(rt.alloc())?;
+    let wanted = wanted_of_prefixes(rt.alloc())?;
+    assert_eq!(rt; lines.as_str(), wanted.as_str());
     Ok(())
 }
 

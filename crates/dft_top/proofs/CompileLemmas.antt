@@ -47,7 +47,7 @@ first_told refused (compile.Memory error) refusal is told = absurd cc
 
 -- the text of the patterns is as long as was told before they were made
 same_refusal : (n : Netlist) (config : Config) (cubes : List Cube) (placing : Placing config (plan_of n config) cubes) (list : List PatternData) → IsInRange config → ArePatterns n config (plan_of n config) placing.rows placing.merged list →
-    refusal_of n config cubes placing list ≡ late_refusal n config cubes placing.rows placing.placed (length placing.merged)
+    refusal_of n config cubes placing list ≡ late_refusal n config cubes placing.rows placing.placed placing.merged
 same_refusal n config cubes placing list range are =
     ap (λ (bytes : ℕ). first_failing (option_map compile.Patterns (too_many bytes) ∷ option_map compile.Report (too_long (report_text n config placing.rows cubes placing.placed)) ∷ []))
     (bytes_told n config placing.rows placing.merged list range are)

@@ -16,9 +16,9 @@ use Rattle.dft_cells.specs.WellFormed.{has_name}
 use Rattle.dft_word_lines.specs.Lines.{are_printed, lines_of, onto_first, words_of}
 use Rattle.dft_cubes.specs.declared.cube.Cube.{Cube}
 use Rattle.dft_cubes.specs.declared.error.CubeError.{CubeError}
-use Rattle.dft_cubes.specs.declared.error.CubeError.TheVariants.{Q4, Q5, Q9}
+use Rattle.dft_cubes.specs.declared.error.CubeError.TheVariants.{Q1, Q4, Q5, Q9}
 use Rattle.dft_cubes.specs.declared.limits.TheConstants.{MAX_CUBES}
-use Rattle.dft_cubes.specs.Cubes.{Line, Begin, SetCell, SetPort, End, Reading, cubes_from, cubes_of, domain_named, ended, line_of, line_refusal, names_of, place_of_line, said_refusal, with_cell, with_line, with_port, with_said}
+use Rattle.dft_cubes.specs.Cubes.{Line, Version, Begin, BeginTwo, SetCell, SetPort, End, Reading, begin_refusal, begun, cubes_from, cubes_of, domain_named, ended, line_of, line_refusal, names_of, or_first, place_of_line, said_refusal, with_cell, with_line, with_port, with_said}
 use Rattle.dft_cubes.proofs.SoundLemmas.{printed_passes, ok_is, both_pass}
 use Rattle.dft_top.specs.declared.limits.TheConstants.{MAX_CUBE_BYTES}
 use Rattle.dft_top.specs.Checks.{AreFew}
@@ -84,31 +84,52 @@ third_fails false false false x y z e = refl
 
 -- ---- one line
 
-said_few : (m left : ℕ) (n : Netlist) (config : Config) (cubes : List Cube) (pending : Option Cube) (place : Place) (line : Option Line) → said_refusal n config cubes pending place line ≡ None →
-    Holds m (suc left) cubes pending → Holds m left (with_said n config cubes pending line).cubes (with_said n config cubes pending line).pending
-said_few m left n config cubes None place None passed holds = absurd (let f : ⊥ = cc in f)
-said_few m left n config cubes None place (Some (Begin name clock)) passed holds =
+-- a cube begins, which is not one too many
+begins_few : (m left : ℕ) (config : Config) (cubes : List Cube) (place : Place) (name clock first : Text) (second : Option ℕ) → begin_refusal config cubes place name clock ≡ None → Holds m (suc left) cubes None →
+    Holds m left cubes (Some (begun config name first second))
+begins_few m left config cubes place name clock first second passed holds =
     let more : nat_le MAX_CUBES (length cubes) ≡ false = third_fails (is_none (domain_named config clock)) (has_name (names_of cubes) name) (nat_le MAX_CUBES (length cubes)) (Q4 place clock) (Q5 place name) (Q9 place) passed in
     let less = leb-false MAX_CUBES (length cubes) more in
     record { given = holds.given; pending_few = omega (arith, holds.room); count = omega (arith, less); room = omega (arith, holds.room) }
-said_few m left n config cubes None place (Some (SetCell name bit)) passed holds = absurd (let f : ⊥ = cc in f)
-said_few m left n config cubes None place (Some (SetPort name bit)) passed holds = absurd (let f : ⊥ = cc in f)
-said_few m left n config cubes None place (Some End) passed holds = absurd (let f : ⊥ = cc in f)
-said_few m left n config cubes (Some cube) place None passed holds = absurd (let f : ⊥ = cc in f)
-said_few m left n config cubes (Some cube) place (Some (Begin name clock)) passed holds = absurd (let f : ⊥ = cc in f)
-said_few m left n config cubes (Some cube) place (Some (SetCell name bit)) passed holds = record {
+
+-- so it is where both clocks are tested
+second_passes : (a : Bool) (x : CubeError) (later : Option CubeError) → (if a then Some x else later) ≡ None → later ≡ None
+second_passes true x later e = absurd (let f : ⊥ = cc in f)
+second_passes false x later e = e
+
+begins_two : (m left : ℕ) (config : Config) (cubes : List Cube) (place : Place) (name clock second : Text) (b : Bool) →
+    (if b then (if is_none (domain_named config clock) then Some (Q4 place clock) else begin_refusal config cubes place name second) else Some (Q1 place)) ≡ None → Holds m (suc left) cubes None →
+    Holds m left cubes (Some (begun config name clock (domain_named config second)))
+begins_two m left config cubes place name clock second false passed holds = absurd (let f : ⊥ = cc in f)
+begins_two m left config cubes place name clock second true passed holds =
+    begins_few m left config cubes place name second clock (domain_named config second) (second_passes (is_none (domain_named config clock)) (Q4 place clock) (begin_refusal config cubes place name second) passed) holds
+
+said_few : (m left : ℕ) (n : Netlist) (config : Config) (version : Option ℕ) (cubes : List Cube) (pending : Option Cube) (place : Place) (line : Option Line) → said_refusal n config version cubes pending place line ≡ None →
+    Holds m (suc left) cubes pending → Holds m left (with_said n config version cubes pending line).cubes (with_said n config version cubes pending line).pending
+said_few m left n config version cubes None place None passed holds = absurd (let f : ⊥ = cc in f)
+said_few m left n config version cubes None place (Some (Version number)) passed holds = waits m left cubes None holds
+said_few m left n config version cubes None place (Some (Begin name clock)) passed holds = begins_few m left config cubes place name clock clock None passed holds
+said_few m left n config version cubes None place (Some (BeginTwo name clock second)) passed holds = begins_two m left config cubes place name clock second (or_first version == 2) passed holds
+said_few m left n config version cubes None place (Some (SetCell name bit)) passed holds = absurd (let f : ⊥ = cc in f)
+said_few m left n config version cubes None place (Some (SetPort name bit)) passed holds = absurd (let f : ⊥ = cc in f)
+said_few m left n config version cubes None place (Some End) passed holds = absurd (let f : ⊥ = cc in f)
+said_few m left n config version cubes (Some cube) place None passed holds = absurd (let f : ⊥ = cc in f)
+said_few m left n config version cubes (Some cube) place (Some (Version number)) passed holds = absurd (let f : ⊥ = cc in f)
+said_few m left n config version cubes (Some cube) place (Some (Begin name clock)) passed holds = absurd (let f : ⊥ = cc in f)
+said_few m left n config version cubes (Some cube) place (Some (BeginTwo name clock second)) passed holds = absurd (let f : ⊥ = cc in f)
+said_few m left n config version cubes (Some cube) place (Some (SetCell name bit)) passed holds = record {
   given = holds.given;
   pending_few = cell_left m left cube (flip_flop_named n name) bit holds.pending_few;
   count = holds.count;
   room = omega (arith, holds.room);
 }
-said_few m left n config cubes (Some cube) place (Some (SetPort name bit)) passed holds = record {
+said_few m left n config version cubes (Some cube) place (Some (SetPort name bit)) passed holds = record {
   given = holds.given;
   pending_few = port_left m left cube (input_net n name) bit holds.pending_few;
   count = holds.count;
   room = omega (arith, holds.room);
 }
-said_few m left n config cubes (Some cube) place (Some End) passed holds =
+said_few m left n config version cubes (Some cube) place (Some End) passed holds =
     let more = length-append cubes (cube ∷ []) in record {
       given = all_push (Few m) cubes cube holds.given (omega (arith, holds.pending_few));
       pending_few = tt;
@@ -119,7 +140,7 @@ said_few m left n config cubes (Some cube) place (Some End) passed holds =
 line_few : (m left : ℕ) (n : Netlist) (config : Config) (r : Reading) (place : Place) (words : List Text) → line_refusal n config r place words ≡ None →
     Holds m (suc left) r.cubes r.pending → Holds m left (with_line n config r words).cubes (with_line n config r words).pending
 line_few m left n config r place [] passed holds = waits m left r.cubes r.pending holds
-line_few m left n config r place (word ∷ words) passed holds = said_few m left n config r.cubes r.pending place (line_of (word ∷ words)) (printed_passes (are_printed (word ∷ words)) _ _ passed) holds
+line_few m left n config r place (word ∷ words) passed holds = said_few m left n config r.version r.cubes r.pending place (line_of (word ∷ words)) (printed_passes (are_printed (word ∷ words)) _ _ passed) holds
 
 -- ---- the text
 
@@ -145,7 +166,7 @@ below P Q (cube ∷ cubes) f all = (f cube all.0, below P Q cubes f all.1)
 pub cubes_few : (n : Netlist) (config : Config) (text : Text) (given : List Cube) → length text ≤ MAX_CUBE_BYTES → cubes_of n config text ≡ Ok given → AreFew given
 cubes_few n config text given short told =
     let lines = lines_of text in
-    let is = all_few (length lines) n config (record { cubes = []; pending = None }) 0 lines given told (record { given = tt; pending_few = tt; count = omega arith; room = omega arith }) in
+    let is = all_few (length lines) n config (record { version = None; cubes = []; pending = None }) 0 lines given told (record { given = tt; pending_few = tt; count = omega arith; room = omega arith }) in
     let few : length lines ≤ suc (length text) = lines_few text in
     let small : (cube : Cube) → Few (length lines) cube → length cube.cells < 2 ^ 32 = λ cube h. omega (arith, h, few, short) in
     record { count = omega (arith, is.count); cells = All-from_recursion (λ cube. length cube.cells < 2 ^ 32) given (below (Few (length lines)) (λ cube. length cube.cells < 2 ^ 32) given small is.cells) }

@@ -13,6 +13,10 @@ use Rattle.dft_netlist.specs.Orders.{IsOrder}
 use Rattle.dft_netlist.specs.Sound.{IsNetlist}
 use Rattle.dft_netlist.proofs.RankLemmas.{order_ranks}
 use Rattle.dft_netlist_text.specs.NetlistText.{StandsFor}
+use Rattle.dft_cells.specs.Cells.{find_cell}
+use Rattle.dft_hier.specs.Laws.{Gives}
+use Rattle.dft_hier.proofs.OneDesign.{gives_one}
+use Rattle.dft_hier.proofs.OneModule.{one_module_gives}
 use Rattle.dft_patterns.specs.Patterns.{Patterns, IsWellFormed}
 use Rattle.dft_stil_text.specs.declared.limits.TheConstants.{MAX_VECTORS}
 use Rattle.dft_stitch.specs.declared.error.StitchError.{StitchError}
@@ -22,6 +26,7 @@ use Rattle.dft_scan_frame.specs.declared.error.InsertError.{InsertError}
 use Rattle.dft_scan_frame.specs.Statements.{IsReady}
 use Rattle.dft_scan_hardware.specs.declared.style.Style.TheVariants.{Edt}
 use Rattle.dft_scan_hardware.specs.Statements.{scanned}
+use Rattle.dft_scan_hardware.proofs.Keeping.{keeps_design}
 use Rattle.dft_stil_tokens.specs.declared.blanks.TheConstants.{MAX_TEXT}
 use Rattle.dft_stil_text.specs.declared.error.StilError.{StilError}
 use Rattle.dft_stil_text.specs.PatternText as pattern
@@ -36,13 +41,15 @@ use Rattle.dft_cubes.specs.Cubes.{cubes_of}
 use Rattle.dft_cubes.specs.Laws.{AreCubes}
 use Rattle.dft_vectors.specs.PatternData.{PatternData}
 use Rattle.dft_encode.specs.Compiled.{ArePatterns, Placing}
+use Rattle.dft_cubes.specs.declared.cube.Merged.{Merged}
+use Rattle.dft_vectors.specs.VectorList.{captures_in}
 use Rattle.dft_encode.specs.Laws.{vectors_in}
 use Rattle.dft_compile.specs.declared.error.CompileError.TheVariants.{Insert, Patterns as TooManyPatterns, Report as TooLongReport, Rules, Stitch}
 use Rattle.dft_stitch.specs.Planning.{Planned}
 use Rattle.dft_compile.specs.declared.texts.Counts.{Counts}
 use Rattle.dft_compile.specs.Refusals.{first_failing, first_refusal, of_length, too_long, too_many}
 use Rattle.dft_compile.specs.Texts as compiled
-use Rattle.dft_compile.proofs.BytesLemmas.{bytes_told, list_count, vector_count}
+use Rattle.dft_compile.proofs.BytesLemmas.{bytes_told, vector_count}
 use Rattle.dft_compile_laws.specs.Holding.{CompilationsHold, HoldsOf, without_notes}
 use Rattle.dft_compile_laws.specs.Passing.{set_of}
 use Rattle.dft_compile_laws.specs.Written.{all_compared}
@@ -81,8 +88,9 @@ use Rattle.dft_top.proofs.Lengths.{late_short}
 use Rattle.dft_top.proofs.ManyVectors.{replay_many}
 use Rattle.dft_top.proofs.PassingFiles.{replay_read}
 use Rattle.dft_top.proofs.Promised.{are_cubes}
-use Rattle.dft_top.proofs.Readings.{accepted_or_refused, config_one, config_refused, cubes_refused, file_one, given_next, netlist_refused, ok_same, pattern_text_one, stands_one}
+use Rattle.dft_top.proofs.Readings.{accepted_or_refused, config_one, config_refused, cubes_refused, file_one, given_next, netlist_refused, ok_same, pattern_text_one}
 use Rattle.dft_top.proofs.Replays.{on_passes}
+use Rattle.dft_top.proofs.ScannedDesigns.{scanned_given}
 use Rattle.dft_top.proofs.Steps.{CompileOf, CompileOn, CompileOver, CompileWith}
 
 -- ---- steps that give one value and are not refused
@@ -105,8 +113,8 @@ file_only limit option text_gives text value short only = (λ other x. only.0 ot
 config_only : (text : List ℕ) (c : Config) → IsConfig text c → GivesOnly (ConfigText text) c
 config_only text c is = (λ other x. config_one text other c x.stands is, λ refusal x. config_refused text c refusal is x)
 
-netlist_only : (cells : List Cell) (text : List ℕ) (n : Netlist) → StandsFor cells text n → GivesOnly (NetlistText cells text) n
-netlist_only cells text n stands = (λ other x. stands_one cells text other n x.stands stands, λ refusal x. netlist_refused cells text n refusal stands x)
+netlist_only : (cells : List Cell) (text : List ℕ) (n : Netlist) → Gives cells text n → GivesOnly (NetlistText cells text) n
+netlist_only cells text n stands = (λ other x. gives_one cells text other n x.stands stands, λ refusal x. netlist_refused cells text n refusal stands x)
 
 cubes_only : (n : Netlist) (c : Config) (text : List ℕ) (given : List Cube) → cubes_of n c text ≡ Ok given → GivesOnly (CubeText n c text) given
 cubes_only n c text given read = (λ other x. ok_same (cubes_of n c text) other given x read, λ refusal x. cubes_refused n c text given refusal read x)
@@ -128,7 +136,7 @@ record IsRead (netlist config cubes : List ℕ) (n : Netlist) (c : Config) (give
   netlist_short : length netlist ≤ MAX_NETLIST_BYTES
   config_short : length config ≤ MAX_CONFIG_BYTES
   cubes_short : length cubes ≤ MAX_CUBE_BYTES
-  stands : StandsFor standard_cells netlist n
+  stands : Gives standard_cells netlist n
   settings : IsConfig config c
   accepted : first_refusal n c ≡ None
   read : cubes_of n c cubes ≡ Ok given
@@ -162,6 +170,7 @@ reached netlist config cubes n c given o r x =
 -- what keeps its limits, however the cubes are placed
 record IsWithin (n : Netlist) (c : Config) (given : List Cube) : Type 0 where
   library : n.library ≡ standard_cells
+  named : find_cell standard_cells n.name ≡ None
   netlist_short : length (compiled.netlist_text n c) ≤ MAX_NETLIST_BYTES
   not_many : (placing : Placing c (plan_of n c) given) (list : List PatternData) → IsInRange c → ArePatterns n c (plan_of n c) placing.rows placing.merged list → too_many (length (compiled.pattern_text n c list)) ≡ None
 
@@ -192,7 +201,8 @@ played n c given compilation o within r holds none x =
     let report : List ℕ = compiled.report_text n c u.placing.rows given u.placing.placed in
     let replayed : IsReplayedOf (Finished (Compiled counts netlist patterns report)) o = subst (λ end. IsReplayedOf end o) is.is x in
     let held : Held = made_held netlist patterns in
-    let stands : StandsFor standard_cells netlist w = subst (λ (cells : List Cell). StandsFor cells netlist w) within.library is.reads in
+    let stands : Gives standard_cells netlist w =
+    scanned_given Edt standard_cells netlist n c within.named (keeps_design Edt n c r.ready) (subst (λ (cells : List Cell). StandsFor cells netlist w) within.library is.reads) in
     let design : NetlistGives standard_cells (codes "netlist") held (Ok w) = (within.netlist_short, record { stands = stands; sound = r.sound; order = r.order; ordered = r.ordered }) in
     let well = (holds.formed is.few).well in (
       counts,
@@ -277,6 +287,10 @@ why hold n c given compilation o within r x bytes told (inr short) refusal is =
 first_none : (a : Option RuleError) (b : Option StitchError) (c : Option InsertError) → a ≡ None → b ≡ None → c ≡ None → first_failing (option_map Rules a ∷ option_map Stitch b ∷ option_map Insert c ∷ []) ≡ None
 first_none a b c p q r = rw (p, q, r) refl
 
+-- the name of a job's module is that of no cell
+job_named : find_cell standard_cells (codes "gen") ≡ None
+job_named = refl
+
 job_read : (seed size : ℕ) → IsSize size → IsRead (job_netlist size (words_of seed size)) job_configuration (job_cubes size (words_of seed size)) (design size (words_of seed size)) configuration (cubes_in size (words_of seed size))
 job_read seed size is =
     let words : List ℕ = words_of seed size in
@@ -290,7 +304,7 @@ job_read seed size is =
       netlist_short = omega (arith, netlist, high);
       config_short = omega (arith, config);
       cubes_short = omega (arith, cubes, high);
-      stands = netlists_are_read size words is;
+      stands = one_module_gives standard_cells (job_netlist size words) (design size words) (netlists_are_read size words is) job_named;
       settings = configuration_read;
       accepted = first_none _ _ _ passes.rules passes.plan passes.insertion;
       read = cubes_are_read size words is (seeds_give_words seed size);
@@ -302,6 +316,7 @@ job_within size words is =
     let most = is.high in
     record {
       library = refl;
+      named = job_named;
       netlist_short = (let short = scanned_are_short size words is in omega (arith, short, most));
       not_many = λ placing list range are.
           let bytes = bytes_told n configuration placing.rows placing.merged list range are in
@@ -310,10 +325,10 @@ job_within size words is =
 
 -- how many vectors a job's patterns have
 vectors_told : (size : ℕ) (words : List ℕ) (placing : Placing configuration (plan_of (design size words) configuration) (cubes_in size words)) (list : List PatternData) → ArePatterns (design size words) configuration (plan_of (design size words) configuration) placing.rows placing.merged list →
-    length (set_of (design size words) configuration list).vectors ≡ vectors_in (plan_of (design size words) configuration).cycles (length placing.merged)
+    length (set_of (design size words) configuration list).vectors ≡ vectors_in (plan_of (design size words) configuration).cycles (captures_in placing.merged)
 vectors_told size words placing list are =
     let n : Netlist = design size words in
-    vector_count n configuration placing.rows placing.merged list are ∙ ap (vectors_in (plan_of n configuration).cycles) (list_count n configuration placing.rows placing.merged list are)
+    vector_count n configuration placing.rows placing.merged list are ∙ ap (λ (merged : List Merged). vectors_in (plan_of n configuration).cycles (captures_in merged)) are.merged
 
 -- that it is so only above a size of 16,240
 large : (size : ℕ) (words : List ℕ) → IsSize size → (placing : Placing configuration (plan_of (design size words) configuration) (cubes_in size words)) (list : List PatternData) →

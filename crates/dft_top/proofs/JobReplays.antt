@@ -2,11 +2,13 @@
 use Rattle.std.proofs.Common.{◌≡◌, ◌∙◌, List, refl, ap, subst, ℕ}
 use Rattle.dft_cells.specs.declared.cell.Cell.{Cell}
 use Rattle.dft_cells.specs.Standard.{standard_cells}
-use Rattle.dft_netlist_text.specs.NetlistText.{StandsFor}
+use Rattle.dft_netlist.specs.Netlist.{Netlist}
+use Rattle.dft_hier.specs.Laws.{Gives}
 use Rattle.dft_stil_text.specs.PatternText as pattern
 use Rattle.dft_compile_laws.specs.Passing.{set_of}
 use Rattle.dft_scan_hardware.specs.declared.style.Style.TheVariants.{Edt}
 use Rattle.dft_scan_hardware.specs.Statements.{scanned}
+use Rattle.dft_scan_hardware.proofs.Keeping.{keeps_design}
 use Rattle.dft_compile_laws.specs.Holding.{CompilationsHold, without_notes}
 use Rattle.dft_compile.specs.declared.texts.Counts.{Counts}
 use Rattle.dft_compile.specs.Texts.{netlist_text, pattern_text}
@@ -20,6 +22,7 @@ use Rattle.dft_top.specs.Courses.{Reaches}
 use Rattle.dft_top.specs.Outcomes.{IsOutcomeOfJob, IsReplayedOf, course_of_compile, course_of_replay, generated, job_files, job_held, made_files, made_held}
 use Rattle.dft_top.proofs.Promised.{IsMade, made}
 use Rattle.dft_top.proofs.Replays.{IsAccepted, replay_passes}
+use Rattle.dft_top.proofs.ScannedDesigns.{loaded_named, scanned_given}
 
 -- a job that is not refused is done
 abbrev pub JobsPass : Type 0
@@ -34,8 +37,10 @@ made_done numbers counts netlist patterns report replay accepts m x =
     let list = m.list in
     let text : netlist_text n c ≡ netlist = (let e = m.is.is in cc) in
     let played : pattern_text n c list ≡ patterns = (let e = m.is.is in cc) in
-    let stands : StandsFor standard_cells netlist (scanned Edt n c) =
-    subst (λ (t : List ℕ). StandsFor standard_cells t (scanned Edt n c)) text (subst (λ (cells : List Cell). StandsFor cells (netlist_text n c) (scanned Edt n c)) m.library m.reads) in
+    let given : Gives m.cells (netlist_text n c) (scanned Edt n c) =
+    scanned_given Edt m.cells (netlist_text n c) n c (loaded_named m.cells job_files.netlist (job_held numbers) n m.design) (keeps_design Edt n c m.ready) m.reads in
+    let stands : Gives standard_cells netlist (scanned Edt n c) =
+    subst (λ (t : List ℕ). Gives standard_cells t (scanned Edt n c)) text (subst (λ (cells : List Cell). Gives cells (netlist_text n c) (scanned Edt n c)) m.library given) in
     let reads : pattern.StandsFor patterns (without_notes (set_of n c list)) = subst (λ (t : List ℕ). pattern.StandsFor t (without_notes (set_of n c list))) played (m.holds.reads m.is.few) in
     ap (λ (o : Outcome). status_of (generated counts o))
     (replay_passes made_files (made_held netlist patterns) standard_cells (scanned Edt n c) (without_notes (set_of n c list)) netlist patterns _ replay accepts refl refl refl stands reads m.holds.passes.verdict x)

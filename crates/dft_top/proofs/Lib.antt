@@ -1,7 +1,6 @@
 pub mod Following
 pub mod Steps
 pub mod SavesInTurn
-pub mod NetlistRefusals
 pub mod Readings
 pub mod CubeCounts
 pub mod CompiledOnce
@@ -12,6 +11,7 @@ pub mod JobLemmas
 pub mod OneOutcome
 pub mod PassingFiles
 pub mod Promised
+pub mod ScannedDesigns
 pub mod Kept
 pub mod Replays
 pub mod JobReplays

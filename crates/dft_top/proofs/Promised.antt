@@ -8,6 +8,7 @@ use Rattle.dft_netlist.specs.Netlist.{Netlist}
 use Rattle.dft_netlist.specs.Orders.{IsOrder}
 use Rattle.dft_netlist.specs.Sound.{IsNetlist}
 use Rattle.dft_netlist_text.specs.NetlistText.{StandsFor}
+use Rattle.dft_hier.proofs.OneModule.{given_are_over}
 use Rattle.dft_netlist.proofs.RankLemmas.{order_ranks}
 use Rattle.dft_patterns.specs.Patterns.{Patterns}
 use Rattle.dft_replay.specs.declared.verdict.Verdict.{Verdict}
@@ -45,7 +46,6 @@ use Rattle.dft_encode.specs.Compiled.{ArePatterns, Placing}
 use Rattle.dft_compile.specs.declared.error.CompileError.{CompileError}
 use Rattle.dft_compile.specs.Refusals.{first_refusal}
 use Rattle.dft_compile.specs.Texts as compiled
-use Rattle.dft_verilog_out.proofs.JoinedTexts.{library_kept}
 use Rattle.dft_command_line.specs.Words.{Command, Replay, Scan, Compile, Certify, ReplayFiles, ScanFiles, CompileFiles, CertifyFiles, AreFor}
 use Rattle.dft_command_line.proofs.Understood.{for_once}
 use Rattle.dft_answers.specs.declared.answer.Answer.{Answer}
@@ -149,7 +149,7 @@ scans files old new o done h saved =
       out = left.whole.0;
       report = left.whole.1.0;
       others = λ name a b. left.others name (differ files.out name (λ e. a (sym e)), (differ files.report name (λ e. b (sym e)), tt));
-      reads = subst (λ (cells : List Cell). StandsFor cells (netlist_text n c) (scanned Plain n c)) (library_kept x.0 design.0 n design.1.stands) done_scan.reads;
+      reads = subst (λ (cells : List Cell). StandsFor cells (netlist_text n c) (scanned Plain n c)) (given_are_over x.0 design.0 n design.1.stands).cells done_scan.reads;
       keeps = keeps_design Plain n c ready;
       adds = adds_in_order Plain n c;
       agrees = agrees_off Plain n c ready;
@@ -232,7 +232,7 @@ made hold files old o done h =
       are = u.1.1.are;
       late = placed.0;
       is = is;
-      reads = subst (λ (cells : List Cell). StandsFor cells (compiled.netlist_text n c) (scanned Edt n c)) (library_kept x.0 design.0 n design.1.stands) is.reads;
+      reads = subst (λ (cells : List Cell). StandsFor cells (compiled.netlist_text n c) (scanned Edt n c)) (given_are_over x.0 design.0 n design.1.stands).cells is.reads;
       holds = hold n c p.1.0.order cubes placing list p.1.0.ready p.1.0.sound p.1.0.ordered (are_cubes n c files.cubes old cubes u.1.0) u.1.1.are;
     }
 

@@ -13,17 +13,17 @@ use Rattle.dft_config.specs.declared.error.ConfigError.TheVariants as config
 use Rattle.dft_config.specs.Reading.{reading}
 use Rattle.dft_config.specs.Refusals.{IsConfig, TellsFault, told}
 use Rattle.dft_config.specs.Refusals as refusals
-use Rattle.dft_netlist.specs.declared.error.NetlistError.{NetlistError}
 use Rattle.dft_netlist.specs.declared.error.NetlistError.TheVariants as netlist
-use Rattle.dft_netlist.specs.Finishing.{CannotFinish}
-use Rattle.dft_netlist_text.specs.declared.text.Fault.{Fault}
-use Rattle.dft_netlist_text.specs.Modules.{Draft}
 use Rattle.dft_netlist.specs.Netlist.{Netlist}
-use Rattle.dft_netlist_text.specs.NetlistText.{StandsFor, module_of, built}
-use Rattle.dft_verilog.specs.declared.error.VerilogError.{VerilogError}
 use Rattle.dft_verilog.specs.declared.error.VerilogError.TheVariants as verilog
-use Rattle.dft_verilog.specs.Refusals.{IsFirstFault, IsUnfinished, IsRefused, told_of}
-use Rattle.dft_base.specs.Lexing.{place_of}
+use Rattle.dft_verilog.specs.declared.error.ModulesError.TheVariants as modules
+use Rattle.dft_hier.specs.declared.error.HierError.TheVariants as hier
+use Rattle.dft_hier.specs.Laws.{Gives}
+use Rattle.dft_hier.proofs.OneDesign.{gives_one}
+use Rattle.dft_netlist_reader.specs.declared.error.DesignError.{DesignError}
+use Rattle.dft_netlist_reader.specs.declared.error.DesignError.TheVariants as design
+use Rattle.dft_netlist_reader.specs.Refusals.{IsReason}
+use Rattle.dft_netlist_reader.proofs.Refused.{refusals_one, design_or_refusal}
 use Rattle.dft_stil_text.specs.declared.error.StilError.{StilError}
 use Rattle.dft_stil_text.specs.declared.error.StilError.TheVariants as stil
 use Rattle.dft_patterns.specs.Patterns.{Patterns}
@@ -34,7 +34,7 @@ use Rattle.dft_cubes.specs.Cubes as cubes
 use Rattle.dft_compile.specs.declared.error.CompileError.{CompileError}
 use Rattle.dft_stitch.specs.Planning.{Planned}
 use Rattle.dft_compile.specs.Prepared.{IsPrepared}
-use Rattle.dft_compile.specs.Refusals.{first_refusal as design_refusal}
+use Rattle.dft_compile.specs.Refusals.{first_refusal as prepared_refusal}
 use Rattle.dft_stil_text.specs.PatternText.{patterns_in}
 use Rattle.dft_stil_text.specs.PatternText as PatternText
 use Rattle.dft_stil_text.proofs.LimitLemmas.{kept_within, one_set}
@@ -51,11 +51,10 @@ use Rattle.dft_answers.specs.declared.answer.Refusal.{Refusal}
 use Rattle.dft_answers.specs.declared.outcome.Outcome.{Outcome}
 use Rattle.dft_answers.specs.declared.outcome.Outcome.TheVariants.{Refused}
 use Rattle.dft_top.specs.declared.limits.TheConstants.{MAX_LIBRARY_BYTES}
-use Rattle.dft_answers.specs.Refusals.{compile_refusal, config_refusal, cube_refusal, library_refusal, read_refusal, stil_refusal, verilog_refusal}
+use Rattle.dft_answers.specs.Refusals.{compile_refusal, config_refusal, cube_refusal, design_refusal, library_refusal, read_refusal, stil_refusal}
 use Rattle.dft_io.specs.Texts.{FileGives}
 use Rattle.dft_top.specs.Checks.{ArePatternsOf, ConfigText, CubeText, DesignGives, IsPlanned, LibraryGives, LibraryText, NetlistText, PatternText, PlanGives, ReportText, plan_refusal}
 use Rattle.dft_top.specs.Courses.{Then}
-use Rattle.dft_top.proofs.NetlistRefusals.{IsReason, reason_one, finished_or_refused}
 
 pub err_same : {A E : Type 0} (r : Result A E) (a b : E) → r ≡ Err a → r ≡ Err b → a ≡ b
 err_same r a b p q = let e = sym p ∙ q in cc
@@ -186,72 +185,44 @@ config_text_one text (Err a) (Err b) x y = ap Err (told_one _ _ a b (ap config_r
 
 -- ---- the netlist
 
-draft_one : (cells : List Cell) (text : List ℕ) (d e : Draft) → module_of cells text ≡ Ok d → module_of cells text ≡ Ok e → d ≡ e
-draft_one cells text d e p q = let same : Ok d ≡ Ok e = sym p ∙ q in cc
+-- a refusal is no want of memory
+is_reason : (error : DesignError) (refusal : Refusal) → design_refusal error ≡ Some refusal → IsReason error
+is_reason (design.Text (modules.Module (verilog.V1 place))) refusal is = tt
+is_reason (design.Text (modules.Module (verilog.V2 place))) refusal is = tt
+is_reason (design.Text (modules.Module (verilog.V3 place word))) refusal is = tt
+is_reason (design.Text (modules.Module (verilog.V4 place word))) refusal is = tt
+is_reason (design.Text (modules.Module (verilog.V5 place word))) refusal is = tt
+is_reason (design.Text (modules.Module (verilog.V6 place))) refusal is = tt
+is_reason (design.Text (modules.Module (verilog.V7 place))) refusal is = tt
+is_reason (design.Text (modules.Module (verilog.V8 place))) refusal is = tt
+is_reason (design.Text (modules.Module (verilog.V9 place))) refusal is = tt
+is_reason (design.Text (modules.Module (verilog.V10 place))) refusal is = tt
+is_reason (design.Text (modules.Module (verilog.V11 place word))) refusal is = tt
+is_reason (design.Text (modules.Module (verilog.V12 place word))) refusal is = tt
+is_reason (design.Text (modules.Module (verilog.Netlist error))) refusal is = tt
+is_reason (design.Text (modules.Module (verilog.Memory error))) refusal is = absurd cc
+is_reason (design.Text (modules.Repeated name)) refusal is = tt
+is_reason (design.Modules (hier.H2 name)) refusal is = tt
+is_reason (design.Modules (hier.H3 name)) refusal is = tt
+is_reason (design.Modules (hier.H4 count)) refusal is = tt
+is_reason (design.Modules (hier.H5 place name)) refusal is = tt
+is_reason (design.Modules (hier.Netlist (netlist.MultipleDrivers net))) refusal is = tt
+is_reason (design.Modules (hier.Netlist (netlist.Loop net))) refusal is = tt
+is_reason (design.Modules (hier.Netlist (netlist.DuplicateName name))) refusal is = tt
+is_reason (design.Modules (hier.Netlist (netlist.TooMany what limit))) refusal is = tt
+is_reason (design.Modules (hier.Netlist (netlist.Memory error))) refusal is = absurd cc
+is_reason (design.Modules (hier.Memory error)) refusal is = absurd cc
 
-grown_one : (d e : Draft) (m n : Netlist) → d ≡ e → built d ≡ Ok m → built e ≡ Ok n → m ≡ n
-grown_one d e m n same p q = let oks : Ok m ≡ Ok n = sym p ∙ ap built same ∙ q in cc
-
-pub stands_one : (cells : List Cell) (text : List ℕ) (m n : Netlist) → StandsFor cells text m → StandsFor cells text n → m ≡ n
-stands_one cells text m n x y = x.finished.same ∙ grown_one x.draft y.draft x.grown y.grown (draft_one cells text x.draft y.draft x.said y.said) x.parts y.parts ∙ sym y.finished.same
-
--- a refusal is that of the first fault, or that the netlist cannot be finished
-abbrev Reason : List Cell → List ℕ → VerilogError → Type 0
-Reason cells text error = IsFirstFault cells text error ⊎ ((why : NetlistError) × ((error ≡ verilog.Netlist why) × (IsReason why × IsUnfinished cells text why)))
-
-reason : (cells : List Cell) (text : List ℕ) (error : VerilogError) (refusal : Refusal) → IsRefused cells text error → verilog_refusal error ≡ Some refusal → Reason cells text error
-reason cells text (verilog.V1 place) refusal refused is = inl refused
-reason cells text (verilog.V2 place) refusal refused is = inl refused
-reason cells text (verilog.V3 place word) refusal refused is = inl refused
-reason cells text (verilog.V4 place word) refusal refused is = inl refused
-reason cells text (verilog.V5 place word) refusal refused is = inl refused
-reason cells text (verilog.V6 place) refusal refused is = inl refused
-reason cells text (verilog.V7 place) refusal refused is = inl refused
-reason cells text (verilog.V8 place) refusal refused is = inl refused
-reason cells text (verilog.V9 place) refusal refused is = inl refused
-reason cells text (verilog.V10 place) refusal refused is = inl refused
-reason cells text (verilog.V11 place word) refusal refused is = inl refused
-reason cells text (verilog.V12 place word) refusal refused is = inl refused
-reason cells text (verilog.Netlist (netlist.MultipleDrivers net)) refusal refused is = inr (netlist.MultipleDrivers net, (refl, (tt, refused)))
-reason cells text (verilog.Netlist (netlist.Loop net)) refusal refused is = inr (netlist.Loop net, (refl, (tt, refused)))
-reason cells text (verilog.Netlist (netlist.DuplicateName name)) refusal refused is = inl refused
-reason cells text (verilog.Netlist (netlist.TooMany what limit)) refusal refused is = inl refused
-reason cells text (verilog.Netlist (netlist.Memory error)) refusal refused is = absurd cc
-reason cells text (verilog.Memory error) refusal refused is = absurd cc
-
-fault_or_said : (cells : List Cell) (text : List ℕ) (error : VerilogError) (d : Draft) → IsFirstFault cells text error → module_of cells text ≡ Ok d → ⊥
-fault_or_said cells text error d fault said = let e : Err fault.fault ≡ Ok d = sym fault.first ∙ said in cc
-
-fault_one : (cells : List Cell) (text : List ℕ) (a b : VerilogError) → IsFirstFault cells text a → IsFirstFault cells text b → a ≡ b
-fault_one cells text a b x y = x.told ∙ ap (λ (fault : Fault). told_of fault.cause (place_of text fault.left)) (err_same (module_of cells text) x.fault y.fault x.first y.first) ∙ sym y.told
-
-reason_alone : (cells : List Cell) (text : List ℕ) (a b : VerilogError) → Reason cells text a → Reason cells text b → a ≡ b
-reason_alone cells text a b (inl x) (inl y) = fault_one cells text a b x y
-reason_alone cells text a b (inl x) (inr y) = absurd (fault_or_said cells text a y.1.1.1.draft x y.1.1.1.said)
-reason_alone cells text a b (inr x) (inl y) = absurd (fault_or_said cells text b x.1.1.1.draft y x.1.1.1.said)
-reason_alone cells text a b (inr x) (inr y) =
-    let u = x.1.1.1 in
-    let v = y.1.1.1 in
-    let same : u.grown ≡ v.grown = grown_one u.draft v.draft u.grown v.grown (draft_one cells text u.draft v.draft u.said v.said) u.parts v.parts in
-    let one : x.0 ≡ y.0 = reason_one v.grown x.0 y.0 x.1.1.0 y.1.1.0 (subst (λ (n : Netlist). CannotFinish n x.0) same u.refused) v.refused in
-    x.1.0 ∙ ap verilog.Netlist one ∙ sym y.1.0
-
-stands_or_refused : (cells : List Cell) (text : List ℕ) (n : Netlist) (error : VerilogError) → StandsFor cells text n → Reason cells text error → ⊥
-stands_or_refused cells text n error x (inl fault) = fault_or_said cells text error x.draft fault x.said
-stands_or_refused cells text n error x (inr y) =
-    let v = y.1.1.1 in
-    let same : v.grown ≡ x.grown = grown_one v.draft x.draft v.grown x.grown (draft_one cells text v.draft x.draft v.said x.said) v.parts x.parts in
-    finished_or_refused x.grown n y.0 y.1.1.0 x.finished (subst (λ (m : Netlist). CannotFinish m y.0) same v.refused)
-
--- a text that stands for a netlist is not refused
-pub netlist_refused : (cells : List Cell) (text : List ℕ) (n : Netlist) (refusal : Refusal) → StandsFor cells text n → NetlistText cells text (Err refusal) → ⊥
-netlist_refused cells text n refusal stands x = stands_or_refused cells text n x.0 stands (reason cells text x.0 refusal x.1.0 x.1.1)
+-- a text that stands for a design is not refused
+pub netlist_refused : (cells : List Cell) (text : List ℕ) (n : Netlist) (refusal : Refusal) → Gives cells text n → NetlistText cells text (Err refusal) → ⊥
+netlist_refused cells text n refusal stands x = design_or_refusal cells text n x.0 (is_reason x.0 refusal x.1.1) stands x.1.0
 
 pub netlist_text_one : (cells : List Cell) (text : List ℕ) (r s : Result Netlist Refusal) → NetlistText cells text r → NetlistText cells text s → r ≡ s
-netlist_text_one cells text (Ok a) (Ok b) x y = ap Ok (stands_one cells text a b x.stands y.stands)
+netlist_text_one cells text (Ok a) (Ok b) x y = ap Ok (gives_one cells text a b x.stands y.stands)
 netlist_text_one cells text (Ok n) (Err refusal) x y = absurd (netlist_refused cells text n refusal x.stands y)
 netlist_text_one cells text (Err refusal) (Ok n) x y = absurd (netlist_refused cells text n refusal y.stands x)
-netlist_text_one cells text (Err a) (Err b) x y = ap Err (told_one _ _ a b (ap verilog_refusal (reason_alone cells text x.0 y.0 (reason cells text x.0 a x.1.0 x.1.1) (reason cells text y.0 b y.1.0 y.1.1))) x.1.1 y.1.1)
+netlist_text_one cells text (Err a) (Err b) x y =
+    ap Err (told_one _ _ a b (ap design_refusal (refusals_one cells text x.0 y.0 (is_reason x.0 a x.1.1) (is_reason y.0 b y.1.1) x.1.0 y.1.0)) x.1.1 y.1.1)
 
 -- ---- the patterns
 
@@ -295,9 +266,9 @@ compile_error_one refused a b x y = let e : Some a ≡ Some b = sym x ∙ y in c
 
 pub design_gives_one : (n : Netlist) (c : Config) (r s : Result Planned Refusal) → DesignGives n c r → DesignGives n c s → r ≡ s
 design_gives_one n c (Ok p) (Ok q) x y = ap Ok (prepared_one n c p q x.is y.is)
-design_gives_one n c (Ok p) (Err refusal) x y = absurd (accepted_or_refused (design_refusal n c) y.0 x.accepted y.1.0)
-design_gives_one n c (Err refusal) (Ok p) x y = absurd (accepted_or_refused (design_refusal n c) x.0 y.accepted x.1.0)
-design_gives_one n c (Err a) (Err b) x y = ap Err (told_one _ _ a b (ap compile_refusal (compile_error_one (design_refusal n c) x.0 y.0 x.1.0 y.1.0)) x.1.1 y.1.1)
+design_gives_one n c (Ok p) (Err refusal) x y = absurd (accepted_or_refused (prepared_refusal n c) y.0 x.accepted y.1.0)
+design_gives_one n c (Err refusal) (Ok p) x y = absurd (accepted_or_refused (prepared_refusal n c) x.0 y.accepted x.1.0)
+design_gives_one n c (Err a) (Err b) x y = ap Err (told_one _ _ a b (ap compile_refusal (compile_error_one (prepared_refusal n c) x.0 y.0 x.1.0 y.1.0)) x.1.1 y.1.1)
 
 -- ---- the cubes
 

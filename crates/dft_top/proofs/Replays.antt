@@ -1,11 +1,12 @@
--- A replay of texts that stand for a netlist and for patterns that pass on it.
+-- A replay of texts that stand for a design and for patterns that pass on it.
 use Rattle.std.proofs.Common.{ℕ, ◌≡◌, ◌∙◌, inl, inr, List, length, codes, sym, ap, subst, Option, None, Some, Result, Ok}
 use Rattle.dft_files.specs.Outside.{Held, file_at}
 use Rattle.dft_cells.specs.declared.cell.Cell.{Cell}
 use Rattle.dft_netlist.specs.Drivers.{IsOrdered}
 use Rattle.dft_netlist.specs.Netlist.{Netlist}
 use Rattle.dft_netlist.proofs.RankLemmas.{order_ranks}
-use Rattle.dft_netlist_text.specs.NetlistText.{StandsFor}
+use Rattle.dft_hier.specs.Laws.{Gives}
+use Rattle.dft_hier.proofs.OneDesign.{gives_one}
 use Rattle.dft_patterns.specs.Patterns.{Patterns}
 use Rattle.dft_stil_text.specs.PatternText as pattern
 use Rattle.dft_replay.specs.declared.verdict.Verdict.{Verdict}
@@ -24,7 +25,7 @@ use Rattle.dft_io.specs.Texts.{FileGives}
 use Rattle.dft_top.specs.Checks.{ArePatternsOf, IsDesignOf, LibraryGives, NetlistGives, NetlistText, PatternText, PatternsGive}
 use Rattle.dft_top.specs.Courses.{After, Reaches, Then}
 use Rattle.dft_top.specs.Outcomes.{IsOutcomeOn, course_of_replay, outcome_of}
-use Rattle.dft_top.proofs.Readings.{given_next, library_gives_one, patterns_one, stands_one}
+use Rattle.dft_top.proofs.Readings.{given_next, library_gives_one, patterns_one}
 use Rattle.dft_top.proofs.Steps.{ReplayOn, ReplayOver}
 
 -- no check fails
@@ -53,7 +54,7 @@ on_passes n m p q rank compared o ordered netlist patterns passes x =
     x.1.1 ∙ ap (outcome_of q) same ∙ ap (λ (r : Patterns). Finished (Replayed (Passed (length r.vectors) compared))) patterns
 
 pub replay_passes : (files : ReplayFiles) (held : Held) (cells : List Cell) (n : Netlist) (p : Patterns) (netlist text : List ℕ) (compared : ℕ) (o : Outcome) → (accepts : IsAccepted o) → (library : LibraryGives files.library held (Ok cells)) →
-    (at_netlist : file_at files.netlist held ≡ Some netlist) → (at_patterns : file_at files.patterns held ≡ Some text) → (stands : StandsFor cells netlist n) → (reads : pattern.StandsFor text p) → (passes : HasVerdict n p (verdict.Pass compared)) →
+    (at_netlist : file_at files.netlist held ≡ Some netlist) → (at_patterns : file_at files.patterns held ≡ Some text) → (stands : Gives cells netlist n) → (reads : pattern.StandsFor text p) → (passes : HasVerdict n p (verdict.Pass compared)) →
     Reaches (course_of_replay files) held o → o ≡ Finished (Replayed (Passed (length p.vectors) compared))
 replay_passes files held cells n p netlist text compared o accepts library at_netlist at_patterns stands reads passes x =
     let over = given_next (LibraryGives files.library held) (ReplayOver files held) o cells (library_gives_one files.library held) library x in
@@ -64,4 +65,4 @@ replay_passes files held cells n p netlist text compared o accepts library at_ne
     let is : IsDesignOf cells netlist m = text_at MAX_NETLIST_BYTES (codes "netlist") (NetlistText cells) (file_at files.netlist held) netlist m at_netlist design.1.0 in
     let are : ArePatternsOf text q = text_at MAX_PATTERN_BYTES (codes "patterns") PatternText (file_at files.patterns held) text q at_patterns patterns.1.0 in
     let ranked = order_ranks m is.order is.sound is.ordered in
-    on_passes n m p q ranked.0 compared o ranked.1 (stands_one cells netlist m n is.stands stands) (patterns_one text q p are.stands reads) passes (on_verdict m q (first_misfit m q.signals) o accepts patterns.1.1)
+    on_passes n m p q ranked.0 compared o ranked.1 (gives_one cells netlist m n is.stands stands) (patterns_one text q p are.stands reads) passes (on_verdict m q (first_misfit m q.signals) o accepts patterns.1.1)

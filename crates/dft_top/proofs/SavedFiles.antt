@@ -41,6 +41,7 @@ use Rattle.dft_top.proofs.Lengths.{checks_before}
 use Rattle.dft_top.proofs.PassingFiles.{certify_due, replay_due}
 use Rattle.dft_top.proofs.Promised.{are_cubes}
 use Rattle.dft_top.proofs.Replays.{on_passes}
+use Rattle.dft_top.proofs.ScannedDesigns.{loaded_named, scanned_given}
 
 -- the text of a file is given where it is no longer than its limit
 file_given : {A : Type 0} (limit : ℕ) (option : List ℕ) (text_gives : List ℕ → Result A Refusal → Type 0) (file : Option (List ℕ)) (text : List ℕ) (value : A) → file ≡ Some text → length text ≤ limit → text_gives text (Ok value) →
@@ -61,7 +62,7 @@ replayed files making old new o c netlist patterns library short few x =
     let well = (c.holds.formed c.few).well in
     let design : NetlistGives c.cells files.netlist new (Ok n) =
     file_given MAX_NETLIST_BYTES (codes "netlist") (NetlistText c.cells) (file_at files.netlist new) (compiled.netlist_text c.netlist c.config) n (named_at files.netlist making.out_netlist new _ netlist c.out_netlist) short
-    (record { stands = c.reads; sound = c.sound; order = c.order; ordered = c.ordered }) in
+    (record { stands = scanned_given Edt c.cells (compiled.netlist_text c.netlist c.config) c.netlist c.config (loaded_named c.cells making.netlist old c.netlist c.design) c.keeps c.reads; sound = c.sound; order = c.order; ordered = c.ordered }) in
     let vectors : PatternsGive files.patterns new (Ok p) =
     file_given MAX_PATTERN_BYTES (codes "patterns") PatternText (file_at files.patterns new) (compiled.pattern_text c.netlist c.config c.list) p (named_at files.patterns making.out_patterns new _ patterns c.out_patterns) c.patterns_short
     (record { stands = c.stands; few = few; well_formed = record { distinct = well.distinct; few = well.few; fits = well.fits; steady = well.steady } }) in

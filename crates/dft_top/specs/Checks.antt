@@ -12,11 +12,11 @@ use Rattle.dft_config.specs.Range.{IsInRange}
 use Rattle.dft_config.specs.Refusals.{IsConfig}
 use Rattle.dft_config.specs.Refusals as config
 use Rattle.dft_netlist.specs.Netlist.{Netlist}
-use Rattle.dft_netlist_text.specs.NetlistText.{StandsFor}
 use Rattle.dft_netlist.specs.Orders.{IsOrder}
 use Rattle.dft_netlist.specs.Sound.{IsNetlist}
-use Rattle.dft_verilog.specs.declared.error.VerilogError.{VerilogError}
-use Rattle.dft_verilog.specs.Refusals as verilog
+use Rattle.dft_hier.specs.Laws.{Gives}
+use Rattle.dft_netlist_reader.specs.declared.error.DesignError.{DesignError}
+use Rattle.dft_netlist_reader.specs.Refusals.{HasNoDesign}
 use Rattle.dft_stil_text.specs.declared.error.StilError.{StilError}
 use Rattle.dft_patterns.specs.Patterns.{Patterns, IsWellFormed}
 use Rattle.dft_stil_text.specs.PatternText as pattern
@@ -45,7 +45,7 @@ use Rattle.dft_compile.specs.Refusals.{first_failing, first_refusal}
 use Rattle.dft_answers.specs.declared.answer.Refusal.{Refusal}
 use Rattle.dft_top.specs.declared.limits.TheConstants.{MAX_LIBRARY_BYTES, MAX_CONFIG_BYTES, MAX_NETLIST_BYTES, MAX_PATTERN_BYTES, MAX_CUBE_BYTES, MAX_REPORT_BYTES}
 use Rattle.dft_io.specs.Texts.{FileGives}
-use Rattle.dft_answers.specs.Refusals.{library_refusal, config_refusal, verilog_refusal, stil_refusal, cube_refusal, compile_refusal, read_refusal}
+use Rattle.dft_answers.specs.Refusals.{library_refusal, config_refusal, design_refusal, stil_refusal, cube_refusal, compile_refusal, read_refusal}
 
 -- ---- the library
 
@@ -75,16 +75,17 @@ ConfigGives name held r = FileGives MAX_CONFIG_BYTES (codes "config") ConfigText
 
 -- ---- the netlist
 
--- the netlist that a text stands for over the cells of a library, with an order of its nets
+-- the design that a text stands for over the cells of a library: the flat netlist of its modules, finished, with an order of its nets
 pub record IsDesignOf (cells : List Cell) (text : List ℕ) (n : Netlist) : Type 0 where
-  pub stands : StandsFor cells text n
+  pub stands : Gives cells text n
   pub sound : IsNetlist n
   pub order : List ℕ
   pub ordered : IsOrder n order
 
+-- the first check that fails is that of the text, and else that of its modules
 abbrev pub NetlistText : List Cell → (text : List ℕ) → Result Netlist Refusal → Type 0
 NetlistText cells text (Ok n) = IsDesignOf cells text n
-NetlistText cells text (Err refusal) = (error : VerilogError) × (verilog.IsRefused cells text error × (verilog_refusal error ≡ Some refusal))
+NetlistText cells text (Err refusal) = (error : DesignError) × (HasNoDesign cells text error × (design_refusal error ≡ Some refusal))
 
 abbrev pub NetlistGives : List Cell → (name : List ℕ) → Held → Result Netlist Refusal → Type 0
 NetlistGives cells name held r = FileGives MAX_NETLIST_BYTES (codes "netlist") (NetlistText cells) (file_at name held) r

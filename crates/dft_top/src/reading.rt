@@ -2,23 +2,23 @@
 
 ghost use Rattle.std.specs.Prelude.{◌≤◌, IfErr, IfOk, length};
 ghost use Rattle.dft_patterns.specs.Patterns.{IsWellFormed};
-ghost use Rattle.dft_verilog.specs.Refusals.{IsRefused};
+ghost use Rattle.dft_netlist_reader.specs.Refusals.{HasNoDesign};
 ghost use Rattle.dft_verilog_out.specs.Named.{GatesAreJoined};
 ghost use Rattle.dft_io.specs.Steps.{IsGiven};
 ghost use Rattle.dft_top.specs.Checks.{AreFew, ConfigText, CubeText, IsDesignOf, LibraryText, NetlistText, PatternText, ReportText};
 ghost use Rattle.dft_top.specs.declared.limits.TheConstants.{MAX_CONFIG_BYTES, MAX_CUBE_BYTES, MAX_LIBRARY_BYTES, MAX_NETLIST_BYTES, MAX_PATTERN_BYTES, MAX_REPORT_BYTES};
 
 use dft_answers::{
-    config_refusal, cube_refusal, library_refusal, read_refusal, stil_refusal, verilog_refusal,
+    config_refusal, cube_refusal, design_refusal, library_refusal, read_refusal, stil_refusal,
 };
 use dft_cells::Library;
 use dft_config::{Config, Listed};
 use dft_cubes::Cube;
 use dft_io::Stop;
 use dft_netlist::Design;
+use dft_netlist_reader::DesignError;
 use dft_patterns::PatternSet;
 use dft_report::Report;
-use dft_verilog::VerilogError;
 use std::alloc::Global;
 
 /// The library of a text.
@@ -51,18 +51,18 @@ pub fn design_in(alloc: Global, text: &[u8], library: Library) -> Result<Design,
 {
     match design_of(alloc, text, library) {
         Ok(design) => Ok(design),
-        Err(error) => Err(Stop::Refused(verilog_refusal(alloc, error)?)),
+        Err(error) => Err(Stop::Refused(design_refusal(alloc, error)?)),
     }
 }
 
 // The design of a netlist text, which is sound and has an order.
-fn design_of(alloc: Global, text: &[u8], library: Library) -> Result<Design, VerilogError>
+fn design_of(alloc: Global, text: &[u8], library: Library) -> Result<Design, DesignError>
     requires { length text.now ≤ MAX_NETLIST_BYTES }
     ensures design { IfOk result (IsDesignOf library text.now) }
     ensures joined { IfOk result GatesAreJoined }
-    ensures refused { IfErr result (IsRefused library text.now) }
+    ensures refused { IfErr result (HasNoDesign library text.now) }
 {
-    let design = dft_verilog::read(alloc, text, library)?;
+    let design = dft_netlist_reader::read(alloc, text, library)?;
     design.soundness();
     Ok(design)
 }

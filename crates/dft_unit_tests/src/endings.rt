@@ -100,25 +100,30 @@ fn a_person_is_told_how_a_run_ended(rt: HostRuntime) -> Result<(), Fail> {
     Ok(())
 }
 
-const NETLIST: &str = "module m (c, d, q);\ninput c, d; output q;\nMAJ3 u (.A(c), .B(d), .C(q));\n";
+const NETLIST: &str = "module m (c, d, q);\ninput c, d; output q;\nINV u (.A(d), .Z(p), .Y(q));\n";
 
-const MAJ3: &str = "MAJ3";
+const PIN: &str = "Z";
 
 const REFUSED: &str = "\
-dft: w.v:3:1: V4: a cell that the library has not: MAJ3
-  MAJ3 u (.A(c), .B(d), .C(q));
-  ^
-dft: try: add the cell to the library, or map to its cells
+dft: w.v:3:16: V5: a pin that the cell has not: Z
+  INV u (.A(d), .Z(p), .Y(q));
+                 ^
+dft: try: name the pins as the library does
 ";
 
-// A refusal of a cell of this name that the library has not, at a column of a line.
-fn missing_cell<'a>(name: &'a [u8], column: u32, line: Option<&'a [u8]>) -> Ending<'a> {
-    let (sentence, advice) = match said_of("V4", None) {
+// What a code says, and what is to be done.
+fn texts_of(code: &str) -> (&'static str, &'static str) {
+    match said_of(code, None) {
         Some(said) => (said.sentence, said.advice),
         None => ("", ""),
-    };
+    }
+}
+
+// A refusal of a pin of this name that the cell has not, at a column of a line.
+fn missing_pin<'a>(name: &'a [u8], column: u32, line: Option<&'a [u8]>) -> Ending<'a> {
+    let (sentence, advice) = texts_of("V5");
     Ending::Refused(Refusal {
-        code: b"V4".as_slice(),
+        code: b"V5".as_slice(),
         sentence: sentence.as_bytes(),
         advice: advice.as_bytes(),
         place: Some(Place { line: 3, column }),
@@ -134,12 +139,35 @@ const SCAN_OF_W: &str = "scan --netlist w.v --config b --out c --report d";
 #[test]
 fn a_refusal_shows_its_line(rt: HostRuntime) -> Result<(), Fail> {
     let line = line_at(NETLIST.as_bytes(), 3);
-    let page = told(
-        rt.alloc(),
-        SCAN_OF_W,
-        missing_cell(MAJ3.as_bytes(), 1, line),
-    )?;
+    let page = told(rt.alloc(), SCAN_OF_W, missing_pin(PIN.as_bytes(), 16, line))?;
     assert_eq!(rt; page.as_slice(), REFUSED.as_bytes());
+    Ok(())
+}
+
+const UNKNOWN: &str = "\
+dft: w.v: H2: an instance of what is no cell of the library and no module of the text: MAJ3
+dft: try: add the cell to the library, map to its cells, or add the module to the text
+";
+
+// A refusal of an instance of a module of this name that is not there.
+fn missing_module(name: &[u8]) -> Ending<'_> {
+    let (sentence, advice) = texts_of("H2");
+    Ending::Refused(Refusal {
+        code: b"H2".as_slice(),
+        sentence: sentence.as_bytes(),
+        advice: advice.as_bytes(),
+        place: None,
+        name: Some(name),
+        first: None,
+        second: None,
+        line: None,
+    })
+}
+
+#[test]
+fn a_refusal_without_a_place_shows_no_line(rt: HostRuntime) -> Result<(), Fail> {
+    let page = told(rt.alloc(), SCAN_OF_W, missing_module(b"MAJ3"))?;
+    assert_eq!(rt; page.as_slice(), UNKNOWN.as_bytes());
     Ok(())
 }
 
@@ -150,7 +178,7 @@ fn a_long_line_is_shown_around_its_column(rt: HostRuntime) -> Result<(), Fail> {
     let page = told(
         rt.alloc(),
         SCAN_OF_W,
-        missing_cell(MAJ3.as_bytes(), 500_000, Some(&line)),
+        missing_pin(PIN.as_bytes(), 500_000, Some(&line)),
     )?;
     let shown = line_at(page.as_slice(), 2);
     assert_eq!(rt; shown.map(|shown| shown.len()), Some(102));
@@ -179,7 +207,7 @@ fn every_byte(alloc: Global) -> Result<Vec<u8>, AllocError> {
 fn no_byte_of_a_name_or_a_line_is_told_as_it_is(rt: HostRuntime) -> Result<(), Fail> {
     let bytes = every_byte(rt.alloc())?;
     for column in [1u32, 100, 257] {
-        let refused = missing_cell(&bytes, column, Some(&bytes));
+        let refused = missing_pin(&bytes, column, Some(&bytes));
         assert!(rt;
             is_clear(&told(rt.alloc(), SCAN_OF_W, refused)?),
             "{column}"
@@ -195,13 +223,13 @@ fn no_byte_of_a_name_or_a_line_is_told_as_it_is(rt: HostRuntime) -> Result<(), F
 #[test]
 fn a_line_is_shown_where_it_has_the_column(rt: HostRuntime) -> Result<(), Fail> {
     // a column one past the end is the end's; behind that the line is another than the one that was read
-    for (column, lines) in [(1u32, 4usize), (30, 4), (31, 2)] {
+    for (column, lines) in [(1u32, 4usize), (29, 4), (30, 2)] {
         let line = line_at(NETLIST.as_bytes(), 3);
-        assert_eq!(rt; line.map(|line| line.len()), Some(29));
+        assert_eq!(rt; line.map(|line| line.len()), Some(28));
         let page = told(
             rt.alloc(),
             SCAN_OF_W,
-            missing_cell(MAJ3.as_bytes(), column, line),
+            missing_pin(PIN.as_bytes(), column, line),
         )?;
         let ends = page.as_slice().iter().filter(|byte| **byte == b'\n');
         assert_eq!(rt; ends.count(), lines, "{column}");

@@ -18,6 +18,8 @@ mod outside;
 #[cfg(test)]
 mod refusals;
 #[cfg(test)]
+mod registers;
+#[cfg(test)]
 mod rings;
 #[cfg(test)]
 mod systems;

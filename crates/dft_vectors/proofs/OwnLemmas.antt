@@ -16,7 +16,7 @@ use Rattle.dft_netlist.specs.Connections.{input_net}
 use Rattle.dft_config.specs.Config.{Config}
 use Rattle.dft_rules.specs.Rules.{is_net}
 use Rattle.dft_cubes.specs.declared.cube.Merged.{Merged}
-use Rattle.dft_expect.specs.Captures.{config_ports, port_value, capture_vector, capture_clock, bit_of_port, bits_out, output_bits}
+use Rattle.dft_expect.specs.Captures.{config_ports, port_value, vector_of, capture_clock, bit_of_port, bits_out, output_bits}
 use Rattle.dft_vectors.specs.declared.own.OwnInput.{OwnInput}
 use Rattle.dft_vectors.specs.declared.own.OwnPorts.{OwnPorts}
 use Rattle.dft_vectors.specs.Signals.{bits_in, input_bits}
@@ -45,13 +45,13 @@ clock_found n (name ∷ names) zero = refl
 clock_found n (name ∷ names) (suc domain) = clock_found n names domain
 
 -- the inputs of a capture
-pub captured_inputs : (n : Netlist) (config : Config) (own : OwnPorts) (merged : Merged) (clock : Option NetId) (given : List (Option Bool)) → AreOwn n config own →
-    clock ≡ get_or own.clocks.items merged.domain None → ((net : ℕ) → net < own.nets → get_or given net None ≡ bit_of_port merged.ports net) →
-    map (λ input. driven (is_net input.net.0 clock) (port_value input.is_reset (get_or given input.net.0 None))) own.inputs.items ≡ inputs_by n (capture_vector n config merged)
-captured_inputs n config own merged clock given are at same =
-    let found : clock ≡ capture_clock n config merged.domain = at ∙ ap (λ l. get_or l merged.domain None) are.clocks ∙ clock_found n config.domains merged.domain in
+pub captured_inputs : (n : Netlist) (config : Config) (own : OwnPorts) (merged : Merged) (domain : ℕ) (clock : Option NetId) (given : List (Option Bool)) → AreOwn n config own →
+    clock ≡ get_or own.clocks.items domain None → ((net : ℕ) → net < own.nets → get_or given net None ≡ bit_of_port merged.ports net) →
+    map (λ input. driven (is_net input.net.0 clock) (port_value input.is_reset (get_or given input.net.0 None))) own.inputs.items ≡ inputs_by n (vector_of n config merged domain)
+captured_inputs n config own merged domain clock given are at same =
+    let found : clock ≡ capture_clock n config domain = at ∙ ap (λ l. get_or l domain None) are.clocks ∙ clock_found n config.domains domain in
     let f = λ (input : OwnInput). driven (is_net input.net.0 clock) (port_value input.is_reset (get_or given input.net.0 None)) in
-    let x = capture_vector n config merged in
+    let x = vector_of n config merged domain in
     ap (map f) are.inputs
     ∙ map-map f (own_input n config) (input_bits n.ports)
     ∙ same_on (λ net. net.0 < own.nets) (λ net. f (own_input n config net)) (λ net. driven (x.pulsed net.0) (x.ports net.0))

@@ -11,7 +11,7 @@ use Rattle.dft_expect.specs.Loaded.{table_of, all_cells}
 use Rattle.dft_vectors.specs.declared.pattern.Pattern.{Pattern}
 
 pub record PatternData : Type 0 where
-  -- the clock that captures, and the bits of ports in the capture
+  -- the clocks that capture, and the bits of ports in the capture
   pub merged : Merged
   -- the bits of the channels in its load, one a column
   pub bits : List Bool
@@ -19,6 +19,9 @@ pub record PatternData : Type 0 where
   pub masks : List Bool
   -- what it captures
   pub response : Response
+
+abbrev pub merged_of : PatternData → Merged
+merged_of p = p.merged
 
 -- the table of its channel bits
 abbrev pub load_of : Config → PatternData → Table

@@ -29,11 +29,11 @@ pub record IsLayout (l : Layout) : Type 0 where
   pub cycles : (plan_in l).cycles ≤ 4096
 
 abbrev pub listing_of : Inside → Listing
-listing_of l = record { design = l.layout.planned.now.design; config = l.layout.planned.now.config; plan = plan_in l.layout; vectors = l.vectors.items; count = l.count }
+listing_of l = record { design = l.layout.planned.now.design; config = l.layout.planned.now.config; plan = plan_in l.layout; vectors = l.vectors.items; captures = l.captures.items }
 
 pub record IsVectorList (l : Inside) : Type 0 where
   pub layout : IsLayout l.layout
-  pub few : l.count ≤ 65536
+  pub few : length l.captures.items ≤ 65536
 
 -- what so many outputs do in a cycle, where these bits are to be shown, cycle by cycle and in each output by output; where there are none
 -- nothing is compared

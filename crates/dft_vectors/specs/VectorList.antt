@@ -1,6 +1,6 @@
--- The vectors of compiled patterns: a set-up vector, for each pattern its load and its capture, and a last load that unloads the last
+-- The vectors of compiled patterns: a set-up vector, for each pattern its load and its captures, and a last load that unloads the last
 -- pattern (Rajski and others, 2004).
-use Rattle.std.specs.Prelude.{ℕ, zero, suc, ◌+◌, ◌*◌, false, Bool, List, [], ◌∷◌, ◌++◌, length, map, Option, None, Some}
+use Rattle.std.specs.Prelude.{ℕ, ◌+◌, false, Bool, List, [], ◌∷◌, ◌++◌, length, map, take, drop, sum_by, Option, None, Some}
 use Rattle.std.specs.List.{range_with_len}
 use Rattle.dft_base.specs.Solutions.{bit_at}
 use Rattle.dft_netlist.specs.Netlist.{Netlist}
@@ -8,10 +8,11 @@ use Rattle.dft_config.specs.Config.{Config}
 use Rattle.dft_config.specs.Ring.{Table}
 use Rattle.dft_stitch.specs.Plans.{Plan, falling_head}
 use Rattle.dft_config.specs.Segments.{sent_mask}
-use Rattle.dft_expect.specs.Captures.{capture_vector}
+use Rattle.dft_expect.specs.Captures.{vector_of, output_bits}
 use Rattle.dft_expect.specs.Expected.{output_bit}
 use Rattle.dft_base.specs.declared.tri.Tri.{Tri}
 use Rattle.dft_cubes.specs.declared.cube.Merged.{Merged}
+use Rattle.dft_cubes.specs.Domains.{later_of, captures_of}
 use Rattle.dft_expect.specs.Masks.{by_chain}
 use Rattle.dft_patterns.specs.declared.act.Act.{Act}
 use Rattle.dft_patterns.specs.declared.notes.Note.{Note}
@@ -19,8 +20,8 @@ use Rattle.dft_patterns.specs.declared.notes.NoteKind.TheVariants.{SetUp, Patter
 use Rattle.dft_patterns.specs.Patterns.{Patterns}
 use Rattle.dft_vectors.specs.Signals.{signals_of}
 use Rattle.dft_vectors.specs.OwnPorts.{expect, compare, quiet_vector, pulsing_vector, inputs_by, ignored, outputs_ignored}
-use Rattle.dft_vectors.specs.AddedPorts.{clearing, shifting}
-use Rattle.dft_vectors.specs.PatternData.{PatternData, load_of}
+use Rattle.dft_vectors.specs.AddedPorts.{clearing, waiting, shifting}
+use Rattle.dft_vectors.specs.PatternData.{PatternData, load_of, merged_of}
 
 -- ---- the kinds of vectors; inputs come before outputs, and the design's before the added ones
 
@@ -50,22 +51,34 @@ shift_acts n config plan load masks before t = shift_with n config plan load mas
 abbrev pub load_vectors : Netlist → Config → Plan → (load : Table) → (masks : List Bool) → (before : Option PatternData) → List (List Act)
 load_vectors n config plan load masks before = map (shift_acts n config plan load masks before) (range_with_len 0 plan.cycles)
 
--- The capture vector: the clock of the pattern and edt_clock pulse, with edt_update 1; each output of the design is compared that the
--- capture knows.
-abbrev pub capture_with : Netlist → Config → Merged → (outputs : List Tri) → List Act
-capture_with n config merged outputs =
-    inputs_by n (capture_vector n config merged) ++ (clearing config ++ (map compare outputs ++ ignored (length config.compactor.groups)))
+-- A capture vector of a pattern: the clock of one domain pulses, the added inputs do this, and each output of the design is compared that
+-- the capture knows.
+abbrev pub capture_with : Netlist → Config → Merged → (domain : ℕ) → (added : List Act) → (outputs : List Tri) → List Act
+capture_with n config merged domain added outputs =
+    inputs_by n (vector_of n config merged domain) ++ (added ++ (map compare outputs ++ ignored (length config.compactor.groups)))
 
-abbrev pub capture_acts : Netlist → Config → PatternData → List Act
-capture_acts n config p = capture_with n config p.merged p.response.outputs
+-- The capture vectors of a pattern from a domain on: each compares its own of the outputs that are left. In the last one edt_clock pulses
+-- with edt_update 1, which clears the ring for the next load; in those before it edt_clock rests.
+abbrev pub captures_with : Netlist → Config → Merged → (domain : ℕ) → (later : List ℕ) → (outputs : List Tri) → List (List Act)
+captures_with n config merged domain [] outputs = capture_with n config merged domain (clearing config) outputs ∷ []
+captures_with n config merged domain (next ∷ later) outputs =
+    let own = length (output_bits n.ports) in
+    capture_with n config merged domain (waiting config) (take own outputs) ∷ captures_with n config merged next later (drop own outputs)
+
+-- those of its captured domains, one for each
+abbrev pub capture_list : Netlist → Config → Merged → (outputs : List Tri) → List (List Act)
+capture_list n config merged outputs = captures_with n config merged merged.domains.first (later_of merged.domains) outputs
+
+abbrev pub capture_acts : Netlist → Config → PatternData → List (List Act)
+capture_acts n config p = capture_list n config p.merged p.response.outputs
 
 -- ---- the list
 
--- the load and the capture of each pattern, behind one that captured this
+-- the load and the captures of each pattern, behind one that captured this
 abbrev pub pattern_vectors : Netlist → Config → Plan → (before : Option PatternData) → List PatternData → List (List Act)
 pattern_vectors n config plan before [] = []
 pattern_vectors n config plan before (p ∷ patterns) =
-    load_vectors n config plan (load_of config p) p.masks before ++ (capture_acts n config p ∷ pattern_vectors n config plan (Some p) patterns)
+    load_vectors n config plan (load_of config p) p.masks before ++ (capture_acts n config p ++ pattern_vectors n config plan (Some p) patterns)
 
 -- the last of some patterns, or else the one before them
 abbrev pub last_of : (before : Option PatternData) → List PatternData → Option PatternData
@@ -91,18 +104,30 @@ vectors_of n config plan patterns = vectors_before_end n config plan patterns ++
 
 -- ---- notes
 
--- the number of the first shift vector of the pattern of this number; behind the last pattern it is that of the last load
-abbrev pub first_vector : (cycles pattern : ℕ) → ℕ
-first_vector cycles pattern = 1 + pattern * suc cycles
+-- how many capture vectors each of these patterns has
+abbrev pub captures_in : List Merged → List ℕ
+captures_in merged = map captures_of merged
 
-abbrev pub pattern_note : (cycles pattern : ℕ) → Note
-pattern_note cycles pattern = record { before = first_vector cycles pattern; what = Pattern pattern }
+-- how many vectors patterns take with so many captures each: a load and the captures
+abbrev pub vectors_for : (cycles : ℕ) → (captures : List ℕ) → ℕ
+vectors_for cycles captures = sum_by (λ count. cycles + count) captures
 
--- the notes of so many patterns: before the set-up vector, before each load, and before the last load
-abbrev pub notes_of : (cycles patterns : ℕ) → List Note
-notes_of cycles zero = []
-notes_of cycles (suc patterns) =
-    record { before = 0; what = SetUp } ∷ (map (pattern_note cycles) (range_with_len 0 (suc patterns)) ++ record { before = first_vector cycles (suc patterns); what = Unload } ∷ [])
+-- The number of the first shift vector of the pattern of this number, where patterns have so many captures each; behind the last pattern it
+-- is that of the last load.
+abbrev pub first_vector : (cycles : ℕ) → (captures : List ℕ) → (pattern : ℕ) → ℕ
+first_vector cycles captures pattern = 1 + vectors_for cycles (take pattern captures)
+
+abbrev pub pattern_note : (cycles : ℕ) → (captures : List ℕ) → (pattern : ℕ) → Note
+pattern_note cycles captures pattern = record { before = first_vector cycles captures pattern; what = Pattern pattern }
+
+abbrev pub last_note : (cycles : ℕ) → (captures : List ℕ) → Note
+last_note cycles captures = record { before = first_vector cycles captures (length captures); what = Unload }
+
+-- the notes of patterns with so many captures each: before the set-up vector, before each load, and before the last load
+abbrev pub notes_of : (cycles : ℕ) → (captures : List ℕ) → List Note
+notes_of cycles [] = []
+notes_of cycles (count ∷ captures) =
+    record { before = 0; what = SetUp } ∷ (map (pattern_note cycles (count ∷ captures)) (range_with_len 0 (length (count ∷ captures))) ++ last_note cycles (count ∷ captures) ∷ [])
 
 -- ---- the set
 
@@ -111,5 +136,5 @@ abbrev pub patterns_of : (written : Netlist) → Netlist → Config → Plan →
 patterns_of written n config plan patterns = record {
   signals = signals_of written;
   vectors = vectors_of n config plan patterns;
-  notes = notes_of plan.cycles (length patterns);
+  notes = notes_of plan.cycles (captures_in (map merged_of patterns));
 }

@@ -98,16 +98,24 @@ pub(crate) fn push_channels(
     Ok(())
 }
 
+// What edt_clock does.
+fn ring_clock(pulse: bool) -> Act
+    ensures { result ≡ spec.ring_clock pulse }
+{
+    if pulse { Act::Pulse } else { Act::Low }
+}
+
 // Adds the acts of scan_enable, edt_clock and edt_update.
 pub(crate) fn push_controls(
     acts: &mut Vec<Act>,
     enable: bool,
+    pulse: bool,
     update: bool,
 ) -> Result<(), AllocError>
-    ensures { OnOk result (acts.new.items ≡ acts.old.items ++ spec.controls enable update) }
+    ensures { OnOk result (acts.new.items ≡ acts.old.items ++ spec.controls enable pulse update) }
 {
     acts.push(set_to(enable))?;
-    acts.push(Act::Pulse)?;
+    acts.push(ring_clock(pulse))?;
     acts.push(set_to(update))?;
     Ok(())
 }
@@ -126,7 +134,16 @@ fn push_low(acts: &mut Vec<Act>, ports: u8) -> Result<(), AllocError>
 pub(crate) fn push_clearing(acts: &mut Vec<Act>, config: &Config) -> Result<(), AllocError>
     ensures { OnOk result (acts.new.items ≡ acts.old.items ++ spec.clearing config.now) }
 {
-    push_controls(acts, false, true)?;
+    push_controls(acts, false, true, true)?;
+    push_low(acts, config.ring().channels)?;
+    push_low(acts, config.compactor().mask_inputs)
+}
+
+// Adds what a waiting vector does at the added inputs.
+pub(crate) fn push_waiting(acts: &mut Vec<Act>, config: &Config) -> Result<(), AllocError>
+    ensures { OnOk result (acts.new.items ≡ acts.old.items ++ spec.waiting config.now) }
+{
+    push_controls(acts, false, false, false)?;
     push_low(acts, config.ring().channels)?;
     push_low(acts, config.compactor().mask_inputs)
 }

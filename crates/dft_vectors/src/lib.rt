@@ -13,6 +13,6 @@ mod pattern;
 mod signals;
 
 pub use listing::VectorList;
-pub use notes::notes_of;
+pub use notes::{captures_in, notes_of};
 pub use pattern::Pattern;
 pub use signals::signals_of;

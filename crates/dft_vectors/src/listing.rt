@@ -1,6 +1,8 @@
 //! Lists of vectors, pattern after pattern.
 
 ghost use Rattle.std.specs.Prelude.{◌≡◌, ◌+◌, ◌<◌, ◌≤◌, ◌++◌, ◌∷◌, [], List, None, length, replicate, IfSome, IfOk, OnOk};
+ghost use Rattle.dft_cubes.specs.Domains.{captures_of};
+ghost use Rattle.dft_vectors.specs.AddedPorts.{clearing, waiting};
 ghost use Rattle.dft_vectors.specs.Listing.{Lists};
 ghost use Rattle.dft_vectors.specs.ListSteps.{begun_by, ended_by};
 ghost use Rattle.dft_base.specs.Packed.{packed_bit};
@@ -15,6 +17,8 @@ use crate::loads::{add_load, no_bits};
 use crate::notes::notes_of;
 use crate::pattern::Pattern;
 use crate::signals::signals_of;
+use dft_base::Tri;
+use dft_cubes::Merged;
 use dft_netlist::Design;
 use dft_patterns::{Acts, PatternSet};
 use dft_stitch::Planned;
@@ -22,12 +26,12 @@ use std::alloc::{AllocError, Global};
 use std::marker::Model;
 
 /// The vectors of patterns of a planned design behind compression hardware (Rajski and others, 2004), pattern after pattern. A clause sees
-/// the design, the configuration, the chains, the vectors so far and how many patterns they are of.
+/// the design, the configuration, the chains, the vectors so far and how many captures each of their patterns has.
 #[derive(Drop)]
 pub struct VectorList<'a> {
     layout: Layout<'a>,
     vectors: Vec<Acts>,
-    count: u32,
+    captures: Vec<u8>,
 }
 
 impl<'a> Model for VectorList<'a> {
@@ -45,13 +49,13 @@ impl<'a> Model for VectorList<'a> {
 impl<'a> VectorList<'a> {
     /// No vector yet.
     pub fn new(alloc: Global, planned: &'a Planned<'a>) -> Result<VectorList<'a>, AllocError>
-        ensures { IfOk result (λ list. list ≡ record { design = planned.entry.now.design; config = planned.entry.now.config; plan = plan_of planned.entry.now.design planned.entry.now.config; vectors = []; count = 0 }) }
+        ensures { IfOk result (λ list. list ≡ record { design = planned.entry.now.design; config = planned.entry.now.config; plan = plan_of planned.entry.now.design planned.entry.now.config; vectors = []; captures = [] }) }
     {
         let layout = look_up(alloc, planned)?;
         Ok(VectorList {
             layout,
             vectors: Vec::new(alloc),
-            count: 0,
+            captures: Vec::new(alloc),
         })
     }
 
@@ -59,7 +63,7 @@ impl<'a> VectorList<'a> {
     fn set_up(&mut self) -> Result<(), AllocError>
         ensures { OnOk result (self.new ≡ record self.old { vectors = begun_by self.old }) }
     {
-        if self.count == 0 {
+        if self.captures.is_empty() {
             let mut acts = Vec::new(self.layout.alloc);
             self.layout.push_set_up(&mut acts)?;
             self.vectors.push(Acts::copied(self.layout.alloc, &acts)?)?;
@@ -86,34 +90,90 @@ impl<'a> VectorList<'a> {
         Ok(())
     }
 
-    // Adds the capture vector of a pattern.
-    fn capture(&mut self, pattern: Pattern<'_>) -> Result<(), AllocError>
+    // Adds the last capture vector of a pattern.
+    fn last_capture(
+        &mut self,
+        merged: &Merged,
+        domain: u8,
+        outputs: &[Tri],
+    ) -> Result<(), AllocError>
         ensures { OnOk result (self.new ≡ record self.old {
           vectors = self.old.vectors
-              ++ spec.capture_with self.old.design self.old.config pattern.entry.merged.now pattern.entry.response.now.outputs ∷ [];
+              ++ spec.capture_with self.old.design self.old.config merged.now domain (clearing self.old.config) outputs.now ∷ [];
         }) }
     {
         let mut acts = Vec::new(self.layout.alloc);
-        let outputs = pattern.response.outputs.as_slice();
         self.layout
-            .push_capture(&mut acts, pattern.merged, outputs)?;
+            .push_last_capture(&mut acts, merged, domain, outputs)?;
         self.vectors.push(Acts::copied(self.layout.alloc, &acts)?)?;
         Ok(())
     }
 
-    /// Adds the load and the capture of a pattern behind the last one, and before the first the set-up vector.
+    // Adds the capture vectors of a pattern.
+    fn capture(&mut self, pattern: Pattern<'_>) -> Result<(), AllocError>
+        ensures { OnOk result (self.new ≡ record self.old {
+          vectors = self.old.vectors
+              ++ spec.capture_list self.old.design self.old.config pattern.entry.merged.now pattern.entry.response.now.outputs;
+        }) }
+    {
+        let outputs = pattern.response.outputs.as_slice();
+        let domains = pattern.merged.domains;
+        match domains.second {
+            Some(second) => self.two_captures(pattern.merged, domains.first, second, outputs),
+            None => self.last_capture(pattern.merged, domains.first, outputs),
+        }
+    }
+
+    // Adds a capture vector of a pattern before its last one.
+    fn first_capture(
+        &mut self,
+        merged: &Merged,
+        domain: u8,
+        outputs: &[Tri],
+    ) -> Result<(), AllocError>
+        ensures { OnOk result (self.new ≡ record self.old {
+          vectors = self.old.vectors
+              ++ spec.capture_with self.old.design self.old.config merged.now domain (waiting self.old.config) outputs.now ∷ [];
+        }) }
+    {
+        let mut acts = Vec::new(self.layout.alloc);
+        self.layout
+            .push_first_capture(&mut acts, merged, domain, outputs)?;
+        self.vectors.push(Acts::copied(self.layout.alloc, &acts)?)?;
+        Ok(())
+    }
+
+    // Adds both capture vectors of a pattern.
+    fn two_captures(
+        &mut self,
+        merged: &Merged,
+        first: u8,
+        second: u8,
+        outputs: &[Tri],
+    ) -> Result<(), AllocError>
+        ensures { OnOk result (self.new ≡ record self.old {
+          vectors = self.old.vectors ++ spec.captures_with self.old.design self.old.config merged.now first (second ∷ []) outputs.now;
+        }) }
+    {
+        let own = self.layout.own.outputs.min(outputs.len());
+        self.first_capture(merged, first, &outputs[..own])?;
+        self.last_capture(merged, second, &outputs[own..])?;
+        Ok(())
+    }
+
+    /// Adds the load and the captures of a pattern behind the last one, and before the first the set-up vector.
     pub fn add(&mut self, last: Option<Pattern<'_>>, pattern: Pattern<'_>) -> Result<(), AllocError>
-        requires few { self.old.count < 65536 }
+        requires few { length self.old.captures < 65536 }
         requires last { IfSome last (Fits self.old.config self.old.plan) }
         requires pattern { Fits self.old.config self.old.plan pattern }
-        ensures same { OnOk result (self.new ≡ record self.old { vectors = self.new.vectors; count = self.old.count + 1 }) }
+        ensures same { OnOk result (self.new ≡ record self.old { vectors = self.new.vectors; captures = self.old.captures ++ captures_of pattern.entry.merged.now ∷ [] }) }
         ensures added { OnOk result ((patterns : List PatternData) → Lists self.old patterns → data_if_any self.old.config self.old.plan last.entry ≡ spec.last_of None patterns
             → Lists self.new (patterns ++ data_of self.old.config self.old.plan pattern.entry ∷ [])) }
     {
         self.set_up()?;
         self.load(last, pattern)?;
         self.capture(pattern)?;
-        self.count += 1;
+        self.captures.push(pattern.merged.domains.count())?;
         Ok(())
     }
 
@@ -135,7 +195,7 @@ impl<'a> VectorList<'a> {
         requires last { IfSome last (Fits self.old.config self.old.plan) }
         ensures { OnOk result (self.new ≡ record self.old { vectors = ended_by self.old (table_of self.old.config.ring (packed_bit (replicate (words_for (columns_of self.old.config self.old.plan)) 0))) (data_if_any self.old.config self.old.plan last.entry) }) }
     {
-        if self.count == 0 {
+        if self.captures.is_empty() {
             return Ok(());
         }
         self.last_load(last)?;
@@ -156,7 +216,7 @@ impl<'a> VectorList<'a> {
         self.unload(last)?;
         let alloc = self.layout.alloc;
         let signals = signals_of(alloc, written)?;
-        let notes = notes_of(alloc, self.layout.planned.chains().cycles(), self.count)?;
+        let notes = notes_of(alloc, self.layout.planned.chains().cycles(), &self.captures)?;
         Ok(PatternSet::noted(signals, self.vectors, notes))
     }
 }

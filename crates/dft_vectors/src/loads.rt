@@ -53,7 +53,7 @@ fn push_inputs(
     let channels = layout.planned.config().ring().channels;
     let place = usize::from(layout.planned.chains().cycles()) - (cycle + 1);
     acts.extend_from_slice(&layout.own.pulsing)?;
-    push_controls(acts, true, false)?;
+    push_controls(acts, true, true, false)?;
     push_channels(acts, channels, bits, cycle * usize::from(channels))?;
     push_masks(acts, &layout.segments, masks, place)?;
     Ok(())

@@ -6,7 +6,7 @@ ghost use Rattle.dft_netlist.specs.Netlist.{Netlist};
 ghost use Rattle.dft_config.specs.Config.{Config};
 ghost use Rattle.dft_rules.specs.Rules as rules;
 ghost use Rattle.dft_expect.specs.Captures as captures;
-ghost use Rattle.dft_expect.specs.Captures.{capture_vector};
+ghost use Rattle.dft_expect.specs.Captures.{vector_of};
 ghost use Rattle.dft_vectors.specs.OwnPorts as spec;
 ghost use Rattle.dft_vectors.specs.OwnPorts.{inputs_by, quiet_vector};
 ghost use Rattle.dft_vectors.specs.Tables.{AreOwn, nets_named};
@@ -169,17 +169,18 @@ fn push_given(
     Ok(())
 }
 
-// Adds what the capture vector of a pattern does at the design's inputs.
+// Adds what a capture vector of a pattern, in which the clock of a domain pulses, does at the design's inputs.
 pub(crate) fn push_captured(
     alloc: Global,
     acts: &mut Vec<Act>,
     own: &OwnPorts,
     merged: &Merged,
+    domain: u8,
 ) -> Result<(), AllocError>
     ensures { OnOk result ((n : Netlist) (config : Config) → AreOwn n config own.now
-        → acts.new.items ≡ acts.old.items ++ inputs_by n (capture_vector n config merged.now)) }
+        → acts.new.items ≡ acts.old.items ++ inputs_by n (vector_of n config merged.now domain)) }
 {
-    let clock = clock_at(&own.clocks, merged.domain);
+    let clock = clock_at(&own.clocks, domain);
     let given = bits::given_bits(alloc, own.nets, merged.ports.as_slice())?;
     push_given(acts, &own.inputs, clock, &given)?;
     Ok(())

@@ -1,6 +1,6 @@
 -- What a draft keeps as the rules say more of it: its name and its cells, where the nets of its ports stand, and that its parts stand among its nets.
 -- And that no rule finds fault with a cell that the library has not, or with a second module.
-use Rattle.std.proofs.Common.{◌≡◌, ℕ, zero, suc, ◌+◌, ◌<◌, ◌≤◌, Bool, true, false, not, ◌&&◌, cond, nat_le, nat_lt, List, [], ◌∷◌, ◌++◌, length, map, set, slice_get, is_some, Option, Some, None, Ok, Err, refl, sym, ap, ap₂, ◌∙◌, subst, arith, length-append}
+use Rattle.std.proofs.Common.{◌≡◌, ℕ, zero, suc, ◌+◌, ◌≤◌, Bool, true, false, not, ◌&&◌, cond, nat_le, nat_lt, List, [], ◌∷◌, ◌++◌, length, map, set, slice_get, is_some, Option, Some, None, Ok, Err, refl, sym, ap, ◌∙◌, subst, arith, length-append}
 use Rattle.std.specs.List.{All}
 use Rattle.std.specs.Option.{option_and_then}
 use Rattle.std.proofs.lemmas.List.{append-nil, append_assoc, map-append, length-map}
@@ -22,7 +22,7 @@ use Rattle.dft_netlist_text.specs.declared.text.Meaning.{Meaning}
 use Rattle.dft_netlist_text.specs.declared.text.Meaning.TheVariants as meaning
 use Rattle.dft_netlist_text.specs.declared.text.Declared.{Declared}
 use Rattle.dft_netlist_text.specs.Steps.{fault}
-use Rattle.dft_netlist_text.specs.Modules.{Draft, HeaderPort, TakenName, empty_draft, meaning_of, is_taken, with_name, net_count, names_of_bits, first_taken, free_bits, with_bits, next_shape, with_nets, declare_nets, declared_at, port_place, announce, with_declared, declare_found, declare_port, declare_new_port, same_range, repeat_port, declare_wire_as, declare_wire, room_for_instance, name_instance, with_instance, with_join}
+use Rattle.dft_netlist_text.specs.Modules.{Draft, HeaderPort, TakenName, empty_draft, meaning_of, is_taken, with_name, net_count, names_of_bits, first_taken, free_bits, next_shape, with_nets, declare_nets, declared_at, port_place, announce, with_declared, declare_found, declare_port, declare_new_port, same_range, repeat_port, declare_wire_as, declare_wire, room_for_instance, name_instance, with_instance, with_join}
 use Rattle.dft_modules.specs.SubInstances.{name_sub}
 use Rattle.dft_verilog_draft.specs.Drafts.{IsMeaningWithin, AreNamesWithin, IsDeclaredWithin, InstanceFits, JoinFits, nets_alone}
 use Rattle.dft_verilog_draft.specs.Free.{taken_bit}

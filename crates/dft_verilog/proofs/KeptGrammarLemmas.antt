@@ -1,8 +1,6 @@
 -- What the rules of the grammar keep of a draft, and which faults they find.
-use Rattle.std.proofs.Common.{◌≡◌, ℕ, zero, suc, ◌+◌, ◌<◌, ◌≤◌, Bool, true, false, not, ◌&&◌, ◌||◌, ◌==◌, cond, find, nat_le, nat_lt, IsTrue, List, [], ◌∷◌, ◌++◌, length, map, slice_get, is_some, Option, Some, None, IfSome, Ok, Err, refl, sym, ap, ◌∙◌, subst, arith, rules}
-use Rattle.std.specs.List.{All}
-use Rattle.std.proofs.lemmas.List.Elements.{All-append, All-cons, All-nil, All-map}
-use Rattle.std.proofs.lemmas.Bool.Decides.{nat_tests}
+use Rattle.std.proofs.Common.{◌≡◌, ℕ, zero, suc, ◌<◌, Bool, true, false, not, ◌&&◌, ◌==◌, cond, find, nat_le, nat_lt, IsTrue, List, [], ◌∷◌, ◌++◌, length, slice_get, is_some, Option, Some, None, IfSome, Ok, Err, refl, sym, ap, ◌∙◌, arith, rules}
+use Rattle.std.proofs.lemmas.List.Elements.{All-append}
 use Rattle.dft_base.specs.declared.place.Range.{Range}
 use Rattle.dft_base.specs.declared.dir.Dir.{Dir}
 use Rattle.dft_base.specs.declared.dir.Dir.TheVariants as dir
@@ -30,12 +28,11 @@ use Rattle.dft_netlist_text.specs.declared.text.Declared.{Declared}
 use Rattle.dft_netlist_text.specs.declared.text.Site.{Site}
 use Rattle.dft_netlist_text.specs.declared.text.Site.TheVariants as site
 use Rattle.dft_netlist_text.specs.Lexemes.{Token}
-use Rattle.dft_netlist_text.specs.Steps.{Outcome, Rule, kind_of, bytes, left, next, sees, cause_of, refusal, fault, expect, eat, needed, checked}
-use Rattle.dft_netlist_text.specs.Modules.{Draft, empty_draft, announce, declare_nets, declare_new_port, declare_port, declare_wire, declared_at, meaning_of, name_instance, room_for_instance}
+use Rattle.dft_netlist_text.specs.Steps.{Outcome, Rule, kind_of, bytes, left, next, sees, cause_of, refusal, expect, eat, needed, checked}
+use Rattle.dft_netlist_text.specs.Modules.{Draft, announce, declare_nets, declare_new_port, declare_port, declare_wire, declared_at, meaning_of, name_instance, room_for_instance}
 use Rattle.dft_netlist_text.specs.Expressions.{unless_too_large, number, rest_of_range, range, range_if_any, bare_digits, cause_of_digit, cause_of_digits, is_unknown_digit, value_of_digits, bits_of_value, unless_cause, digits, constant, SelectedName, Operand, fitting, implied_net, bits_of_port, bits_of_meaning, bits_of_name, implies, is_whole, selected, named_operand, constant_operand, rest_of_select, selection, may_follow, followed, drives, operand, OpenConcatenations, unread, is_read, opening, closing, turn, concatenations_from, expression}
 use Rattle.dft_netlist_text.specs.Items.{Declaring, Ports, Wires, declare, declared_name, declared_names_from, declared_names, declaration, port_item, wire_item, driven_net, with_joins, right_side, net_assignment, net_assignments_from, net_assignments, assign_item, One, one_bit, gate_kind, terminal, input_terminals_from, input_terminals, gate_instance, terminals, named_gate, unnamed_gate, one_gate, gates_from, gates, gate_item, Joined, unjoined, was_joined, found_pin, pin_drives, connected_pin, Connected, pin_signal, pin_content, named_connection, named_connections_from, named_connections, connections, cell_instance, instance, instances_from, instances, instances_of, instances_named, cell_item, gate_or_cell, item_of, item}
-use Rattle.dft_netlist_text.specs.NetlistText.{announced_name, announced_names_from, announced_names, declared_port, PortDeclaration, port_declaration_of, port_declaration, declared_ports_from, declared_ports, sees_direction, header_names, header, heading, first_undeclared, all_declared, module_end}
-use Rattle.dft_verilog_draft.specs.Drafts.{InstanceFits, JoinFits, nets_alone}
+use Rattle.dft_netlist_text.specs.NetlistText.{announced_name, announced_names_from, announced_names, declared_port, PortDeclaration, port_declaration_of, port_declaration, declared_ports_from, declared_ports, sees_direction, header_names, header, first_undeclared, all_declared, module_end}
 use Rattle.dft_verilog_draft.specs.Operands.{IsBit, AreBits}
 use Rattle.dft_verilog_draft.proofs.DraftLemmas.{meaning-within}
 use Rattle.dft_verilog_draft.proofs.NamingLemmas.{named_kept}

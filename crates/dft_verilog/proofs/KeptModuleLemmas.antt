@@ -2,7 +2,7 @@
 use Rattle.std.proofs.Common.{◌≡◌, ℕ, zero, suc, ◌≤◌, Bool, true, false, not, ◌&&◌, ◌||◌, cond, List, [], ◌∷◌, ◌++◌, length, map, is_some, Option, Some, None, Ok, Err, refl, sym, ap, ◌∙◌, subst, arith}
 use Rattle.std.specs.List.{All, list_any}
 use Rattle.std.specs.Str.{bytes_eq}
-use Rattle.std.proofs.lemmas.List.{append_assoc, append-nil, map-append}
+use Rattle.std.proofs.lemmas.List.{append_assoc, map-append}
 use Rattle.std.proofs.lemmas.List.Elements.{All-weaker, All-append, All-cons, All-nil}
 use Rattle.dft_base.specs.Lexing.{Text}
 use Rattle.dft_base.specs.Parser as parser
@@ -15,7 +15,7 @@ use Rattle.dft_netlist_text.specs.declared.text.Fault.{Fault}
 use Rattle.dft_netlist_text.specs.declared.text.TokenKind.TheVariants as kind
 use Rattle.dft_netlist_text.specs.declared.text.Site.TheVariants as site
 use Rattle.dft_netlist_text.specs.Lexemes.{Token, tokens}
-use Rattle.dft_netlist_text.specs.Steps.{Outcome, Rule, bytes, left, next, sees, refusal, expect, eat, needed, checked}
+use Rattle.dft_netlist_text.specs.Steps.{Outcome, Rule, bytes, left, next, sees, refusal, expect, checked}
 use Rattle.dft_netlist_text.specs.Modules.{Draft, empty_draft}
 use Rattle.dft_netlist_text.specs.Items.{item}
 use Rattle.dft_netlist_text.specs.NetlistText.{header, heading, module_end}
@@ -25,12 +25,11 @@ use Rattle.dft_modules.specs.declared.fault.ModulesFault.TheVariants as fault
 use Rattle.dft_modules.specs.Modules.{Module}
 use Rattle.dft_modules.specs.Sound.{IsModule, AreModules}
 use Rattle.dft_modules.specs.Laws.{AreNew, SaidAreModules, NeverForCells, NeverForModules}
-use Rattle.dft_modules.specs.SubInstances.{SubConnection, DraftSub, Said, NamedPort, PortsConnected, was_named, named_port, port_content, port_connection, port_connections_from, port_connections, name_sub, with_sub, sub_instance, sub_instances_from, sub_instances, sub_item, names_module, module_item, module_items_from, module_items, one_module}
-use Rattle.dft_modules.specs.ModuleTexts.{module_said, in_module, name_ahead, is_repeated, repeats, next_module, and_more, modules_from, modules_of}
-use Rattle.dft_verilog_draft.specs.Operands.{AreBits}
+use Rattle.dft_modules.specs.SubInstances.{SubConnection, DraftSub, Said, NamedPort, PortsConnected, was_named, named_port, port_content, port_connection, port_connections_from, port_connections, name_sub, sub_instance, sub_instances_from, sub_instances, sub_item, module_item, module_items_from, module_items, one_module}
+use Rattle.dft_modules.specs.ModuleTexts.{module_said, in_module, name_ahead, is_repeated, next_module, modules_from, modules_of}
 use Rattle.dft_verilog_draft.proofs.OperandLemmas.{bits_more, no_bits}
 use Rattle.dft_verilog.proofs.KeepLemmas.{IsFine, Keeps, keeps_empty, raise, lower, sub_keep}
-use Rattle.dft_verilog.proofs.KeptGrammarLemmas.{Goes, Any, behind, either, of_check, of_need, turns, refusal_fine, expected, eaten, header_keep, Bits, expression_keep, HasCell, item_keep, module_end_keep}
+use Rattle.dft_verilog.proofs.KeptGrammarLemmas.{Goes, Any, behind, either, of_check, of_need, turns, refusal_fine, expected, eaten, header_keep, Bits, expression_keep, item_keep, module_end_keep}
 use Rattle.dft_verilog.proofs.SaidModuleLemmas.{IsSaidModule, one_said}
 use Rattle.dft_verilog.proofs.SoundModuleLemmas.{ConnectionStands, SubStands, KeepsAll, module_sound}
 
@@ -161,7 +160,7 @@ heading_by true library ts = word_by (sees kind.Name (next ts)) library (next ts
 heading_by false library ts = refusal_fine ts
 
 -- whether a module and a name come next
-abbrev names_one : List Token → Bool
+abbrev pub names_one : List Token → Bool
 names_one ts = sees kind.Module ts && sees kind.Name (next ts)
 
 heading_keep : (library : List Cell) (ts : List Token) → Goes (Begun library (name_ahead ts) (names_one ts)) (heading library ts)
@@ -169,10 +168,10 @@ unfolding heading expect
 heading_keep library ts = heading_by (sees kind.Module ts) library ts
 
 -- what was said keeps all of a module with this name, and this test was passed
-abbrev Whole : List Cell → Text → Bool → Said → Type 0
+abbrev pub Whole : List Cell → Text → Bool → Said → Type 0
 Whole library word passed m = KeepsAll (empty_draft word library) 0 m × (passed ≡ true)
 
-one_keep : (library : List Cell) (ts : List Token) → Goes (Whole library (name_ahead ts) (names_one ts)) (one_module library ts)
+pub one_keep : (library : List Cell) (ts : List Token) → Goes (Whole library (name_ahead ts) (names_one ts)) (one_module library ts)
 unfolding one_module
 one_keep library ts =
     let start = empty_draft (name_ahead ts) library in

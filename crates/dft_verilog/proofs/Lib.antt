@@ -18,3 +18,4 @@ pub mod KeptGrammarLemmas
 pub mod SaidModuleLemmas
 pub mod SoundModuleLemmas
 pub mod KeptModuleLemmas
+pub mod LoneModuleLemmas

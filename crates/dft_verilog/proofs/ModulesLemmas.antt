@@ -1,5 +1,5 @@
 -- The modules of a text, one after another, and why a text of several is refused.
-use Rattle.std.proofs.Common.{◌≡◌, ℕ, zero, suc, Bool, true, false, cond, List, [], ◌∷◌, ◌++◌, Result, Ok, Err, IsErrAnd, alloc_error, refl, sym, ap, ap₂, subst, ◌∙◌}
+use Rattle.std.proofs.Common.{◌≡◌, ℕ, suc, Bool, true, false, cond, List, [], ◌∷◌, ◌++◌, Result, Ok, Err, IsErrAnd, alloc_error, refl, sym, ap, subst, ◌∙◌}
 use Rattle.dft_base.specs.Lexing.{Text, place_of}
 use Rattle.dft_base.specs.Parser as parser
 use Rattle.dft_base.specs.Parser.{and_then}
@@ -10,7 +10,7 @@ use Rattle.dft_netlist_text.specs.declared.text.Cause.TheVariants as cause
 use Rattle.dft_netlist_text.specs.declared.text.Fault.{Fault}
 use Rattle.dft_netlist_text.specs.declared.text.TokenKind.TheVariants as kind
 use Rattle.dft_netlist_text.specs.Lexemes.{Token}
-use Rattle.dft_netlist_text.specs.Steps.{sees, refusal}
+use Rattle.dft_netlist_text.specs.Steps.{sees}
 use Rattle.dft_modules.specs.declared.fault.ModulesFault.{ModulesFault}
 use Rattle.dft_modules.specs.declared.fault.ModulesFault.TheVariants as fault
 use Rattle.dft_modules.specs.Modules.{Module}

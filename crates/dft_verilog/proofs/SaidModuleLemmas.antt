@@ -1,19 +1,16 @@
 -- What the rules say of one of several modules is buildable, but for its module instances.
-use Rattle.std.proofs.Common.{◌≡◌, ℕ, zero, suc, Bool, true, false, not, ◌&&◌, cond, List, [], ◌∷◌, ◌++◌, is_some, Ok, Err}
+use Rattle.std.proofs.Common.{ℕ, zero, suc, false, List, []}
 use Rattle.dft_base.specs.Lexing.{Text}
-use Rattle.dft_base.specs.Parser as parser
 use Rattle.dft_cells.specs.declared.cell.Cell.{Cell}
-use Rattle.dft_cells.specs.Cells.{find_cell}
 use Rattle.dft_netlist_text.specs.declared.text.TokenKind.TheVariants as kind
 use Rattle.dft_netlist_text.specs.declared.text.Site.TheVariants as site
 use Rattle.dft_netlist_text.specs.Lexemes.{Token}
-use Rattle.dft_netlist_text.specs.Steps.{bytes, left, next, sees, expect, eat, checked}
+use Rattle.dft_netlist_text.specs.Steps.{left, sees, expect, eat, checked}
 use Rattle.dft_netlist_text.specs.Modules.{Draft}
-use Rattle.dft_netlist_text.specs.Expressions.{expression}
 use Rattle.dft_netlist_text.specs.Items.{item}
 use Rattle.dft_netlist_text.specs.NetlistText.{heading, module_end}
 use Rattle.dft_netlist_text.proofs.ParserLemmas.{Yields, behind, passed, either, of_check, turns}
-use Rattle.dft_modules.specs.SubInstances.{DraftSub, Said, PortsConnected, named_port, port_content, port_connection, port_connections_from, port_connections, name_sub, sub_instance, sub_instances_from, sub_instances, sub_item, names_module, module_item, module_items_from, module_items, one_module}
+use Rattle.dft_modules.specs.SubInstances.{Said, PortsConnected, named_port, port_content, port_connection, port_connections_from, port_connections, name_sub, sub_instance, sub_instances_from, sub_instances, sub_item, names_module, module_item, module_items_from, module_items, one_module}
 use Rattle.dft_verilog.proofs.SaidLemmas.{IsSaid, sub_said}
 use Rattle.dft_verilog.proofs.GrammarLemmas.{SaidFirst, heading_said, item_said, module_end_said, expression_said}
 

@@ -1,8 +1,8 @@
 -- A module that was said is sound.
-use Rattle.std.proofs.Common.{◌≡◌, ℕ, zero, suc, ◌+◌, ◌-◌, ◌<◌, ◌≤◌, Bool, true, false, List, [], ◌∷◌, ◌++◌, length, map, take, drop, get_or, slice_get, Option, Some, None, refl, sym, ap, ap₂, ◌∙◌, subst, arith, length-append}
+use Rattle.std.proofs.Common.{◌≡◌, ℕ, zero, suc, ◌+◌, ◌-◌, ◌≤◌, false, List, [], ◌∷◌, ◌++◌, length, map, drop, get_or, slice_get, Option, Some, None, refl, sym, ap, ap₂, ◌∙◌, subst, arith, length-append}
 use Rattle.std.specs.List.{All}
-use Rattle.std.proofs.lemmas.List.{append_assoc, append-nil, map-append, length-map}
-use Rattle.std.proofs.lemmas.List.Elements.{All-weaker, All-append, All-cons, All-nil, All-head, All-tail, All-map, All-take, All-drop}
+use Rattle.std.proofs.lemmas.List.{append_assoc, map-append, length-map}
+use Rattle.std.proofs.lemmas.List.Elements.{All-weaker, All-append, All-cons, All-head, All-tail, All-map, All-take, All-drop}
 use Rattle.std.proofs.Math.Seq.{get_or-append_seam}
 use Rattle.dft_base.specs.Lexing.{Text}
 use Rattle.dft_base.specs.Ranges.{going_up}
@@ -14,12 +14,11 @@ use Rattle.dft_netlist.specs.declared.instance.Signal.{Signal}
 use Rattle.dft_netlist.specs.declared.instance.Signal.TheVariants as signal
 use Rattle.dft_netlist.specs.declared.instance.Instance.{Instance}
 use Rattle.dft_netlist.specs.declared.instance.Join.{Join}
-use Rattle.dft_netlist.specs.declared.limits.TheConstants.{MAX_PORTS, MAX_NETS}
 use Rattle.dft_netlist.specs.Building.{port_of}
 use Rattle.dft_netlist.specs.Names.{bit_names}
 use Rattle.dft_netlist.specs.Netlist.{Netlist}
 use Rattle.dft_netlist.specs.NetNumbers.{nets_from}
-use Rattle.dft_netlist.specs.Sound.{IsInstance, IsAJoin, IsLive, IsConnected, Begins, bits_of, bit_names_of}
+use Rattle.dft_netlist.specs.Sound.{IsInstance, IsAJoin, IsLive, IsConnected, bits_of, bit_names_of}
 use Rattle.dft_netlist.proofs.BitLemmas.{up_length}
 use Rattle.dft_netlist.proofs.NumberLemmas.{net_of}
 use Rattle.dft_netlist.proofs.PortLemmas.{nets_from-length}
@@ -29,7 +28,7 @@ use Rattle.dft_netlist_text.specs.NetlistText.{nets_of_port, nets_of_ports, othe
 use Rattle.dft_modules.specs.declared.connections.Connection.{Connection}
 use Rattle.dft_modules.specs.declared.module.Item.{Item}
 use Rattle.dft_modules.specs.SubInstances.{SubConnection, DraftSub, Said}
-use Rattle.dft_modules.specs.ModuleTexts.{Numbering, port_said, ports_said, names_in_order, signal_by, join_said, cell_said, connection_said, sub_said, between, parts_between, items_said, module_said}
+use Rattle.dft_modules.specs.ModuleTexts.{port_said, ports_said, names_in_order, signal_by, join_said, cell_said, connection_said, sub_said, between, parts_between, items_said, module_said}
 use Rattle.dft_modules.specs.Sound.{IsOuterBit, IsConnectionOf, IsItem, IsModule}
 use Rattle.dft_verilog_draft.specs.Drafts.{InstanceFits, JoinFits, netlist_of_nets, nets_alone}
 use Rattle.dft_verilog_draft.specs.Operands.{IsBit, AreBits}
@@ -41,7 +40,7 @@ use Rattle.dft_verilog.proofs.FinalLemmas.{AreFinal-numbered}
 use Rattle.dft_verilog.proofs.StandingLemmas.{signal-within, instance-stands, join-stands}
 use Rattle.dft_verilog.proofs.SaidLemmas.{IsSaid}
 use Rattle.dft_verilog.proofs.SaidPartLemmas.{names_of_all}
-use Rattle.dft_verilog.proofs.KeepLemmas.{NamesAt, DeclaredStands, PortStands, Keeps}
+use Rattle.dft_verilog.proofs.KeepLemmas.{DeclaredStands, PortStands, Keeps}
 
 -- ---- what one of several modules keeps
 

@@ -74,7 +74,7 @@ header_joined : (library : List Cell) → Keeps library header
 unfolding header
 header_joined library d h ts = either (IsJoinedDraft library) (sees kind.OpenParen ts) _ _ (closed_keeps library kind.CloseParen header_names (header_names_joined library) d h (next ts)) h
 
-heading_joined : (library : List Cell) (ts : List Token) → Yields (IsJoinedDraft library) (heading library ts)
+pub heading_joined : (library : List Cell) (ts : List Token) → Yields (IsJoinedDraft library) (heading library ts)
 unfolding heading
 heading_joined library ts =
     passed (IsJoinedDraft library) (expect kind.Module ts) _ (λ w us.
@@ -292,7 +292,7 @@ gate_or_cell_joined : (library : List Cell) (k : Option Kind) → Keeps library 
 gate_or_cell_joined library (Some k) d h ts = gate_item_joined library k d h ts
 gate_or_cell_joined library None d h ts = cell_item_joined library d h ts
 
-item_of_joined : (library : List Cell) (k : TokenKind) → Keeps library (item_of k)
+pub item_of_joined : (library : List Cell) (k : TokenKind) → Keeps library (item_of k)
 item_of_joined library kind.Name d h ts = gate_or_cell_joined library (gate_kind kind.Name) d h ts
 item_of_joined library kind.Module d h ts = gate_or_cell_joined library (gate_kind kind.Module) d h ts
 item_of_joined library kind.Endmodule d h ts = gate_or_cell_joined library (gate_kind kind.Endmodule) d h ts
@@ -346,7 +346,7 @@ declared_end : (library : List Cell) (place : ℕ) (d : Draft) (o : Option Text)
 declared_end library place d None h ts = h
 declared_end library place d (Some word) h ts = tt
 
-module_end_joined : (library : List Cell) → Keeps library module_end
+pub module_end_joined : (library : List Cell) → Keeps library module_end
 unfolding module_end
 module_end_joined library d h ts = passed (IsJoinedDraft library) (expect kind.Endmodule ts) _ (λ w us. declared_end library (left ts) d (first_undeclared d.ports) h us)
 

@@ -53,5 +53,5 @@ returns-clause-refused c =
     let known = c.soundness-2.ensures in
     let p = placed_by l c.args.cubes.now c.in_ok-merger.merger c.in_ok-placed.placed.items c.deref.result.now c.place_all.new.merger.patterns known.planned known.equations c.in_ok-merger.ensures c.deref.ensures.value c.in_ok-placed.ensures.placed in
     subst (λ (q : Planned). IfErr c.texts.result (IsLate q.design q.config c.args.cubes.now)) c.loads-loads.ensures
-    (IfErr-weaker c.texts.result (IsRefusal (late_refusal l.design l.config c.args.cubes.now l.rows c.deref.result.now (length c.place_all.new.merger.patterns))) (IsLate l.design l.config c.args.cubes.now)
+    (IfErr-weaker c.texts.result (IsRefusal (late_refusal l.design l.config c.args.cubes.now l.rows c.deref.result.now c.place_all.new.merger.patterns)) (IsLate l.design l.config c.args.cubes.now)
     (λ e h. refused_of l.design l.config c.args.cubes.now l.rows c.deref.result.now c.place_all.new.merger.patterns e p h) c.texts.ensures.refused)

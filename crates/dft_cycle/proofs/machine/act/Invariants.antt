@@ -1,5 +1,5 @@
 -- The flip-flops before this one were acted on.
-use Rattle.std.proofs.Common.{length, map, drop}
+use Rattle.std.proofs.Common.{◌≡◌, length, map, drop}
 use Rattle.dft_cycle.specs.Machine.{acted}
 use Rattle.dft_logic.specs.Circuit.{cell_of, cell_at}
 use Rattle.dft_cycle.proofs.DomainLemmas.{Listed}
@@ -7,4 +7,5 @@ use Rattle.dft_cycle.proofs.machine.act.Given as goal
 
 abbrev pub invariant-loop-cell : goal.invariant-loop-cell
 invariant-loop-cell l =
-    Listed (length l.circuit.flops.items) l.initial.cells l.cells (λ c old. acted (cell_at (map cell_of l.circuit.flops.items) c).force l.net.0 l.value old) (drop l.cell-index l.cell-items)
+    Listed (length l.circuit.flops.items) l.fn.cells.values l.cells.values (λ c old. acted (cell_at (map cell_of l.circuit.flops.items) c).force l.net.0 l.value old) (drop l.cell-index l.cell-items)
+    × ((l.cells.layout ≡ l.fn.cells.layout) × (length l.cells.values ≡ length l.fn.cells.values))

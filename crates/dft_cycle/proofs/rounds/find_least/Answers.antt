@@ -6,7 +6,7 @@ use Rattle.dft_cycle.proofs.rounds.find_least.Goals as goal
 
 pub loop-init : goal.loop-init
 loop-init c = record {
-  reached = reach_start (logic_at c.args.phase.circuit.now) (pulse_at c.args.phase.pulse) c.args.search.now.poss.items c.args.phase.pulse.old.now c.requires.begins refl;
+  reached = reach_start (logic_at c.args.phase.circuit.now) (pulse_at c.args.phase.pulse) c.args.search.now.poss.items c.args.phase.pulse.old.now.values c.requires.begins refl;
   search = c.requires.search;
   ready = c.requires.ready;
   clear = c.requires.clear;

@@ -1,5 +1,5 @@
 -- One net more.
-use Rattle.std.proofs.Common.{◌∙◌, ap, arith}
+use Rattle.std.proofs.Common.{arith}
 use Rattle.std.proofs.lemmas.List.{get_or_default}
 use Rattle.dft_expect.specs.declared.settings.Setting.TheVariants.{Unknown}
 use Rattle.dft_expect.proofs.MovingLemmas.{cells_all, cells_set_on}

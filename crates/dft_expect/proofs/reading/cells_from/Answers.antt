@@ -11,8 +11,8 @@ use Rattle.dft_expect.proofs.reading.cells_from.Goals as goal
 
 pub loop-number-preserved : goal.loop-number-preserved
 loop-number-preserved c =
-    let values = value_at c.args.reading.now.evaluator.now c.args.pattern in
-    let reads = c.args.reading.now.reads.now in
+    let values = value_at c.args.evaluator.now c.args.pattern in
+    let reads = c.args.reads.now in
     values_more (λ number. read_value values c.args.edge.clock c.args.edge.rising (slice_index_or c.args.before.now number Unknown) (read_at reads number)) c.loop-number.cells.items c.push.new.self.items c.loop-number.number c.cell_after.result c.loop-number.invariant
     c.in_ok-push.ensures.items
     (c.cell_after.ensures

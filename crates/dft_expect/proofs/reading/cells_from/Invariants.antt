@@ -8,4 +8,4 @@ use Rattle.dft_expect.specs.Reads.{read_at, read_value}
 use Rattle.dft_expect.proofs.reading.cells_from.Given as goal
 
 abbrev pub invariant-loop-number : goal.invariant-loop-number
-invariant-loop-number l = l.cells.items ≡ map (λ number. read_value (value_at l.reading.evaluator.now l.pattern) l.edge.clock l.edge.rising (slice_index_or l.before number Unknown) (read_at l.reading.reads.now number)) (range_with_len 0 l.number)
+invariant-loop-number l = l.cells.items ≡ map (λ number. read_value (value_at l.evaluator l.pattern) l.edge.clock l.edge.rising (slice_index_or l.before number Unknown) (read_at l.reads number)) (range_with_len 0 l.number)

@@ -5,7 +5,7 @@ use Rattle.dft_expect.proofs.ReadLemmas.{fallen}
 use Rattle.dft_expect.proofs.reading.fall.Goals as goal
 
 pub returns : goal.returns
-returns c = λ falls.
-    (let reading = c.args.reading.now in
-    fallen reading.design.now reading.config.now c.args.pattern.now (value_at reading.evaluator.now c.args.place) c.clock_of-clock.result reading.reads.now c.args.response.now _ c.requires.can c.requires.reads c.clock_of-clock.ensures
-    (c.from_vec.ensures ∙ (rw c.as_slice.ensures at c.in_ok-cells.ensures)) refl falls)
+returns c = λ pattern count at falls.
+    (let fixed = c.args.fixed.now in
+    fallen fixed.design.now fixed.config.now pattern count c.args.domain (value_at c.args.evaluator.now c.args.place) c.clock_of.result fixed.reads.now c.args.response.now _ c.requires.fixed.can c.requires.fixed.reads c.clock_of.ensures
+    (c.from_vec.ensures ∙ (rw c.as_slice-before.ensures at c.in_ok-cells.ensures)) refl at falls)

@@ -1,12 +1,11 @@
--- What has risen so far.
-use Rattle.std.proofs.Common.{◌≡◌, ℕ, length, slice_get, Some}
-use Rattle.dft_expect.specs.declared.pattern.Pattern.{Pattern}
-use Rattle.dft_expect.specs.declared.response.Response.{Response}
-use Rattle.dft_expect.specs.Capturing.{IsRisen}
+-- What has risen so far; the others are as before.
+use Rattle.std.proofs.Common.{slice_get}
+use Rattle.dft_evaluator.specs.Evaluations.{value_at}
+use Rattle.dft_expect.specs.Captures.{captured_domains}
+use Rattle.dft_expect.specs.Capturing.{IsRisenIn}
+use Rattle.dft_expect.proofs.ReadLemmas.{AreUpTo}
 use Rattle.dft_expect.proofs.reading.rise_all.Given as goal
 
 abbrev pub invariant-loop-place : goal.invariant-loop-place
-invariant-loop-place l = record {
-  count : length l.responses.items ≡ l.place;
-  each : (p : ℕ) (pattern : Pattern) (r : Response) → slice_get l.patterns p ≡ Some pattern → slice_get l.responses.items p ≡ Some r → IsRisen l.reading.design.now l.reading.config.now pattern r;
-}
+invariant-loop-place l =
+    AreUpTo (λ p pattern r. IsRisenIn l.fixed.design.now l.fixed.config.now pattern l.vector (slice_get (captured_domains pattern.merged.now) l.vector) r (value_at l.evaluator p)) l.patterns l.place l.initial.responses l.responses

@@ -1,5 +1,5 @@
 -- The clock of the pin's source.
-use Rattle.std.proofs.Common.{◌≡◌, ◌∙◌, ap, sym}
+use Rattle.std.proofs.Common.{◌∙◌, ap, sym}
 use Rattle.dft_netlist.specs.ClockSteps.{shown_clock}
 use Rattle.dft_netlist.specs.Drivers.{source_of}
 use Rattle.dft_netlist.proofs.ClockTables.{shown_in}

@@ -1,5 +1,5 @@
 -- The clock of the net.
-use Rattle.std.proofs.Common.{◌≡◌, ◌∙◌, ap}
+use Rattle.std.proofs.Common.{◌∙◌, ap}
 use Rattle.dft_netlist.specs.ClockSteps.{shown_clock}
 use Rattle.dft_netlist.specs.Drivers.{Net}
 use Rattle.dft_logic.proofs.compiling.clock_of.Goals as goal

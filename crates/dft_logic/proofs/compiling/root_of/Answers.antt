@@ -1,5 +1,5 @@
 -- The root of the net.
-use Rattle.std.proofs.Common.{◌≡◌, ◌∙◌, ap}
+use Rattle.std.proofs.Common.{◌∙◌, ap}
 use Rattle.dft_netlist.specs.Drivers.{Net}
 use Rattle.dft_netlist.specs.Roots.{shown_root}
 use Rattle.dft_logic.proofs.compiling.root_of.Goals as goal

@@ -30,13 +30,13 @@ returns-then-not-add_cells-clause-joined c =
 pub returns-in-Ok-clause-slot : goal.returns-in-Ok-clause-slot
 returns-in-Ok-clause-slot c =
     slot_joined (columns_by c.args.loads.now) (rows_by c.args.loads.now) c.args.pattern.now c.give.new.pattern c.args.cube.now c.args.slot.now c.give.new.slot c.as_slice.result.now c.add_cells.new.system
-    c.opposes.result c.deref.result.now c.deref-else-pattern-cube.result.now c.requires.slot c.deref.ensures.value c.deref-else-pattern-cube.ensures.value c.opposes.ensures c.if-opposes.false
+    c.opposes.result c.deref.result.now c.deref-else-not-are.result.now c.requires.slot c.deref.ensures.value c.deref-else-not-are.ensures.value c.opposes.ensures c.if-opposes.false
     c.as_slice.ensures c.if-not-add_cells.ensures.columns c.if-not-add_cells.ensures.added c.in-Ok.ensures.ok c.in-Ok.ensures.system c.in-Ok.ensures.cells c.in-Ok.ensures.ports
 
 pub returns-in-Ok-clause-joined : goal.returns-in-Ok-clause-joined
 returns-in-Ok-clause-joined c = (
   slot_fits (columns_by c.args.loads.now) (rows_by c.args.loads.now) c.args.pattern.now c.args.cube.now c.args.slot.now c.as_slice.result.now c.add_cells.new.system
-      c.opposes.result c.deref.result.now c.deref-else-pattern-cube.result.now c.requires.slot c.if-pattern-cube.false c.deref.ensures.value c.deref-else-pattern-cube.ensures.value c.opposes.ensures c.if-opposes.false
+      c.opposes.result c.deref.result.now c.deref-else-not-are.result.now c.requires.slot c.if-not-are.ensures c.deref.ensures.value c.deref-else-not-are.ensures.value c.opposes.ensures c.if-opposes.false
       c.as_slice.ensures c.if-not-add_cells.ensures.columns c.if-not-add_cells.ensures.added,
   c.in-Ok.ensures.ok,
 )

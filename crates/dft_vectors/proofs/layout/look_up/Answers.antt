@@ -1,5 +1,5 @@
 -- The planned chains fit.
-use Rattle.std.proofs.Common.{◌≡◌, ◌∙◌, ap}
+use Rattle.std.proofs.Common.{◌∙◌, ap}
 use Rattle.dft_stitch.proofs.ChainLimits.{chains_count, limits}
 use Rattle.dft_vectors.specs.Segments.{segments_of}
 use Rattle.dft_vectors.proofs.layout.look_up.Goals as goal

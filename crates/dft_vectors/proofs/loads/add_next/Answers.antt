@@ -1,4 +1,4 @@
-use Rattle.std.proofs.Common.{◌++◌, ◌≡◌, List, Some, length, ap, ◌∙◌, arith}
+use Rattle.std.proofs.Common.{◌++◌, List, Some, length, ap, ◌∙◌, arith}
 use Rattle.dft_base.specs.Packed.{packed_bit}
 use Rattle.dft_stitch.specs.Plans.{falling_head}
 use Rattle.dft_expect.specs.Loaded.{table_of}

@@ -1,4 +1,4 @@
-use Rattle.std.proofs.Common.{◌≡◌, Option, OnOk, sym, subst, ap, arith}
+use Rattle.std.proofs.Common.{◌≡◌, Option, OnOk, sym, subst}
 use Rattle.dft_netlist_text.specs.declared.text.Declared.{Declared}
 use Rattle.dft_verilog.specs.SaidParts.{with_port}
 use Rattle.dft_verilog.proofs.SaidPartLemmas.{with_port-none}

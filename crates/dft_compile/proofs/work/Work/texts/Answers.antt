@@ -17,7 +17,7 @@ pattern_text-requires-clause-scanned c =
 pub pattern_text-requires-clause-short : goal.pattern_text-requires-clause-short
 pattern_text-requires-clause-short c =
     let w = c.args.self.now in
-    subst (λ (l : LoadPlan). pattern_bytes l.design l.config (length w.merger.now.patterns) ≤ MAX_TEXT) (sym c.requires.merger) c.in_ok-check_patterns.ensures.accepted
+    subst (λ (l : LoadPlan). pattern_bytes l.design l.config w.merger.now.patterns ≤ MAX_TEXT) (sym c.requires.merger) c.in_ok-check_patterns.ensures.accepted
 
 pub returns-clause-texts : goal.returns-clause-texts
 returns-clause-texts c =

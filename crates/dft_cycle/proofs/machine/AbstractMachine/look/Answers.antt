@@ -73,8 +73,7 @@ pub returns-else-not-read-clause-seen : goal.returns-else-not-read-clause-seen
 returns-else-not-read-clause-seen c =
     let d = c.self.inside in
     let P : Machine → Type 0 = λ m. AreSeen (logic m) (value_at m.inputs) (value_at m.cells) c.args.nets.now c.read-read.new.row in
-    let I : List Tri → Type 0 = λ l. AreSeen (logic_at d.circuit) (value_at l) (value_at c.deref-2.result.now) c.args.nets.now c.read-read.new.row in
-    let C : List Tri → Type 0 = λ l. AreSeen (logic_at d.circuit) (value_at d.inputs.items) (value_at l) c.args.nets.now c.read-read.new.row in
-    let L : Logic → Type 0 = λ l. AreSeen l (value_at d.inputs.items) (value_at d.cells.items) c.args.nets.now c.read-read.new.row in
-    let seen = subst C c.deref-2.ensures.value (subst I c.deref.ensures.value (c.read-read.ensures.seen c.if-not-read.false)) in
+    let I : List Tri → Type 0 = λ l. AreSeen (logic_at d.circuit) (value_at l) (value_at d.cells.values) c.args.nets.now c.read-read.new.row in
+    let L : Logic → Type 0 = λ l. AreSeen l (value_at d.inputs.items) (value_at d.cells.values) c.args.nets.now c.read-read.new.row in
+    let seen = subst I c.deref.ensures.value (c.read-read.ensures.seen c.if-not-read.false) in
     subst P c.self.view_is (subst L (sym c.self.invariant.compiled) seen)

@@ -1,12 +1,12 @@
 -- The nets have the values of every settled assignment.
-use Rattle.std.proofs.Common.{ℕ, ◌≡◌, ◌∙◌, ap, map, subst, List}
+use Rattle.std.proofs.Common.{ℕ, ◌≡◌, ◌∙◌, refl, ap, map, subst, List}
 use Rattle.dft_base.specs.declared.tri.Tri.{Tri}
 use Rattle.dft_cycle.specs.Machine.{Machine, logic, value_at}
 use Rattle.dft_logic.specs.Needs.{AreSeen}
 use Rattle.dft_netlist.specs.declared.ids.NetId.{NetId}
 use Rattle.dft_cycle.specs.MachineShown.{machine_of}
-use Rattle.dft_logic.specs.declared.settling.View.{View}
-use Rattle.dft_logic.specs.Circuit.{logic_at, IsGivenIn}
+use Rattle.dft_logic.specs.declared.settling.Pulse.{Pulse as Phase}
+use Rattle.dft_logic.specs.Circuit.{logic_at, GivenIn, pulse_at}
 use Rattle.dft_cycle.proofs.DomainLemmas.{ready_view}
 use Rattle.dft_cycle.proofs.MachineLemmas.{refilled, filled, looked, clear_kept, ready_kept}
 use Rattle.dft_cycle.proofs.machine.AbstractMachine.look_at_all.Goals as goal
@@ -44,10 +44,11 @@ pub returns-clause-seen : goal.returns-clause-seen
 unfolding logic_at
 returns-clause-seen c =
     let d = c.self.inside in
-    let V : View → Type 0 = λ v. (k : ℕ) → IsGivenIn d.circuit v v.domain.0 c.settle_again.new.values k in
+    let v = c.strobe_view.result in
+    let V : Phase → Type 0 = λ p. (k : ℕ) → GivenIn d.circuit (pulse_at p) v.poss.now v.held.now v.domain.0 c.settle_again.new.values k in
     let P : Machine → Type 0 = λ m. AreSeen (logic m) (value_at m.inputs) (value_at m.cells) c.args.nets.now c.read_list.new.row in
-    let read : c.deref-3.result.now ≡ c.settle_again.new.values = c.deref-3.ensures.value ∙ filled d.values c.settle_again.new.values c.deref_mut.result.now c.settle_again.auto.values c.deref_mut.ensures.value in
+    let read : c.deref-2.result.now ≡ c.settle_again.new.values = c.deref-2.ensures.value ∙ filled d.values c.settle_again.new.values c.deref_mut.result.now c.settle_again.auto.values c.deref_mut.ensures.value in
     subst P c.self.view_is
-    (looked (machine_of d) d.circuit c.deref.result.now c.deref-2.result.now c.deref-2.result.now c.deref-2.result.now c.settle_again.new.values c.read_list.new.row 0 c.args.nets.now c.self.invariant.circuit c.self.invariant.compiled
-    c.deref.ensures.value c.deref-2.ensures.value (subst V c.strobe_view.ensures c.settle_again.ensures.given)
+    (looked (machine_of d) d.circuit c.deref.result.now d.cells.values v.poss.now v.held.now c.settle_again.new.values c.read_list.new.row v.domain.0 c.args.nets.now c.self.invariant.circuit c.self.invariant.compiled
+    c.deref.ensures.value refl (subst V c.strobe_view.ensures c.settle_again.ensures.given)
     (c.read_list.ensures ∙ ap (λ (l : List Tri). map (λ (net : NetId). value_at l net.0) c.args.nets.now) read))

@@ -9,6 +9,8 @@ use Rattle.dft_logic.specs.Circuit.{flag_at, logic_at}
 use Rattle.dft_cycle.specs.Views.{Among}
 use Rattle.dft_cycle.specs.MachineShown.{machine_of}
 use Rattle.dft_cycle.proofs.MachineLemmas.{refilled, filled, clear_kept, ready_kept, pulsed_loose, phase_done, taken_read, pulses_among, flags_one}
+use Rattle.dft_registers.specs.Layout.{Layout}
+use Rattle.dft_cycle.specs.Plans.{ArePlans}
 use Rattle.dft_cycle.proofs.machine.AbstractMachine.phase_by_views.Goals as goal
 
 pub mark-requires-clause-live : goal.mark-requires-clause-live
@@ -20,22 +22,22 @@ mark-requires-clause-live c = λ place clock at.
 pub find_least-requires-clause-owned : goal.find_least-requires-clause-owned
 find_least-requires-clause-owned c = λ k e high source at.
     (let Q : List NetId → Type 0 = λ l. Among l (length l) e in
-    subst Q (sym c.deref-6.ensures.value) (c.self.invariant.owned k e high source at))
+    subst Q (sym c.deref-4.ensures.value) (c.self.invariant.owned k e high source at))
 
 pub find_least-requires-clause-live : goal.find_least-requires-clause-live
 find_least-requires-clause-live c = λ place net at.
     (let S : List NetId → Type 0 = λ l. slice_get l place ≡ Some net in
-    let less = c.self.invariant.live place net (subst S c.deref-6.ensures.value at) in
+    let less = c.self.invariant.live place net (subst S c.deref-4.ensures.value at) in
     omega (arith, c.self.invariant.pulsed, less))
 
 pub find_least-requires-clause-pulsing : goal.find_least-requires-clause-pulsing
 find_least-requires-clause-pulsing c = λ e up.
     (let d = c.self.inside in
     let clocks : c.deref.result.now ≡ d.clocks.items = c.deref.ensures.value in
-    let named : c.deref-6.result.now ≡ d.clocks.items = c.deref-6.ensures.value in
+    let named : c.deref-4.result.now ≡ d.clocks.items = c.deref-4.ensures.value in
     let flags : c.deref_mut.result.now ≡ d.pulsed.items = c.deref_mut.ensures.value in
-    let read : c.deref-4.result.now ≡ (with_items d.pulsed c.mark.new.flags).items = c.deref-4.ensures.value in
-    let marked : c.deref-4.result.now ≡ c.mark.new.flags = read ∙ filled d.pulsed c.mark.new.flags c.deref_mut.result.now c.mark.auto.flags flags in
+    let read : c.deref-3.result.now ≡ (with_items d.pulsed c.mark.new.flags).items = c.deref-3.ensures.value in
+    let marked : c.deref-3.result.now ≡ c.mark.new.flags = read ∙ filled d.pulsed c.mark.new.flags c.deref_mut.result.now c.mark.auto.flags flags in
     let Q : List NetId → Type 0 = λ l. Among l (length l) e in
     subst Q (sym named) (pulses_among d.clocks.items c.args.pulsed.now e
     (sym (ap (λ (l : List NetId). pulses l c.args.pulsed.now e) clocks) ∙ sym (c.mark.ensures e) ∙ sym (ap (λ (l : List Bool). flag_at l e) marked) ∙ up)))
@@ -45,9 +47,8 @@ unfolding logic logic_at
 invariant_of-self c =
     let i = c.self.invariant in
     let d = c.self.inside in
-    let cells = with_items d.cells c.take.new.cells in
-    let before : c.deref_mut-4.result.now ≡ d.cells.items = c.deref_mut-4.ensures.value in
-    let p : Pulse = record { rising = c.args.rising; ports = value_at c.deref-3.result.now; pulsed = flag_at c.deref-4.result.now; old = value_at c.deref-5.result.now } in
+    let cells = c.take.new.cells in
+    let p : Pulse = record { rising = c.args.rising; ports = value_at c.deref-2.result.now; pulsed = flag_at c.deref-3.result.now; old = value_at d.cells.values } in
     record {
       circuit = i.circuit;
       compiled = i.compiled;
@@ -59,18 +60,17 @@ invariant_of-self c =
       inputs = i.inputs;
       shown = i.shown;
       values = refilled d.values c.find_least.new.values ∙ i.values;
-      cells = refilled d.cells c.take.new.cells ∙ i.cells;
+      cells = c.take.ensures.count ∙ i.cells;
       search = c.find_least.ensures.search;
       marked = refilled d.marked c.find_least.new.marked ∙ i.marked;
-      clear = clear_kept d.marked c.find_least.new.marked c.deref_mut-3.result.now c.find_least.auto.marked c.deref_mut-3.ensures.value c.find_least.ensures.clear;
-      ready = ready_kept d.circuit d.values c.find_least.new.values c.deref_mut-2.result.now c.find_least.auto.values c.deref_mut-2.ensures.value c.find_least.ensures.ready;
+      clear = clear_kept d.marked c.find_least.new.marked c.deref_mut-4.result.now c.find_least.auto.marked c.deref_mut-4.ensures.value c.find_least.ensures.clear;
+      ready = ready_kept d.circuit d.values c.find_least.new.values c.deref_mut-3.result.now c.find_least.auto.values c.deref_mut-3.ensures.value c.find_least.ensures.ready;
       quick = i.quick;
-      plans = i.plans;
+      plans = subst (λ (l : Layout). ArePlans d.circuit d.clocks.items l d.plans) (sym c.take.ensures.layout) i.plans;
       looks = i.looks;
-      loose = pulsed_loose d.circuit p c.find_least.new.search.poss.items c.find_least.new.search.next.items d.cells.items cells.items i.circuit (refilled d.cells c.take.new.cells ∙ i.cells) i.loose c.find_least.ensures.next
-          (taken_read c.args.rising d.circuit.flops.items c.deref-7.result.now c.deref-4.result.now c.deref-8.result.now c.find_least.new.search.next.items c.deref-9.result.now d.cells.items c.deref_mut-4.result.now cells.items c.take.new.cells
-          c.deref-7.ensures.value (c.deref-8.ensures.value ∙ sym c.deref-4.ensures.value) c.deref-9.ensures.value before
-          (filled d.cells c.take.new.cells c.deref_mut-4.result.now c.take.auto.cells before) c.take.ensures);
+      loose = pulsed_loose d.circuit p c.find_least.new.search.poss.items c.find_least.new.search.next.items d.cells.values cells.values i.circuit (c.take.ensures.count ∙ i.cells) i.loose c.find_least.ensures.next
+          (taken_read c.args.rising d.circuit.flops.items c.deref-5.result.now c.deref-3.result.now c.deref-6.result.now c.find_least.new.search.next.items c.deref-7.result.now d.cells.values d.cells.values cells.values cells.values
+          c.deref-5.ensures.value (c.deref-6.ensures.value ∙ sym c.deref-3.ensures.value) c.deref-7.ensures.value refl refl c.take.ensures.each);
       flags = flags_one d.clocks.items c.args.pulsed.now d.pulsed c.mark.new.flags c.deref.result.now c.deref_mut.result.now c.mark.auto.flags c.deref_mut.ensures.value c.deref.ensures.value c.mark.ensures;
     }
 
@@ -79,26 +79,23 @@ unfolding logic_at
 returns c =
     let i = c.self.invariant in
     let d = c.self.inside in
-    let cells = with_items d.cells c.take.new.cells in
-    let after : Machine = record { netlist = d.design.now; clocks = d.clocks.items; inputs = d.inputs.items; cells = cells.items; shown = d.shown.items } in
+    let cells = c.take.new.cells in
+    let after : Machine = record { netlist = d.design.now; clocks = d.clocks.items; inputs = d.inputs.items; cells = cells.values; shown = d.shown.items } in
     let P : Machine → Type 0 = λ m. IsPhase (logic m) m c.args.rising c.args.pulsed.now after in
     let clocks : c.deref.result.now ≡ d.clocks.items = c.deref.ensures.value in
     let flags : c.deref_mut.result.now ≡ d.pulsed.items = c.deref_mut.ensures.value in
-    let read : c.deref-4.result.now ≡ (with_items d.pulsed c.mark.new.flags).items = c.deref-4.ensures.value in
-    let again : c.deref-8.result.now ≡ (with_items d.pulsed c.mark.new.flags).items = c.deref-8.ensures.value in
-    let marked : c.deref-4.result.now ≡ c.mark.new.flags = read ∙ filled d.pulsed c.mark.new.flags c.deref_mut.result.now c.mark.auto.flags flags in
-    let ports : c.deref-3.result.now ≡ d.inputs.items = c.deref-3.ensures.value in
-    let old : c.deref-5.result.now ≡ d.cells.items = c.deref-5.ensures.value in
+    let read : c.deref-3.result.now ≡ (with_items d.pulsed c.mark.new.flags).items = c.deref-3.ensures.value in
+    let again : c.deref-6.result.now ≡ (with_items d.pulsed c.mark.new.flags).items = c.deref-6.ensures.value in
+    let marked : c.deref-3.result.now ≡ c.mark.new.flags = read ∙ filled d.pulsed c.mark.new.flags c.deref_mut.result.now c.mark.auto.flags flags in
+    let ports : c.deref-2.result.now ≡ d.inputs.items = c.deref-2.ensures.value in
     let size = c.find_least.ensures.search.next in
-    let flops : c.deref-7.result.now ≡ d.circuit.flops.items = c.deref-7.ensures.value in
-    let before : c.deref_mut-4.result.now ≡ d.cells.items = c.deref_mut-4.ensures.value in
-    let p : Pulse = record { rising = c.args.rising; ports = value_at c.deref-3.result.now; pulsed = flag_at c.deref-4.result.now; old = value_at c.deref-5.result.now } in
+    let flops : c.deref-5.result.now ≡ d.circuit.flops.items = c.deref-5.ensures.value in
+    let p : Pulse = record { rising = c.args.rising; ports = value_at c.deref-2.result.now; pulsed = flag_at c.deref-3.result.now; old = value_at d.cells.values } in
     subst P c.self.view_is
     (phase_done (machine_of d) after d.circuit c.args.rising c.args.pulsed.now p c.find_least.new.search.poss.items c.find_least.new.search.next.items i.circuit i.compiled refl refl refl refl refl
     (λ k. ap (λ (l : List Tri). value_at l k) ports)
     (λ e. ap (λ (l : List Bool). flag_at l e) marked ∙ c.mark.ensures e ∙ ap (λ (l : List NetId). pulses l c.args.pulsed.now e) clocks)
-    (λ k. ap (λ (l : List Tri). value_at l k) old)
-    i.cells (refilled d.cells c.take.new.cells) size c.find_least.ensures.least c.find_least.ensures.next
-    (taken_read c.args.rising d.circuit.flops.items c.deref-7.result.now c.deref-4.result.now c.deref-8.result.now c.find_least.new.search.next.items c.deref-9.result.now d.cells.items c.deref_mut-4.result.now cells.items c.take.new.cells
-    flops (again ∙ sym read) c.deref-9.ensures.value before
-    (filled d.cells c.take.new.cells c.deref_mut-4.result.now c.take.auto.cells before) c.take.ensures))
+    (λ k. refl)
+    i.cells c.take.ensures.count size c.find_least.ensures.least c.find_least.ensures.next
+    (taken_read c.args.rising d.circuit.flops.items c.deref-5.result.now c.deref-3.result.now c.deref-6.result.now c.find_least.new.search.next.items c.deref-7.result.now d.cells.values d.cells.values cells.values cells.values
+    flops (again ∙ sym read) c.deref-7.ensures.value refl refl c.take.ensures.each))

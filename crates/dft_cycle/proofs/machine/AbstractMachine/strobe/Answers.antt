@@ -3,8 +3,8 @@ use Rattle.std.proofs.Common.{ℕ, ◌≡◌, ◌∙◌, refl, subst}
 use Rattle.std.specs.Vec.{with_items}
 use Rattle.dft_cycle.specs.Machine.{Machine, logic, IsStrobed}
 use Rattle.dft_cycle.specs.MachineShown.{machine_of}
-use Rattle.dft_logic.specs.declared.settling.View.{View}
-use Rattle.dft_logic.specs.Circuit.{logic_at, IsGivenIn}
+use Rattle.dft_logic.specs.declared.settling.Pulse.{Pulse as Phase}
+use Rattle.dft_logic.specs.Circuit.{logic_at, GivenIn, pulse_at}
 use Rattle.dft_cycle.proofs.DomainLemmas.{ready_view}
 use Rattle.dft_cycle.proofs.MachineLemmas.{refilled, filled, strobed, clear_kept, ready_kept}
 use Rattle.dft_cycle.proofs.machine.AbstractMachine.strobe.Goals as goal
@@ -43,12 +43,13 @@ unfolding logic_at
 returns c =
     let d = c.self.inside in
     let shown = with_items d.shown c.copy_from_slice.new.self in
-    let after : Machine = record { netlist = d.design.now; clocks = d.clocks.items; inputs = d.inputs.items; cells = d.cells.items; shown = shown.items } in
+    let after : Machine = record { netlist = d.design.now; clocks = d.clocks.items; inputs = d.inputs.items; cells = d.cells.values; shown = shown.items } in
+    let v = c.strobe_view.result in
     let P : Machine → Type 0 = λ m. IsStrobed (logic m) m after in
-    let V : View → Type 0 = λ v. (k : ℕ) → IsGivenIn d.circuit v v.domain.0 c.settle_again.new.values k in
+    let V : Phase → Type 0 = λ p. (k : ℕ) → GivenIn d.circuit (pulse_at p) v.poss.now v.held.now v.domain.0 c.settle_again.new.values k in
     let copied : c.copy_from_slice.new.self ≡ c.settle_again.new.values =
-    c.copy_from_slice.ensures.after ∙ c.deref-3.ensures.value ∙ filled d.values c.settle_again.new.values c.deref_mut.result.now c.settle_again.auto.values c.deref_mut.ensures.value in
+    c.copy_from_slice.ensures.after ∙ c.deref-2.ensures.value ∙ filled d.values c.settle_again.new.values c.deref_mut.result.now c.settle_again.auto.values c.deref_mut.ensures.value in
     subst P c.self.view_is
-    (strobed (machine_of d) after d.circuit c.deref.result.now c.deref-2.result.now c.deref-2.result.now c.deref-2.result.now c.settle_again.new.values 0 c.self.invariant.compiled refl refl refl refl
-    c.deref.ensures.value c.deref-2.ensures.value (subst V c.strobe_view.ensures c.settle_again.ensures.given)
+    (strobed (machine_of d) after d.circuit c.deref.result.now d.cells.values v.poss.now v.held.now c.settle_again.new.values v.domain.0 c.self.invariant.compiled refl refl refl refl
+    c.deref.ensures.value refl (subst V c.strobe_view.ensures c.settle_again.ensures.given)
     (filled d.shown c.copy_from_slice.new.self c.as_mut_slice.result.now c.copy_from_slice.ensures.len c.as_mut_slice.ensures.value ∙ copied))

@@ -1,5 +1,5 @@
 -- The planned design passes the scan rules.
-use Rattle.std.proofs.Common.{◌≡◌, ◌∙◌, ap}
+use Rattle.std.proofs.Common.{◌∙◌, ap}
 use Rattle.dft_expect.specs.Reads.{any_falls}
 use Rattle.dft_expect.proofs.capturer.Capturer.prepare.Goals as goal
 

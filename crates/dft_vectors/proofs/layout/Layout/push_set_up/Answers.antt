@@ -1,5 +1,5 @@
 -- The quiet inputs, the added ones, the design's outputs and the compactor's.
-use Rattle.std.proofs.Common.{map, false, None, refl, ap, ◌∙◌, ◌≡◌}
+use Rattle.std.proofs.Common.{map, false, None, refl, ap, ◌∙◌}
 use Rattle.dft_expect.specs.Captures.{port_value}
 use Rattle.dft_vectors.specs.declared.own.OwnInput.{OwnInput}
 use Rattle.dft_vectors.specs.OwnPorts.{driven, ignored}

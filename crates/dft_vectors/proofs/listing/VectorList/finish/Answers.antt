@@ -18,4 +18,4 @@ returns c = λ patterns lists before.
     let ended = c.self.view_is ∙ c.in_ok-unload.ensures in
     same_set c.noted.result (patterns_of c.args.written.now l.design l.config l.plan patterns) (c.noted.ensures.signals ∙ c.in_ok-signals.ensures)
     (c.noted.ensures.vectors ∙ ap (λ (k : Listing). k.vectors) ended ∙ lists_end l patterns (table_of l.config.ring (packed_bit (replicate words 0))) (data_if_any l.config l.plan c.args.last) lists (zero_table l.config.ring words) before)
-    (c.noted.ensures.notes ∙ c.in_ok-notes.ensures ∙ ap₂ notes_of (c.cycles.ensures ∙ ap (λ (p : Plan). p.cycles) c.chains.ensures ∙ ap (λ (k : Listing). k.plan.cycles) ended) (ap (λ (k : Listing). k.count) ended ∙ lists.count))
+    (c.noted.ensures.notes ∙ c.in_ok-notes.ensures ∙ ap₂ notes_of (c.cycles.ensures ∙ ap (λ (p : Plan). p.cycles) c.chains.ensures ∙ ap (λ (k : Listing). k.plan.cycles) ended) (c.deref.ensures.value ∙ ap (λ (k : Listing). k.captures) ended ∙ lists.captures))

@@ -1,0 +1,4 @@
+pub mod NetlistRefusals
+pub mod Refused
+pub mod JoinedModules
+pub mod JoinedDesigns

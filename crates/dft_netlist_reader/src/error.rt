@@ -1,0 +1,30 @@
+ghost use Rattle.std.specs.Prelude.{◌≡◌};
+ghost use Rattle.dft_netlist_reader.specs.declared.error.DesignError.TheVariants.{Modules, Text};
+
+use dft_hier::HierError;
+use dft_verilog::ModulesError;
+
+/// Why a netlist text stands for no design.
+#[derive(Debug, Drop)]
+pub enum DesignError {
+    /// The text is refused, or memory ran out.
+    Text(ModulesError),
+    /// Its modules have no flat design, or memory ran out.
+    Modules(HierError),
+}
+
+impl From<ModulesError> for DesignError {
+    ghost from_gives = { λ error gives. gives ≡ Text error };
+
+    fn from(error: ModulesError) -> DesignError {
+        DesignError::Text(error)
+    }
+}
+
+impl From<HierError> for DesignError {
+    ghost from_gives = { λ error gives. gives ≡ Modules error };
+
+    fn from(error: HierError) -> DesignError {
+        DesignError::Modules(error)
+    }
+}

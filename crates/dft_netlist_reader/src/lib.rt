@@ -1,0 +1,10 @@
+//! The design that a netlist text stands for: its modules, read and made one (IEEE 1364, structural part).
+#![tactic(auto)]
+
+mod error;
+mod laws;
+mod reading;
+
+pub use error::DesignError;
+pub use laws::{flat_designs_are_joined, texts_have_one_end};
+pub use reading::read;

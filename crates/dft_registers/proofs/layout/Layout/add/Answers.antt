@@ -1,0 +1,18 @@
+-- The cell is at the end of the last register.
+use Rattle.std.proofs.Common.{ℕ, [], ◌≡◌, ◌<◌, ◌-◌, ◌∙◌, sym, ap, subst, length, arith}
+use Rattle.std.proofs.lemmas.List.{get_or_default}
+use Rattle.dft_registers.specs.Layout.{Layout, place_at}
+use Rattle.dft_registers.proofs.LayoutLemmas.{laid_added}
+use Rattle.dft_registers.proofs.layout.Layout.add.Goals as goal
+
+pub invariant_of-self-2 : goal.invariant_of-self-2
+invariant_of-self-2 c =
+    let d = c.self.inside in
+    let P : Layout → Type 0 = λ l. (c.args.cell < length l.places) × ((1 < length l.registers) × ((place_at l.places c.args.cell).register ≡ 0)) in
+    let may = subst P (sym c.self.view_is) (c.may_add.ensures c.if-not-may_add.false) in
+    let many : 1 < length d.registers.items = may.1.0 in
+    let last : ℕ = c.len-last.result - 1 in
+    let count : c.len-last.result ≡ length d.registers.items = c.len-last.ensures ∙ d.registers.ok.0 in
+    let below : last < length d.registers.items = omega (arith, count, many) in
+    laid_added d.places.items d.registers.items c.index_mut-register.result.now c.push.new.self c.args.cell last _ c.self.invariant may.0 (omega (arith, count, many)) below may.1.1
+    (c.index_mut-register.ensures.value ∙ get_or_default d.registers.items last _ [] below) (ap length c.as_slice-index.ensures) c.in_ok-push.ensures.ok

@@ -1,0 +1,148 @@
+//! The values of cells.
+
+ghost use Rattle.std.specs.Prelude.{◌≡◌, ℕ, ◌<◌, length, replicate, false, IfOk, slice_set, slice_index_or};
+ghost use Rattle.dft_registers.specs.Layout.{place_at, cells_at, cell_at};
+ghost use Rattle.dft_registers.specs.Cells as spec;
+
+use crate::layout::{Layout, Place};
+use crate::registers::Values;
+use dft_base::Tri;
+use std::alloc::{AllocError, Global};
+use std::marker::Model;
+
+/// The values of cells. Those that follow each other lie in a shift register, whose values move on by one place at once.
+/// A clause sees where they lie, and the list of their values.
+#[derive(Drop)]
+pub struct Cells {
+    layout: Layout,
+    rows: Vec<Values>,
+}
+
+impl Model for Cells {
+    ghost use Rattle.dft_registers.specs.Cells as spec;
+
+    ghost Value = { spec.Contents };
+
+    ghost use Rattle.dft_registers.specs.Cells.{contents_of, AreCells};
+
+    ghost view = { contents_of };
+
+    ghost invariant = { AreCells };
+}
+
+// Values that nobody knows, for each register of a layout.
+fn unknown_rows(alloc: Global, layout: &Layout) -> Result<Vec<Values>, AllocError>
+    ensures count { IfOk result (λ rows. length rows.items ≡ length layout.now.registers) }
+    ensures each { IfOk result (λ rows. (r : ℕ) → spec.row_at rows.items r ≡ replicate (length (cells_at layout.now.registers r)) Tri.Unknown) }
+{
+    let mut rows = Vec::new(alloc);
+    for number in 0..layout.registers() {
+        rows.push(Values::unknown(alloc, layout.register(number).len())?)?;
+    }
+    Ok(rows)
+}
+
+// Whether a register moves.
+fn moves_on(moves: &[bool], number: usize) -> bool
+    ensures { result ≡ slice_index_or moves.now number false }
+{
+    match moves.get(number) {
+        Some(moves) => *moves,
+        None => false,
+    }
+}
+
+// Moves the values of some registers on by one place.
+fn shift_rows(moves: &[bool], rows: &mut [Values])
+    ensures count { length rows.new ≡ length rows.old }
+    ensures each { (r : ℕ) → spec.row_at rows.new r ≡ spec.shifted_if (slice_index_or moves.now r false) (spec.row_at rows.old r) }
+{
+    for number in 0..rows.len() {
+        if moves_on(moves, number) {
+            let row = &mut rows[number];
+            row.shift();
+        }
+    }
+}
+
+impl Cells {
+    /// Cells whose values nobody knows, by the cell before each, if there is one.
+    pub fn new(alloc: Global, before: &[Option<u32>]) -> Result<Cells, AllocError>
+        ensures { IfOk result (λ cells. cells.values ≡ replicate (length before.now) Tri.Unknown) }
+    {
+        let layout = Layout::of_chains(alloc, before)?;
+        let rows = unknown_rows(alloc, &layout)?;
+        Ok(Cells { layout, rows })
+    }
+
+    /// How many cells there are.
+    pub fn len(&self) -> usize
+        ensures { result ≡ length self.now.values }
+    {
+        self.layout.count()
+    }
+
+    /// The value of a cell, and `Unknown` past the end.
+    pub fn at(&self, cell: usize) -> Tri
+        ensures { result ≡ spec.value_at self.now.values cell }
+    {
+        match self.layout.place(cell) {
+            Some(place) => self.rows[place.register].at(place.index),
+            None => Tri::Unknown,
+        }
+    }
+
+    /// Writes the value of a cell.
+    pub fn set(&mut self, cell: usize, value: Tri)
+        requires { cell < length self.old.values }
+        ensures layout { self.new.layout ≡ self.old.layout }
+        ensures values { self.new.values ≡ slice_set self.old.values cell value }
+    {
+        let place = self.place(cell);
+        let row = &mut self.rows[place.register];
+        row.set(place.index, value);
+    }
+
+    /// Reads the values of all cells, in their order.
+    pub fn read(&self, row: &mut [Tri])
+        requires { length row.old ≡ length self.now.values }
+        ensures { row.new ≡ self.now.values }
+    {
+        for cell in 0..row.len() {
+            row[cell] = self.at(cell);
+        }
+    }
+
+    /// How many registers there are.
+    pub fn registers(&self) -> usize
+        ensures { result ≡ length self.now.layout.registers }
+    {
+        self.layout.registers()
+    }
+
+    /// The cells of a register, in their order; past the end there is none.
+    pub fn register(&self, number: usize) -> &[usize]
+        ensures { result.now ≡ cells_at self.now.layout.registers number }
+    {
+        self.layout.register(number)
+    }
+
+    /// Where a cell lies.
+    pub fn place(&self, cell: usize) -> Place
+        requires { cell < length self.now.values }
+        ensures at { result ≡ place_at self.now.layout.places cell }
+        ensures within { result.index < length (cells_at self.now.layout.registers result.register) }
+        ensures here { cell_at self.now.layout.registers result.register result.index ≡ cell }
+    {
+        self.layout.place_of(cell)
+    }
+
+    /// Moves the values of some registers on by one place: each cell has the value of the one before it. The first
+    /// register, in which cells rest, is none of them. What a register begins with is then written behind the call.
+    pub fn shift(&mut self, moves: &[bool])
+        requires { slice_index_or moves.now 0 false ≡ false }
+        ensures { spec.IsShifted moves.now self.old self.new }
+    {
+        shift_rows(moves, &mut self.rows);
+    }
+}

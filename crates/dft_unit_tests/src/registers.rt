@@ -1,0 +1,86 @@
+use dft_base::Tri;
+use dft_registers::Cells;
+use std::alloc::{AllocError, Global};
+use std::test::Fail;
+
+// The cell before each: ten in a chain, seven in another one, one that follows the third of the first, and two in a
+// circle.
+fn chains(alloc: Global) -> Result<Vec<Option<u32>>, AllocError> {
+    let mut before = Vec::new(alloc);
+    before.push(None)?;
+    for cell in 0..9u32 {
+        before.push(Some(cell))?;
+    }
+    before.push(None)?;
+    for cell in 10..16u32 {
+        before.push(Some(cell))?;
+    }
+    before.push(Some(2))?;
+    before.push(Some(19))?;
+    before.push(Some(18))?;
+    Ok(before)
+}
+
+fn value(number: usize) -> Tri {
+    match number % 3 {
+        0 => Tri::Zero,
+        1 => Tri::One,
+        _ => Tri::Unknown,
+    }
+}
+
+fn put(cells: &mut Cells, cell: usize, value: Tri) {
+    if cell < cells.len() {
+        cells.set(cell, value);
+    }
+}
+
+// The values after a shift of the first ten, where one comes in.
+fn shifted(alloc: Global, values: &[Tri], first: Tri) -> Result<Vec<Tri>, AllocError> {
+    let mut next = Vec::new(alloc);
+    let mut last = first;
+    for (cell, old) in values.iter().enumerate() {
+        next.push(if cell < 10 { last } else { *old })?;
+        last = *old;
+    }
+    Ok(next)
+}
+
+fn are(cells: &Cells, values: &[Tri]) -> bool {
+    for (cell, value) in values.iter().enumerate() {
+        if cells.at(cell) != *value {
+            return false;
+        }
+    }
+    cells.at(values.len()) == Tri::Unknown
+}
+
+// Whether a chain of ten is a register, and after so many shifts each cell has its value.
+fn shift_as_chains(alloc: Global, shifts: usize) -> Result<bool, AllocError> {
+    let before = chains(alloc)?;
+    let mut cells = Cells::new(alloc, &before)?;
+    let mut values = Vec::new(alloc);
+    for cell in 0..20 {
+        put(&mut cells, cell, value(cell));
+        values.push(value(cell))?;
+    }
+    if cells.len() != 20 || cells.registers() != 2 || cells.register(1).len() != 10 {
+        return Ok(false);
+    }
+    for shift in 0..shifts {
+        values = shifted(alloc, &values, value(shift / 2))?;
+        cells.shift(&[false, true]);
+        put(&mut cells, 0, value(shift / 2));
+        if !are(&cells, &values) {
+            return Ok(false);
+        }
+    }
+    Ok(true)
+}
+
+#[test]
+fn registers_shift_as_chains(rt: HostRuntime) -> Result<(), Fail> {
+    assert!(rt; shift_as_chains(rt.alloc(), 0)?, "none");
+    assert!(rt; shift_as_chains(rt.alloc(), 25)?, "25");
+    Ok(())
+}
