@@ -25,6 +25,7 @@ work_status (work.Scanned counts netlist report) = Done
 work_status (work.Compiled counts netlist patterns report) = Done
 work_status (work.Certified unsolvable) = Done
 work_status (work.Generated counts replay) = replayed_status replay
+work_status (work.Graded faults detected undetected report) = Done
 
 abbrev pub status_of : Outcome → Status
 status_of outcome.Usage = Usage
@@ -51,6 +52,7 @@ work_unpassed (work.Scanned counts netlist report) = None
 work_unpassed (work.Compiled counts netlist patterns report) = None
 work_unpassed (work.Certified unsolvable) = None
 work_unpassed (work.Generated counts replay) = replayed_unpassed replay
+work_unpassed (work.Graded faults detected undetected report) = None
 
 abbrev pub unpassed_of : Outcome → Option Unpassed
 unpassed_of outcome.Usage = None

@@ -101,7 +101,7 @@ number_part (Some number) = codes " " ++ signed_decimal number
 -- ---- lines
 
 abbrev pub usage_line : List ℕ
-usage_line = codes "usage: dft replay, scan, compile, certify or generate, each option once as --name value\n"
+usage_line = codes "usage: dft replay, scan, compile, certify, generate or grade, each option once as --name value\n"
 
 abbrev pub refused_line : Refusal → List ℕ
 refused_line refusal =
@@ -136,6 +136,10 @@ compiled_line counts = load_part counts ++ (fate_part counts ++ (vector_part cou
 abbrev pub certified_line : (unsolvable : ℕ) → List ℕ
 certified_line unsolvable = codes "certified " ++ (decimal unsolvable ++ codes " cubes\n")
 
+abbrev pub graded_line : (faults detected undetected : ℕ) → List ℕ
+graded_line faults detected undetected =
+    codes "graded faults " ++ (decimal faults ++ (codes " detected " ++ (decimal detected ++ (codes " undetected " ++ (decimal undetected ++ codes "\n")))))
+
 -- what a replay comes to
 abbrev pub replayed_line : Replayed → List ℕ
 replayed_line (replayed.Passed vectors compared) = passed_line vectors compared
@@ -153,6 +157,7 @@ work_line (work.Scanned counts netlist report) = scanned_line counts
 work_line (work.Compiled counts netlist patterns report) = compiled_line counts
 work_line (work.Certified unsolvable) = certified_line unsolvable
 work_line (work.Generated counts replay) = generated_lines counts replay
+work_line (work.Graded faults detected undetected report) = graded_line faults detected undetected
 
 abbrev pub line_of : Outcome → List ℕ
 line_of Usage = usage_line

@@ -7,8 +7,8 @@ use dft_base::{Name, Place};
 /// How a command ended.
 #[derive(Clone, Copy, Debug, PartialEq, Eq)]
 pub enum Status {
-    /// It did what it is for: patterns passed, those of a generated job among them; the files of a scan or of a compilation are
-    /// saved; or a report's certificates hold.
+    /// It did what it is for: patterns passed, those of a generated job among them; the files of a scan, of a compilation or of a
+    /// grading are saved; or a report's certificates hold.
     Done,
     /// The patterns do not pass: a bit differs, or is not determined.
     NotPassed,
@@ -246,9 +246,10 @@ impl Answer {
         match work {
             Work::Replayed(replay) => Answer::of_replay(replay),
             Work::Generated { replay, .. } => Answer::of_replay(replay),
-            Work::Scanned { .. } | Work::Compiled { .. } | Work::Certified { .. } => {
-                Answer::stopped(Status::Done)
-            }
+            Work::Scanned { .. }
+            | Work::Compiled { .. }
+            | Work::Certified { .. }
+            | Work::Graded { .. } => Answer::stopped(Status::Done),
         }
     }
 

@@ -14,7 +14,7 @@ pub enum Replayed {
     Undetermined { vector: u32, signal: Name },
 }
 
-/// What a command did: a variant for each command.
+/// What a command did: a variant for each command. A grading whose patterns do not pass did a replay.
 #[derive(Debug, Drop)]
 pub enum Work {
     /// Patterns are replayed.
@@ -41,6 +41,14 @@ pub enum Work {
     Generated {
         counts: CompileCounts,
         replay: Replayed,
+    },
+    /// The faults of a design are graded: how many there are, how many are detected and how many are not, and the text of the
+    /// report, to be saved.
+    Graded {
+        faults: u32,
+        detected: u32,
+        undetected: u32,
+        report: Listed<u8>,
     },
 }
 

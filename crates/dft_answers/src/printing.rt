@@ -11,7 +11,7 @@ use dft_scan::Counts;
 use std::alloc::{AllocError, Global};
 
 const USAGE: &str =
-    "usage: dft replay, scan, compile, certify or generate, each option once as --name value\n";
+    "usage: dft replay, scan, compile, certify, generate or grade, each option once as --name value\n";
 
 /// A code as it is printed.
 pub fn code_text(code: Code) -> &'static str
@@ -109,6 +109,12 @@ fn work_line(alloc: Global, work: &Work) -> Result<Vec<u8>, AllocError>
         Work::Compiled { counts, .. } => compiled_line(alloc, *counts),
         Work::Certified { unsolvable } => certified_line(alloc, *unsolvable),
         Work::Generated { counts, replay } => generated_lines(alloc, *counts, replay),
+        Work::Graded {
+            faults,
+            detected,
+            undetected,
+            ..
+        } => graded_line(alloc, *faults, *detected, *undetected),
     }
 }
 
@@ -225,6 +231,20 @@ fn certified_line(alloc: Global, unsolvable: u32) -> Result<Vec<u8>, AllocError>
     ensures { IfOk result (λ line. line.items ≡ spec.certified_line unsolvable) }
 {
     let line = format!(in alloc; "certified {unsolvable} cubes\n")?;
+    Ok(line.into_bytes())
+}
+
+fn graded_line(
+    alloc: Global,
+    faults: u32,
+    detected: u32,
+    undetected: u32,
+) -> Result<Vec<u8>, AllocError>
+    ensures { IfOk result (λ line. line.items ≡ spec.graded_line faults detected undetected) }
+{
+    let line = format!(in alloc;
+        "graded faults {faults} detected {detected} undetected {undetected}\n"
+    )?;
     Ok(line.into_bytes())
 }
 

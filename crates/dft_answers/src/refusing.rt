@@ -264,8 +264,8 @@ fn insert_refusal(alloc: Global, error: InsertError) -> Result<Refusal, AllocErr
     }
 }
 
-// The refusal of a report.
-fn report_refusal(error: ReportError) -> Result<Refusal, AllocError>
+/// The refusal of a report that is not written.
+pub fn report_refusal(error: ReportError) -> Result<Refusal, AllocError>
     ensures { IfOk result (λ refusal. spec.report_refusal error ≡ Some refusal) }
 {
     match error {

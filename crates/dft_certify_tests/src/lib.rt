@@ -8,4 +8,6 @@ mod generated;
 #[cfg(test)]
 mod hierarchies;
 #[cfg(test)]
+mod host;
+#[cfg(test)]
 mod words;

@@ -1,4 +1,4 @@
--- The options of the commands `certify` and `generate`, from the rows that show them.
+-- The options of the commands `certify`, `grade` and `generate`, from the rows that show them.
 use Rattle.std.proofs.Common.{◌≡◌, ◌≤◌, ◌<◌, ◌&&◌, ◌^◌, ℕ, Bool, true, false, List, Option, Some, None, Result, Ok, Err, option_and_then, if◌then◌else◌, codes, length, refl, sym, ap, ap₂, ◌∙◌, subst}
 use Rattle.std.specs.Char.{is_ascii_digit}
 use Rattle.std.specs.Int.{IsInRange}
@@ -9,8 +9,8 @@ use Rattle.std.proofs.lemmas.Bool.{leb-true, le-leb, ltb-true, lt-ltb, and_parts
 use Rattle.std.proofs.lemmas.Str.Parse.{IsDigitsTest, IsNumeralModel, numerals_by_value, parse_digits}
 use Rattle.std.proofs.lemmas.Option.{same_Some}
 use Rattle.clap.specs.Walk.{Row}
-use Rattle.dft_command_line.specs.Words.{CertifyFiles, IsDecimal, JobNumbers, Text, certify_options, generate_options}
-use Rattle.dft_command_line.specs.CommandLine.{certify_from, certify_in, decimal_in, decimal_of, generate_from, generate_in, is_decimal, perhaps_in, sized, value_in}
+use Rattle.dft_command_line.specs.Words.{CertifyFiles, GradeFiles, IsDecimal, JobNumbers, Text, certify_options, generate_options, grade_options}
+use Rattle.dft_command_line.specs.CommandLine.{certify_from, certify_in, decimal_in, decimal_of, generate_from, generate_in, grade_from, grade_in, is_decimal, perhaps_in, sized, value_in}
 use Rattle.dft_command_line.proofs.Taken.{Shows}
 use Rattle.dft_command_line.proofs.Values.{perhaps_shown, shown_perhaps, shown_value, value_shown}
 
@@ -57,6 +57,43 @@ certify_shows rs files e =
             (shown_perhaps rs (codes "library") files.library parts.library_is, tt),
           ),
         ),
+      ),
+    )
+
+-- ---- grade
+
+pub shows_grade : (rs : List Row) (files : GradeFiles) → AllByRecursion (Shows rs) (grade_options files) → grade_in rs ≡ Some files
+shows_grade rs files all =
+    (λ i. grade_from (perhaps_shown rs (codes "library") files.library all.1.1.1.0 i) (value_shown rs (codes "netlist") files.netlist all.0 i) (value_shown rs (codes "patterns") files.patterns all.1.0 i)
+    (value_shown rs (codes "out") files.out all.1.1.0 i))
+
+record GradeParts (l : Option (Option Text)) (n p o : Option Text) (files : GradeFiles) : Type 0 where
+  library_is : l ≡ Some files.library
+  netlist_is : n ≡ Some files.netlist
+  patterns_is : p ≡ Some files.patterns
+  out_is : o ≡ Some files.out
+
+grade_parts : (l : Option (Option Text)) (n p o : Option Text) (files : GradeFiles) → grade_from l n p o ≡ Some files → GradeParts l n p o files
+grade_parts None n p o files e = absurd cc
+grade_parts (Some l) None p o files e = absurd cc
+grade_parts (Some l) (Some n) None o files e = absurd cc
+grade_parts (Some l) (Some n) (Some p) None files e = absurd cc
+grade_parts (Some l) (Some n) (Some p) (Some o) files e =
+    let same = same_Some _ files e in
+    record {
+      library_is = ap (λ (f : GradeFiles). Some f.library) same;
+      netlist_is = ap (λ (f : GradeFiles). Some f.netlist) same;
+      patterns_is = ap (λ (f : GradeFiles). Some f.patterns) same;
+      out_is = ap (λ (f : GradeFiles). Some f.out) same;
+    }
+
+pub grade_shows : (rs : List Row) (files : GradeFiles) → grade_in rs ≡ Some files → AllByRecursion (Shows rs) (grade_options files)
+grade_shows rs files e =
+    let parts = grade_parts (perhaps_in (codes "library") rs) (value_in (codes "netlist") rs) (value_in (codes "patterns") rs) (value_in (codes "out") rs) files e in (
+      shown_value rs (codes "netlist") files.netlist parts.netlist_is,
+      (
+        shown_value rs (codes "patterns") files.patterns parts.patterns_is,
+        (shown_value rs (codes "out") files.out parts.out_is, (shown_perhaps rs (codes "library") files.library parts.library_is, tt)),
       ),
     )
 

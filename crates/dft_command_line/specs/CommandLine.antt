@@ -7,7 +7,7 @@ use Rattle.std.specs.Str.Parse.{digits_value}
 use Rattle.clap.specs.Words.{App, Rule, Shape, new_app, new_rule, with_rule, with_subcommand}
 use Rattle.clap.specs.Simple.{new_shape, on_top}
 use Rattle.clap.specs.Walk.{Row, first_of}
-use Rattle.dft_command_line.specs.Words.{Text, ReplayFiles, ScanFiles, CompileFiles, CertifyFiles, JobNumbers, Command, Replay, Scan, Compile, Certify, Generate}
+use Rattle.dft_command_line.specs.Words.{Text, ReplayFiles, ScanFiles, CompileFiles, CertifyFiles, GradeFiles, JobNumbers, Command, Replay, Scan, Compile, Certify, Generate, Grade}
 
 -- ---- the forms of commands
 
@@ -53,8 +53,11 @@ certify_form = record {
 abbrev pub generate_form : Form
 generate_form = record { command = codes "generate"; options = needed (codes "seed") ∷ needed (codes "size") ∷ [] }
 
+abbrev pub grade_form : Form
+grade_form = record { command = codes "grade"; options = needed (codes "netlist") ∷ needed (codes "patterns") ∷ needed (codes "out") ∷ optional (codes "library") ∷ [] }
+
 abbrev pub forms : List Form
-forms = replay_form ∷ scan_form ∷ compile_form ∷ certify_form ∷ generate_form ∷ []
+forms = replay_form ∷ scan_form ∷ compile_form ∷ certify_form ∷ generate_form ∷ grade_form ∷ []
 
 -- ---- what `clap` is told
 
@@ -162,6 +165,13 @@ abbrev pub certify_in : List Row → Option CertifyFiles
 certify_in rows =
     certify_from (perhaps_in (codes "library") rows) (value_in (codes "netlist") rows) (value_in (codes "config") rows) (value_in (codes "cubes") rows) (value_in (codes "report") rows)
 
+abbrev pub grade_from : (library : Option (Option Text)) → (netlist patterns out : Option Text) → Option GradeFiles
+grade_from (Some library) (Some netlist) (Some patterns) (Some out) = Some (record { library = library; netlist = netlist; patterns = patterns; out = out })
+grade_from _ _ _ _ = None
+
+abbrev pub grade_in : List Row → Option GradeFiles
+grade_in rows = grade_from (perhaps_in (codes "library") rows) (value_in (codes "netlist") rows) (value_in (codes "patterns") rows) (value_in (codes "out") rows)
+
 -- some digits, at most so many, of a number below 2^64
 abbrev pub is_decimal : (most : ℕ) → Text → Bool
 is_decimal most text = nat_lt 0 (length text) && (nat_le (length text) most && (list_all is_ascii_digit text && nat_lt (digits_value 10 text) (2 ^ 64)))
@@ -188,7 +198,8 @@ command_from name rows =
     else (if bytes_eq name (codes "scan") then option_map Scan (scan_in rows)
     else (if bytes_eq name (codes "compile") then option_map Compile (compile_in rows)
     else (if bytes_eq name (codes "certify") then option_map Certify (certify_in rows)
-    else (if bytes_eq name (codes "generate") then option_map Generate (generate_in rows) else None))))
+    else (if bytes_eq name (codes "generate") then option_map Generate (generate_in rows)
+    else (if bytes_eq name (codes "grade") then option_map Grade (grade_in rows) else None)))))
 
 abbrev pub command_in : Option (Text × List Row) → Option Command
 command_in None = None

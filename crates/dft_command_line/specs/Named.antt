@@ -7,6 +7,7 @@ use Rattle.dft_command_line.specs.declared.commands.ScanFiles.{ScanFiles}
 use Rattle.dft_command_line.specs.declared.commands.CompileFiles.{CompileFiles}
 use Rattle.dft_command_line.specs.declared.commands.CertifyFiles.{CertifyFiles}
 use Rattle.dft_command_line.specs.declared.commands.JobNumbers.{JobNumbers}
+use Rattle.dft_command_line.specs.declared.commands.GradeFiles.{GradeFiles}
 use Rattle.dft_command_line.specs.Words as words
 
 abbrev pub replay_files_of : ReplayFiles → words.ReplayFiles
@@ -44,9 +45,13 @@ certify_files_of files = record {
 abbrev pub numbers_of : JobNumbers → words.JobNumbers
 numbers_of job = record { seed = job.seed; size = job.size }
 
+abbrev pub grade_files_of : GradeFiles → words.GradeFiles
+grade_files_of files = record { library = option_map (λ name. name.now) files.library; netlist = files.netlist.now; patterns = files.patterns.now; out = files.out.now }
+
 abbrev pub command_of : Command → words.Command
 command_of (command.Replay files) = words.Replay (replay_files_of files)
 command_of (command.Scan files) = words.Scan (scan_files_of files)
 command_of (command.Compile files) = words.Compile (compile_files_of files)
 command_of (command.Certify files) = words.Certify (certify_files_of files)
 command_of (command.Generate job) = words.Generate (numbers_of job)
+command_of (command.Grade files) = words.Grade (grade_files_of files)

@@ -133,6 +133,19 @@ certify_options files =
 abbrev pub IsCertify : List Text → CertifyFiles → Type 0
 IsCertify words files = IsCommand (codes "certify") (certify_options files) words
 
+-- the files of a grading: three that are loaded, and one that is saved
+pub record GradeFiles : Type 0 where
+  pub library : Option Text
+  pub netlist : Text
+  pub patterns : Text
+  pub out : Text
+
+abbrev pub grade_options : GradeFiles → List Valued
+grade_options files = (codes "netlist", Some files.netlist) ∷ (codes "patterns", Some files.patterns) ∷ (codes "out", Some files.out) ∷ (codes "library", files.library) ∷ []
+
+abbrev pub IsGrade : List Text → GradeFiles → Type 0
+IsGrade words files = IsCommand (codes "grade") (grade_options files) words
+
 -- ---- the generated job
 
 -- a text is decimal digits, at most so many, of this number, which is below 2^64; zeros may lead
@@ -168,6 +181,7 @@ pub data Command : Type 0 where
   Compile : CompileFiles → Command
   Certify : CertifyFiles → Command
   Generate : JobNumbers → Command
+  Grade : GradeFiles → Command
 
 abbrev pub IsFor : List Text → Command → Type 0
 IsFor words (Replay files) = IsReplay words files
@@ -175,6 +189,7 @@ IsFor words (Scan files) = IsScan words files
 IsFor words (Compile files) = IsCompile words files
 IsFor words (Certify files) = IsCertify words files
 IsFor words (Generate job) = IsGenerate words job
+IsFor words (Grade files) = IsGrade words files
 
 -- what words are: a command, or no command
 abbrev pub AreFor : List Text → Option Command → Type 0

@@ -47,6 +47,15 @@ pub struct JobNumbers {
     pub size: u32,
 }
 
+/// The files that the words of a grading name: three that are read, and one that is saved.
+#[derive(Clone, Copy, Debug)]
+pub struct GradeFiles<'a> {
+    pub library: Option<&'a str>,
+    pub netlist: &'a str,
+    pub patterns: &'a str,
+    pub out: &'a str,
+}
+
 /// A command with its files, or with its numbers.
 #[derive(Clone, Copy, Debug)]
 pub enum Command<'a> {
@@ -55,4 +64,5 @@ pub enum Command<'a> {
     Compile(CompileFiles<'a>),
     Certify(CertifyFiles<'a>),
     Generate(JobNumbers),
+    Grade(GradeFiles<'a>),
 }

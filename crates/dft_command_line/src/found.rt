@@ -5,10 +5,12 @@ ghost use Rattle.clap.specs.Words.{subcommand_rows_of};
 ghost use Rattle.clap.specs.Matches.{found_of};
 ghost use Rattle.clap.specs.Walk.{first_of, rows_of};
 ghost use Rattle.dft_command_line.specs.CommandLine as spec;
-ghost use Rattle.dft_command_line.specs.CommandLine.{certify_in, command_in, compile_in, decimal_in, generate_in, perhaps_in, replay_in, scan_in, value_in};
-ghost use Rattle.dft_command_line.specs.Named.{certify_files_of, command_of, compile_files_of, numbers_of, replay_files_of, scan_files_of};
+ghost use Rattle.dft_command_line.specs.CommandLine.{certify_in, command_in, compile_in, decimal_in, generate_in, grade_in, perhaps_in, replay_in, scan_in, value_in};
+ghost use Rattle.dft_command_line.specs.Named.{certify_files_of, command_of, compile_files_of, grade_files_of, numbers_of, replay_files_of, scan_files_of};
 
-use crate::commands::{CertifyFiles, Command, CompileFiles, JobNumbers, ReplayFiles, ScanFiles};
+use crate::commands::{
+    CertifyFiles, Command, CompileFiles, GradeFiles, JobNumbers, ReplayFiles, ScanFiles,
+};
 use crate::numbers::decimal;
 use clap::ArgMatches;
 
@@ -28,6 +30,8 @@ pub(crate) fn command_found<'a>(found: &ArgMatches<'a>) -> Option<Command<'a>>
                 Some(Command::Certify(certify_found(options)?))
             } else if name == "generate" {
                 Some(Command::Generate(generate_found(options)?))
+            } else if name == "grade" {
+                Some(Command::Grade(grade_found(options)?))
             } else {
                 None
             }
@@ -117,6 +121,21 @@ fn generate_found(found: &ArgMatches<'_>) -> Option<JobNumbers>
     } else {
         None
     }
+}
+
+fn grade_found<'a>(found: &ArgMatches<'a>) -> Option<GradeFiles<'a>>
+    ensures { option_map grade_files_of result ≡ grade_in (rows_of (found_of found.now)) }
+{
+    let library = perhaps(found, "library")?;
+    let netlist = value(found, "netlist")?;
+    let patterns = value(found, "patterns")?;
+    let out = value(found, "out")?;
+    Some(GradeFiles {
+        library,
+        netlist,
+        patterns,
+        out,
+    })
 }
 
 // The number that an option gives in decimal, with at most so many digits.

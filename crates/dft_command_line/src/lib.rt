@@ -7,5 +7,7 @@ mod numbers;
 mod syntax;
 mod words;
 
-pub use commands::{CertifyFiles, Command, CompileFiles, JobNumbers, ReplayFiles, ScanFiles};
+pub use commands::{
+    CertifyFiles, Command, CompileFiles, GradeFiles, JobNumbers, ReplayFiles, ScanFiles,
+};
 pub use words::command;

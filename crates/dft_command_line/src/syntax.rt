@@ -40,7 +40,13 @@ pub(crate) fn matches<'a>(alloc: Global, words: &'a [String]) -> Result<ArgMatch
             &["netlist", "config", "cubes", "report"],
             &["library"],
         )?)?
-        .subcommand(form(alloc, "generate", &["seed", "size"], &[])?)?;
+        .subcommand(form(alloc, "generate", &["seed", "size"], &[])?)?
+        .subcommand(form(
+            alloc,
+            "grade",
+            &["netlist", "patterns", "out"],
+            &["library"],
+        )?)?;
     dft.try_get_matches_from(words)
 }
 

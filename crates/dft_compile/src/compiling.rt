@@ -40,11 +40,12 @@ pub fn compile(
     cubes_are_named(cubes);
     let mut merger = Merger::new(alloc, loads)?;
     let placed = place_all(alloc, &mut merger, cubes)?;
+    let merged = merger.close();
     let work = Work {
         alloc,
         loads,
         scanned: prepared.scanned(),
-        merger: &merger,
+        merger: &merged,
         cubes,
         placed: &placed,
     };

@@ -19,7 +19,7 @@ use crate::reporting::report_text;
 use crate::texts::{CompileTexts, Counts};
 use crate::writing::pattern_text;
 use dft_cubes::Cube;
-use dft_merge::{Loads, Merger, Placed};
+use dft_merge::{Closed, Loads, Placed};
 use dft_netlist::Design;
 use dft_scan::counts_of;
 use std::alloc::{AllocError, Global};
@@ -30,7 +30,7 @@ pub(crate) struct Work<'a> {
     pub(crate) alloc: Global,
     pub(crate) loads: &'a Loads<'a>,
     pub(crate) scanned: &'a Design,
-    pub(crate) merger: &'a Merger<'a>,
+    pub(crate) merger: &'a Closed<'a>,
     pub(crate) cubes: &'a [Cube],
     pub(crate) placed: &'a [Placed],
 }

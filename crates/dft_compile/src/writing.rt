@@ -9,7 +9,7 @@ ghost use Rattle.dft_compile.specs.Refusals.{IsRefusal, pattern_bytes};
 
 use crate::error::CompileError;
 use dft_encode::encode;
-use dft_merge::Merger;
+use dft_merge::Closed;
 use dft_netlist::Design;
 use std::alloc::Global;
 
@@ -24,7 +24,7 @@ pub(crate) struct PatternText {
 pub(crate) fn pattern_text(
     alloc: Global,
     scanned: &Design,
-    merger: &Merger<'_>,
+    merger: &Closed<'_>,
 ) -> Result<PatternText, CompileError>
     requires scanned { scanned.now ≡ written Edt merger.now.loads.design merger.now.loads.config }
     requires few { length merger.now.patterns ≤ 65536 }

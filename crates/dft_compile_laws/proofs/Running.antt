@@ -6,6 +6,7 @@ use Rattle.dft_base.specs.declared.tri.Tri.{Tri}
 use Rattle.dft_abstract.specs.Cycle.{all_unknown}
 use Rattle.dft_netlist.specs.Logic.{Ports, logic_of}
 use Rattle.dft_netlist.specs.Netlist.{Netlist}
+use Rattle.dft_netlist.specs.Drivers.{IsOrdered}
 use Rattle.dft_netlist.specs.Orders.{IsOrder}
 use Rattle.dft_netlist.specs.Runs.{Now, Turn, AreLow, IsRun}
 use Rattle.dft_netlist.specs.Sound.{IsNetlist}
@@ -38,8 +39,10 @@ rows_below : (nets : List ℕ) (before : ℕ → Tri) (vectors : List (List Act)
 rows_below nets before [] = tt
 rows_below nets before (acts ∷ vectors) = (λ d is. pulses_below nets acts d is, rows_below nets (row_of nets before acts).vector.ports vectors)
 
--- from every start with low clocks there is a run of a design over a pattern set, under any ports
+-- from every start with low clocks there is a run over a pattern set, under any ports, where the nets have an order
+pub ranked_run : (w : Netlist) (rank : ℕ → ℕ) (set : Patterns) (ports : Ports) (start : Now) → IsOrdered w rank → AreLow start.state → (turns : List Turn) × IsRun (logic_of w ports) (vectors_in (replayed_rows w set)) start turns
+ranked_run w rank set ports start ordered low =
+    runs_exist (logic_of w ports) rank (past_all (nets_of w set.signals)) (vectors_in (replayed_rows w set)) start (order_is_rank w ports rank ordered) low (rows_below (nets_of w set.signals) all_unknown set.vectors)
+
 pub sets_run : (w : Netlist) (order : List ℕ) (set : Patterns) (ports : Ports) (start : Now) → IsNetlist w → IsOrder w order → AreLow start.state → (turns : List Turn) × IsRun (logic_of w ports) (vectors_in (replayed_rows w set)) start turns
-sets_run w order set ports start sound ordered low =
-    let ranked = order_ranks w order sound ordered in
-    runs_exist (logic_of w ports) ranked.0 (past_all (nets_of w set.signals)) (vectors_in (replayed_rows w set)) start (order_is_rank w ports ranked.0 ranked.1) low (rows_below (nets_of w set.signals) all_unknown set.vectors)
+sets_run w order set ports start sound ordered low = (let ranked = order_ranks w order sound ordered in ranked_run w ranked.0 set ports start ranked.1 low)

@@ -13,7 +13,6 @@ use Rattle.dft_equations.specs.LoadRows.{LoadRows}
 use Rattle.dft_rules.specs.Rules.{is_net}
 use Rattle.dft_stitch.specs.Chains.{plan_of}
 use Rattle.dft_cubes.specs.declared.cube.Cube.{Cube}
-use Rattle.dft_cubes.specs.declared.cube.Merged.{Merged}
 use Rattle.dft_cubes.specs.Domains.{captured}
 use Rattle.dft_cubes.specs.Laws.{AreCubes}
 use Rattle.dft_expect.specs.Captures.{capture_clock}

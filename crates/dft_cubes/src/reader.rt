@@ -108,9 +108,10 @@ fn take_lines(
     Ok(number)
 }
 
-/// The cubes of a text, each with the clock of its capture and with bits of flip-flops and of input ports: lines `cube
-/// NAME CLOCK`, then `cell NAME 0|1` and `port NAME 0|1`, and `end`. The first line that fails decides, and the first
-/// check that it fails.
+/// The cubes of a text, each with the clocks of its capture and with bits of flip-flops and of input ports: in version 2
+/// behind a line `version 2`, else behind `version 1` or no such line, lines `cube NAME CLOCK`, in version 2 also `cube
+/// NAME CLOCK CLOCK`, then `cell NAME 0|1` and `port NAME 0|1`, and `end`. The first line that fails decides, and the
+/// first check that it fails.
 pub fn read(
     alloc: Global,
     bytes: &[u8],

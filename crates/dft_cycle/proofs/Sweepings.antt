@@ -161,7 +161,7 @@ refreshed_more ops base nets start values new first marked now any j net d less 
     ]
 
 -- a net that is none of the readers does not read it
-pub blind : (x : Circuit) (net k : ℕ) (readers : List ℕ) → IsCircuit x → net < length x.ops.items → readers ≡ list_at x.readers.items net → (Has readers k → ⊥) → Has (reads (meaning (op_at x.ops.items k))) net → ⊥
+pub blind : (x : Circuit) (net k : ℕ) (readers : List ℕ) → IsCircuit x → net < length x.ops.items → readers ≡ list_at x.readers net → (Has readers k → ⊥) → Has (reads (meaning (op_at x.ops.items k))) net → ⊥
 blind x net k readers is live e none h = elim (leb_tells (length x.ops.items) k) [
   | inl out ↦ (let P : Op → Type 0 = λ o. Has (reads (meaning o)) net in subst P (get_or_past x.ops.items k Free out.1) h)
   | inr less ↦ (let Q : List ℕ → Type 0 = λ l. Has l k in none (subst Q (sym e) (is.tables.readers.each net k less.1 live h)))

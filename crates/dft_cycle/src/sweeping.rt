@@ -125,7 +125,7 @@ pub(crate) fn change_view(
     requires values { length values.old ≡ length circuit.now.ops.items }
     requires marked { length marked.old ≡ length circuit.now.ops.items }
     requires clear { (k : ℕ) → is_up marked.old k ≡ false }
-    requires near { (k : ℕ) → Has (list_at circuit.now.leaves.items last.0) k ⊎ (Has (list_at circuit.now.leaves.items view.now.domain.0) k ⊎ IsGiven circuit.now view.now values.old k) }
+    requires near { (k : ℕ) → Has (list_at circuit.now.leaves last.0) k ⊎ (Has (list_at circuit.now.leaves view.now.domain.0) k ⊎ IsGiven circuit.now view.now values.old k) }
     ensures given { (k : ℕ) → IsGiven circuit.now view.now values.new k }
     ensures clear { (k : ℕ) → is_up marked.new k ≡ false }
 {

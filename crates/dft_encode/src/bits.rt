@@ -10,11 +10,11 @@ ghost use Rattle.dft_merge.specs.Placement.{Loads, equations_of};
 
 use dft_config::Config;
 use dft_gf2::Fill;
-use dft_merge::{Merger, fill_bits};
+use dft_merge::{Closed, fill_bits};
 use std::alloc::{AllocError, Global};
 
 // The channel bits that load a pattern, where these bits fill the columns that are free.
-fn solved(merger: &Merger<'_>, pattern: u32, like: &[bool]) -> Result<Vec<u64>, AllocError>
+fn solved(merger: &Closed<'_>, pattern: u32, like: &[bool]) -> Result<Vec<u64>, AllocError>
     requires pattern { pattern < length merger.now.patterns }
     requires columns { length like.now ≡ columns_in merger.now }
     ensures packed { IfOk result (λ words. IsPacked (columns_in merger.now) words.items) }
@@ -36,7 +36,7 @@ fn solved(merger: &Merger<'_>, pattern: u32, like: &[bool]) -> Result<Vec<u64>, 
 pub(crate) fn channel_bits(
     alloc: Global,
     config: &Config,
-    merger: &Merger<'_>,
+    merger: &Closed<'_>,
     pattern: u32,
     columns: u32,
 ) -> Result<Vec<u64>, AllocError>

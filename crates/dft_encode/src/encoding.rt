@@ -12,7 +12,7 @@ use crate::finder::Finder;
 use crate::found::Found;
 use crate::settings::always_masked;
 use dft_expect::Capturer;
-use dft_merge::Merger;
+use dft_merge::Closed;
 use dft_netlist::Design;
 use dft_patterns::PatternSet;
 use dft_vectors::VectorList;
@@ -69,7 +69,7 @@ fn patterns(finder: &Finder<'_>, written: &Design) -> Result<Encoded, AllocError
 
 /// The patterns of all merged cubes of a design, in the signals of its written netlist: their channel bits, what they capture, 512 at a time,
 /// which chains are masked, and the vectors of all that.
-pub fn encode(alloc: Global, merger: &Merger<'_>, written: &Design) -> Result<Encoded, AllocError>
+pub fn encode(alloc: Global, merger: &Closed<'_>, written: &Design) -> Result<Encoded, AllocError>
     requires few { length merger.now.patterns ≤ 65536 }
     ensures { IfOk result (IsEncoded written.now merger.now.loads.design merger.now.loads.config merger.now.loads.plan merger.now.loads.rows merger.now.patterns) }
 {

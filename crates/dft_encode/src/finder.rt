@@ -1,6 +1,6 @@
 //! What patterns are found by.
 
-use dft_merge::{Loads, Merger};
+use dft_merge::{Closed, Loads};
 use std::alloc::Global;
 
 // The planned design with its load equations, the chains that are always masked, and the merged cubes.
@@ -9,5 +9,5 @@ pub(crate) struct Finder<'a> {
     pub(crate) alloc: Global,
     pub(crate) loads: &'a Loads<'a>,
     pub(crate) always: &'a [bool],
-    pub(crate) merger: &'a Merger<'a>,
+    pub(crate) merger: &'a Closed<'a>,
 }

@@ -1,3 +1,4 @@
+pub mod ChainLemmas
 pub mod ImpulseLemmas
 pub mod LoadLemmas
 pub mod RowLemmas

@@ -1,9 +1,9 @@
 -- Rows of load equations: the first one by impulse responses, and the others moved from it.
-use Rattle.std.proofs.Common.{ℕ, suc, Bool, false, ◌≡◌, ◌<◌, ◌≤◌, ◌+◌, ◌*◌, ◌-◌, ◌/◌, ◌%◌, ◌⊎◌, inl, inr, List, [], ◌∷◌, ◌++◌, length, get_or, subst, refl, sym, ap, arith, ◌∙◌}
+use Rattle.std.proofs.Common.{ℕ, suc, Bool, false, ◌≡◌, ◌<◌, ◌≤◌, ◌+◌, ◌*◌, ◌-◌, ◌/◌, ◌%◌, ◌⊎◌, inl, inr, List, [], ◌∷◌, length, get_or, subst, refl, sym, ap, arith, ◌∙◌}
 use Rattle.std.specs.List.{All, slice_index}
 use Rattle.std.proofs.lemmas.Bool.{cases_lt}
 use Rattle.std.proofs.lemmas.Nat.{div_below, mod_below, le-div}
-use Rattle.std.proofs.lemmas.List.{get_or_past, get_or_default, length-append}
+use Rattle.std.proofs.lemmas.List.{get_or_past, get_or_default}
 use Rattle.std.proofs.lemmas.List.FromFn.{get_or-map-range_with_len, length-map-range_with_len, fill_by_all}
 use Rattle.dft_base.specs.Solutions.{xor, bit_at}
 use Rattle.dft_config.specs.declared.config.RingConfig.{RingConfig}
@@ -14,7 +14,7 @@ use Rattle.dft_config.specs.Loads.{channel_of, cycle_of, single, reaches, delay,
 use Rattle.dft_config.proofs.Linearity.{delay_small}
 use Rattle.dft_equations.specs.Impulses.{IsImpulse, AreImpulses}
 use Rattle.dft_equations.specs.LoadRows.{equation_row, AreRowsOf, AreWide}
-use Rattle.dft_equations.proofs.ImpulseLemmas.{load_equation-first, load_equation-moved, state_before, push_each}
+use Rattle.dft_equations.proofs.ImpulseLemmas.{load_equation-first, load_equation-moved, state_before}
 
 -- the parts of a first row's bit: a channel's response, a state of it, and the stages that the chain takes
 pub record IsRead (config : Config) (cycles : ℕ) (late : Bool) (chain column : ℕ) (all : List (List (List Bool))) (response : List (List Bool)) (state : List Bool) (stages : List ℕ) : Type 0 where
@@ -101,7 +101,7 @@ bit_at-equation_row : (ring : RingConfig) (cycles : ℕ) (late : Bool) (chain pl
 bit_at-equation_row ring cycles late chain place q some within = bit_case ring cycles late chain place q some within (cases_lt q (cycles * ring.channels))
 
 -- the first row, moved down by a place's columns, is the place's row
-moved_row : (ring : RingConfig) (cycles : ℕ) (late : Bool) (chain place : ℕ) (first row : List Bool) → 0 < ring.channels → place < cycles → first ≡ equation_row ring cycles late chain 0
+pub moved_row : (ring : RingConfig) (cycles : ℕ) (late : Bool) (chain place : ℕ) (first row : List Bool) → 0 < ring.channels → place < cycles → first ≡ equation_row ring cycles late chain 0
     → length row ≡ length first → ((column : ℕ) → bit_at row column ≡ bit_at first (column + place * ring.channels)) → row ≡ equation_row ring cycles late chain place
 moved_row ring cycles late chain place first row some less first_is size bits =
     let n = cycles * ring.channels in
@@ -111,16 +111,6 @@ moved_row ring cycles late chain place first row some less first_is size bits =
     ∙ ap (λ (l : List Bool). bit_at l (column + place * ring.channels)) first_is
     ∙ bit_at-equation_row ring cycles late chain 0 (column + place * ring.channels) some (omega (arith, less))
     ∙ sym (load_equation-moved ring cycles late chain place column some less))
-
--- one row more
-pub rows_more : (ring : RingConfig) (cycles : ℕ) (late : Bool) (chain place : ℕ) (rows : List (List Bool)) (first row : List Bool) → 0 < ring.channels → place < cycles → AreRowsOf ring cycles late chain place rows
-    → first ≡ equation_row ring cycles late chain 0 → length row ≡ length first → ((column : ℕ) → bit_at row column ≡ bit_at first (column + place * ring.channels))
-    → AreRowsOf ring cycles late chain (place + 1) (rows ++ row ∷ [])
-rows_more ring cycles late chain place rows first row some less so_far first_is size bits = record {
-  count = length-append rows (row ∷ []) ∙ omega (arith, so_far.count);
-  each = push_each (λ k (r : List Bool). r ≡ equation_row ring cycles late chain k) rows row [] place so_far.count so_far.each
-      (moved_row ring cycles late chain place first row some less first_is size bits);
-}
 
 -- each row has a bit for each column
 pub rows_wide : (ring : RingConfig) (cycles columns : ℕ) (late : ℕ → Bool) (lengths : List ℕ) (chains : List (List (List Bool))) → columns ≡ cycles * ring.channels

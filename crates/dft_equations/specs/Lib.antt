@@ -1,3 +1,5 @@
+pub mod ChainRows
+pub mod ChainRowsShown
 pub mod Impulses
 pub mod Inside
 pub mod LoadRows

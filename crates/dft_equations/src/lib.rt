@@ -1,6 +1,7 @@
 //! The load equations of a ring generator: for each scan cell the variables of the channels that it sums after a load.
 #![tactic(auto)]
 
+mod chain_rows;
 mod impulses;
 mod making;
 mod row;

@@ -1,11 +1,13 @@
-ghost use Rattle.std.specs.Prelude.{◌≡◌, ℕ, suc, ◌*◌, ◌<◌, ◌≤◌, ◌^◌, length, map, IfOk};
+ghost use Rattle.std.specs.Prelude.{◌≡◌, ℕ, suc, ◌*◌, ◌/◌, ◌<◌, ◌≤◌, ◌^◌, length, map, min, IfOk};
 ghost use Rattle.std.specs.List.{All, slice_index, range_with_len};
 ghost use Rattle.dft_base.specs.Solutions.{bit_at};
 ghost use Rattle.dft_config.specs.Ring.{sum_of};
 ghost use Rattle.dft_config.specs.Loads.{load_equation};
+ghost use Rattle.dft_equations.specs.ChainRows.{AreMoved};
 ghost use Rattle.dft_equations.specs.Impulses.{AreImpulses};
 ghost use Rattle.dft_equations.specs.LoadRows.{AreLoadEquations, AreRowsOf, equation_row};
 
+use crate::chain_rows::ChainRows;
 use crate::impulses::impulses;
 use crate::row::Row;
 use crate::table::Equations;
@@ -57,7 +59,7 @@ fn chain_rows(
     chain: usize,
     cells: u16,
     cycles: u16,
-) -> Result<Listed<Row>, AllocError>
+) -> Result<ChainRows, AllocError>
     requires responses { AreImpulses config.now.ring (suc cycles) responses.now }
     requires chain { chain < config.now.chains }
     requires cells { cells ≤ cycles }
@@ -65,15 +67,27 @@ fn chain_rows(
     ensures { IfOk result (AreRowsOf config.now.ring cycles late chain cells) }
 {
     config.soundness();
-    let mut rows = Vec::with_capacity(alloc, cells as usize)?;
-    if cells > 0 {
-        let bits = first_bits(alloc, config, responses, late, chain, cycles)?;
-        let first = Row::of_bits(alloc, &bits)?;
-        for place in 0..cells {
-            rows.push(first.moved(alloc, u32::from(place) * u32::from(config.ring().channels))?)?;
-        }
+    let bits = first_bits(alloc, config, responses, late, chain, cycles)?;
+    let first = Row::of_bits(alloc, &bits)?;
+    let channels = config.ring().channels;
+    let kept = kept_rows(alloc, &first, channels, cells)?;
+    let columns = u32::from(cycles) * u32::from(channels);
+    Ok(ChainRows::new(columns, channels, cells, kept))
+}
+
+// The rows of the first 64 of so many places, with room for the words that the last one moves down by.
+fn kept_rows(alloc: Global, first: &Row, channels: u8, cells: u16) -> Result<Vec<Row>, AllocError>
+    requires { length first.now ≤ 16384 }
+    ensures { IfOk result (λ kept. AreMoved first.now channels (channels * (cells / 64)) (min cells 64) kept.items) }
+{
+    let places = cells.min(64);
+    let more = u32::from(channels) * u32::from(cells / 64);
+    let mut kept = Vec::with_capacity(alloc, usize::from(places))?;
+    for place in 0..places {
+        let row = first.moved(alloc, u32::from(place) * u32::from(channels), more)?;
+        kept.push(row)?;
     }
-    Ok(Listed::from_vec(rows))
+    Ok(kept)
 }
 
 // The load equation of the first cell of a chain, column by column.

@@ -42,17 +42,19 @@ impl Row {
         })
     }
 
-    /// The row whose bits are moved down by so many columns.
-    pub fn moved(&self, alloc: Global, places: u32) -> Result<Row, AllocError>
-        ensures size { IfOk result (λ row. length row ≡ length self.now) }
+    /// The row whose bits are moved down by so many columns, with room for so many words more.
+    pub fn moved(&self, alloc: Global, places: u32, more: u32) -> Result<Row, AllocError>
+        requires { length self.now + 64 * more < 2 ^ 32 }
+        ensures size { IfOk result (λ row. length row ≡ length self.now + 64 * more) }
         ensures bits { IfOk result (λ row. (column : ℕ) → bit_at row column ≡ bit_at self.now (column + places)) }
     {
-        let mut words = Vec::with_capacity(alloc, self.words.len())?;
-        for word in 0..self.words.len() {
+        let count = self.words.len() + more as usize;
+        let mut words = Vec::with_capacity(alloc, count)?;
+        for word in 0..count {
             words.push(moved_word(&self.words, word, places as usize))?;
         }
         Ok(Row {
-            columns: self.columns,
+            columns: self.columns + 64 * more,
             words,
         })
     }

@@ -3,17 +3,16 @@ ghost use Rattle.dft_base.specs.Solutions.{bit_at};
 ghost use Rattle.dft_base.specs.Packed.{packed_bit};
 ghost use Rattle.dft_equations.specs.LoadRows.{AreWide, IsCell, row_of};
 
-use crate::row::Row;
-use dft_config::Listed;
+use crate::chain_rows::ChainRows;
 use std::marker::Model;
 
-/// The load equations of the cells of chains, one row of packed words a cell. The variable of a channel at a cycle has the
+/// The load equations of the cells of chains, a row of packed words for each cell. The variable of a channel at a cycle has the
 /// column `cycle * channels + channel`. A clause sees the number of columns, and for each chain the rows of its cells, each as
 /// its bits (Rajski and others, 2004).
 #[derive(Drop)]
 pub struct Equations {
     columns: u32,
-    chains: Vec<Listed<Row>>,
+    chains: Vec<ChainRows>,
 }
 
 impl Model for Equations {
@@ -30,7 +29,7 @@ impl Model for Equations {
 
 impl Equations {
     // The rows of chains, each with a bit for each column.
-    pub(crate) fn new(columns: u32, chains: Vec<Listed<Row>>) -> Equations
+    pub(crate) fn new(columns: u32, chains: Vec<ChainRows>) -> Equations
         requires { AreWide columns chains.items }
         ensures { result ≡ record { columns = columns; chains = chains.items } }
     {
@@ -52,6 +51,6 @@ impl Equations {
         ensures row { (column : ℕ) → packed_bit result.now column ≡ bit_at (row_of self.now chain place) column }
         ensures width { length (row_of self.now chain place) ≡ self.now.columns }
     {
-        self.chains[chain as usize].as_slice()[place as usize].words()
+        self.chains[chain as usize].words_at(place)
     }
 }

@@ -103,7 +103,9 @@ patterns_few words = value_few (codes "out-patterns") words
 
 report_few : (words : List (List ℕ)) → length (or_empty (report_saved words)) ≤ bytes_of words
 unfolding report_saved
-report_few words = either_few (value_of (codes "out-report") words) (value_of (codes "report") words) (bytes_of words) (value_few (codes "out-report") words) (value_few (codes "report") words)
+report_few words =
+    either_few (value_of (codes "out-report") words) (or_else (value_of (codes "report") words) (value_of (codes "out") words)) (bytes_of words) (value_few (codes "out-report") words)
+    (either_few (value_of (codes "report") words) (value_of (codes "out") words) (bytes_of words) (value_few (codes "report") words) (value_few (codes "out") words))
 
 pub file_few : (code : List ℕ) (name : Option (List ℕ)) (words : List (List ℕ)) → length (or_empty (file_of code name words)) ≤ bytes_of words
 file_few code name words =

@@ -8,7 +8,7 @@ use Rattle.dft_explain.proofs.Bounds.{Short, behind_few, found_few, more_len, pa
 use Rattle.dft_explain.proofs.Ends.{each}
 use Rattle.dft_explain.specs.Explained.{page_of}
 use Rattle.dft_explain.specs.FaultLines.{any_form_line, command_line, count_of, fault_line, fault_lines, files_line, form_line, line_of, lines_of, lines_of_command, lines_of_form, lines_without_form, number_line, option_line, option_pieces, second_pieces}
-use Rattle.dft_explain.specs.Faults.{Fault, NoCommand, NoSuchCommand, Unexpected, NoOption, Twice, NoValue, EmptyValue, Missing, NoNumber, OneFile, Form, Range, Text, by_value, certify_form, compile_form, fault_of_command, fault_of_first, fault_of_named, fault_of_number, fault_of_option, fault_of_options, fault_of_output, fault_of_right_options, fault_of_value, fault_where_none, first_fault, form_of, generate_form, has, is_among, is_in, is_of_name, missing, name_in, named, names_with, no_number, one_file, or_else, replay_form, scan_form, seed, size, value_from, joined_in, wrong_option}
+use Rattle.dft_explain.specs.Faults.{Fault, NoCommand, NoSuchCommand, Unexpected, NoOption, Twice, NoValue, EmptyValue, Missing, NoNumber, OneFile, Form, Range, Text, by_value, certify_form, compile_form, fault_of_command, fault_of_first, fault_of_named, fault_of_number, fault_of_option, fault_of_options, fault_of_output, fault_of_right_options, fault_of_value, fault_where_none, first_fault, form_of, generate_form, grade_form, has, is_among, is_in, is_of_name, missing, name_in, named, names_with, no_number, one_file, or_else, replay_form, scan_form, seed, size, value_from, joined_in, wrong_option}
 use Rattle.dft_explain.specs.Options.{behind, option_of, or_empty, value_of}
 use Rattle.dft_explain.specs.Told.{bytes_of, ends_of}
 
@@ -167,26 +167,31 @@ generate_told : bytes_of (form_line generate_form) ≤ 300
 unfolding form_line option_pieces
 generate_told = omega arith
 
+grade_told : bytes_of (form_line grade_form) ≤ 300
+unfolding form_line option_pieces
+grade_told = omega arith
+
 abbrev AnyShort : Option Form → Type 0
 AnyShort None = Unit {0}
 AnyShort (Some form) = IsShort form
 
-short_by : (a b c d e : Bool) → AnyShort (if a then Some replay_form else (if b then Some scan_form else (if c then Some compile_form else (if d then Some certify_form else (if e then Some generate_form else None)))))
-short_by true b c d e = record { name = omega arith; needed = (omega arith, (omega arith, tt)); saved = tt; told = replay_told }
-short_by false true c d e =
+short_by : (a b c d e f : Bool) → AnyShort (if a then Some replay_form else (if b then Some scan_form else (if c then Some compile_form else (if d then Some certify_form else (if e then Some generate_form else (if f then Some grade_form else None))))))
+short_by true b c d e f = record { name = omega arith; needed = (omega arith, (omega arith, tt)); saved = tt; told = replay_told }
+short_by false true c d e f =
     record { name = omega arith; needed = (omega arith, (omega arith, (omega arith, (omega arith, tt)))); saved = (omega arith, (omega arith, tt)); told = scan_told }
-short_by false false true d e = record {
+short_by false false true d e f = record {
   name = omega arith;
   needed = (omega arith, (omega arith, (omega arith, (omega arith, (omega arith, (omega arith, tt))))));
   saved = (omega arith, (omega arith, (omega arith, tt)));
   told = compile_told;
 }
-short_by false false false true e = record { name = omega arith; needed = (omega arith, (omega arith, (omega arith, (omega arith, tt)))); saved = tt; told = certify_told }
-short_by false false false false true = record { name = omega arith; needed = (omega arith, (omega arith, tt)); saved = tt; told = generate_told }
-short_by false false false false false = tt
+short_by false false false true e f = record { name = omega arith; needed = (omega arith, (omega arith, (omega arith, (omega arith, tt)))); saved = tt; told = certify_told }
+short_by false false false false true f = record { name = omega arith; needed = (omega arith, (omega arith, tt)); saved = tt; told = generate_told }
+short_by false false false false false true = record { name = omega arith; needed = (omega arith, (omega arith, (omega arith, tt))); saved = (omega arith, tt); told = grade_told }
+short_by false false false false false false = tt
 
 short_of : (name : Text) → AnyShort (form_of name)
-short_of name = short_by (bytes_eq name (codes "replay")) (bytes_eq name (codes "scan")) (bytes_eq name (codes "compile")) (bytes_eq name (codes "certify")) (bytes_eq name (codes "generate"))
+short_of name = short_by (bytes_eq name (codes "replay")) (bytes_eq name (codes "scan")) (bytes_eq name (codes "compile")) (bytes_eq name (codes "certify")) (bytes_eq name (codes "generate")) (bytes_eq name (codes "grade"))
 
 of_options : (form : Form) (words : List Text) → IsShort form → WithinAny (bytes_of words) (fault_of_options form words)
 of_options form words short =

@@ -184,14 +184,15 @@ record Few (options : List (List ℕ)) : Type 0 where
   short : Short options
   three : length options ≤ 3
 
-few_by : (a b : Bool) → Few (if a then codes "out" ∷ codes "report" ∷ [] else (if b then codes "out-netlist" ∷ codes "out-patterns" ∷ codes "out-report" ∷ [] else []))
-few_by true b = record { short = (omega arith, (omega arith, tt)); three = omega arith }
-few_by false true = record { short = (omega arith, (omega arith, (omega arith, tt))); three = omega arith }
-few_by false false = record { short = tt; three = omega arith }
+few_by : (a b c : Bool) → Few (if a then codes "out" ∷ codes "report" ∷ [] else (if b then codes "out-netlist" ∷ codes "out-patterns" ∷ codes "out-report" ∷ [] else (if c then codes "out" ∷ [] else [])))
+few_by true b c = record { short = (omega arith, (omega arith, tt)); three = omega arith }
+few_by false true c = record { short = (omega arith, (omega arith, (omega arith, tt))); three = omega arith }
+few_by false false true = record { short = (omega arith, tt); three = omega arith }
+few_by false false false = record { short = tt; three = omega arith }
 
 few_saved : (words : List (List ℕ)) → Few (saved words)
 few_saved [] = record { short = tt; three = omega arith }
-few_saved (command ∷ words) = few_by (bytes_eq command (codes "scan")) (bytes_eq command (codes "compile"))
+few_saved (command ∷ words) = few_by (bytes_eq command (codes "scan")) (bytes_eq command (codes "compile")) (bytes_eq command (codes "grade"))
 
 files_by : (t : Bool) (files : List (List ℕ)) (n : ℕ) → bytes_of files ≤ n → bytes_of (if t then [] else files) ≤ n
 files_by true files n p = omega arith

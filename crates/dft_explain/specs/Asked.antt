@@ -4,7 +4,7 @@ use Rattle.std.specs.Str.{bytes_eq}
 use Rattle.dft_explain.specs.declared.asking.Request.{Request}
 use Rattle.dft_explain.specs.declared.asking.Request.TheVariants as request
 use Rattle.dft_explain.specs.declared.asking.Topic.{Topic}
-use Rattle.dft_explain.specs.declared.asking.Topic.TheVariants.{Replay, Scan, Compile, Certify, Generate}
+use Rattle.dft_explain.specs.declared.asking.Topic.TheVariants.{Replay, Scan, Compile, Certify, Generate, Grade}
 
 -- the command of this name
 abbrev pub topic_of : List ℕ → Option Topic
@@ -13,7 +13,8 @@ topic_of name =
     else (if bytes_eq name (codes "scan") then Some Scan
     else (if bytes_eq name (codes "compile") then Some Compile
     else (if bytes_eq name (codes "certify") then Some Certify
-    else (if bytes_eq name (codes "generate") then Some Generate else None))))
+    else (if bytes_eq name (codes "generate") then Some Generate
+    else (if bytes_eq name (codes "grade") then Some Grade else None)))))
 
 -- `--help` and `--version`, alone
 abbrev pub asked_alone : List ℕ → Option Request

@@ -4,7 +4,7 @@ use Rattle.std.specs.Char.{is_ascii_digit}
 use Rattle.std.specs.List.{list_all, prefix_len}
 use Rattle.std.specs.Str.{bytes_eq}
 use Rattle.std.specs.Str.Parse.{digits_value}
-use Rattle.dft_explain.specs.Options.{behind, compile_saves, option_of, scan_saves, value_of}
+use Rattle.dft_explain.specs.Options.{behind, compile_saves, grade_saves, option_of, scan_saves, value_of}
 
 abbrev pub Text : Type 0
 Text = List ℕ
@@ -48,6 +48,14 @@ certify_form = record {
 abbrev pub generate_form : Form
 generate_form = record { name = codes "generate"; needed = codes "seed" ∷ codes "size" ∷ []; optional = []; saved = [] }
 
+abbrev pub grade_form : Form
+grade_form = record {
+  name = codes "grade";
+  needed = codes "netlist" ∷ codes "patterns" ∷ codes "out" ∷ [];
+  optional = codes "library" ∷ [];
+  saved = grade_saves;
+}
+
 -- the command of this name
 abbrev pub form_of : (name : Text) → Option Form
 form_of name =
@@ -55,7 +63,8 @@ form_of name =
     else (if bytes_eq name (codes "scan") then Some scan_form
     else (if bytes_eq name (codes "compile") then Some compile_form
     else (if bytes_eq name (codes "certify") then Some certify_form
-    else (if bytes_eq name (codes "generate") then Some generate_form else None))))
+    else (if bytes_eq name (codes "generate") then Some generate_form
+    else (if bytes_eq name (codes "grade") then Some grade_form else None)))))
 
 abbrev pub is_among : (text : Text) → (texts : List Text) → Bool
 is_among text [] = false

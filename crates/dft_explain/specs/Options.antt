@@ -50,9 +50,9 @@ option_of_letter (c ∷ cs) =
 unfoldable pub patterns_saved : (words : List (List ℕ)) → Option (List ℕ)
 patterns_saved words = value_of (codes "out-patterns") words
 
--- the report that is saved
+-- the report that is saved: of a compilation, of a scan, or of a grading
 unfoldable pub report_saved : (words : List (List ℕ)) → Option (List ℕ)
-report_saved words = or_else (value_of (codes "out-report") words) (value_of (codes "report") words)
+report_saved words = or_else (value_of (codes "out-report") words) (or_else (value_of (codes "report") words) (value_of (codes "out") words))
 
 -- F1 names its option, P6 and K6 speak of a file that is saved, all others of the one that their letter says
 abbrev pub file_of : (code : List ℕ) → (name : Option (List ℕ)) → (words : List (List ℕ)) → Option (List ℕ)
@@ -68,17 +68,22 @@ file_of code name words =
 abbrev pub loaded : List (List ℕ)
 loaded = codes "library" ∷ codes "config" ∷ codes "netlist" ∷ codes "patterns" ∷ codes "cubes" ∷ codes "report" ∷ []
 
--- the options whose files a scan and a compilation save, in the order of saves
+-- the options whose files a scan, a compilation and a grading save, in the order of saves
 abbrev pub scan_saves : List (List ℕ)
 scan_saves = codes "out" ∷ codes "report" ∷ []
 
 abbrev pub compile_saves : List (List ℕ)
 compile_saves = codes "out-netlist" ∷ codes "out-patterns" ∷ codes "out-report" ∷ []
 
+abbrev pub grade_saves : List (List ℕ)
+grade_saves = codes "out" ∷ []
+
 -- the options whose files a command saves
 abbrev pub saved_by : (command : List ℕ) → List (List ℕ)
 saved_by command =
-    if bytes_eq command (codes "scan") then scan_saves else (if bytes_eq command (codes "compile") then compile_saves else [])
+    if bytes_eq command (codes "scan") then scan_saves
+    else (if bytes_eq command (codes "compile") then compile_saves
+    else (if bytes_eq command (codes "grade") then grade_saves else []))
 
 abbrev pub saved : (words : List (List ℕ)) → List (List ℕ)
 saved [] = []

@@ -11,6 +11,7 @@ pub enum Topic {
     Compile,
     Certify,
     Generate,
+    Grade,
 }
 
 /// What words ask for in place of a command's work.
@@ -71,6 +72,8 @@ fn topic_of(name: &str) -> Option<Topic>
         Some(Topic::Certify)
     } else if name == "generate" {
         Some(Topic::Generate)
+    } else if name == "grade" {
+        Some(Topic::Grade)
     } else {
         None
     }

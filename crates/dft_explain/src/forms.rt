@@ -4,7 +4,7 @@ ghost use Rattle.std.specs.Prelude.{◌≡◌, map, option_map};
 ghost use Rattle.dft_explain.specs.Faults as spec;
 ghost use Rattle.dft_explain.specs.CodeFaults.{form_seen};
 
-use crate::options::{COMPILE_SAVES, NOTHING, SCAN_SAVES};
+use crate::options::{COMPILE_SAVES, GRADE_SAVES, NOTHING, SCAN_SAVES};
 
 // A command: the options that it needs, those that may be left out, and those whose files it saves.
 #[derive(Clone, Copy)]
@@ -32,6 +32,8 @@ static CERTIFY: [&str; 4] = ["netlist", "config", "cubes", "report"];
 
 static GENERATE: [&str; 2] = ["seed", "size"];
 
+static GRADE: [&str; 3] = ["netlist", "patterns", "out"];
+
 static LIBRARY: [&str; 1] = ["library"];
 
 impl Form {
@@ -49,6 +51,8 @@ impl Form {
             Some(Form::new("certify", &CERTIFY, &LIBRARY, &NOTHING))
         } else if name == "generate" {
             Some(Form::new("generate", &GENERATE, &NOTHING, &NOTHING))
+        } else if name == "grade" {
+            Some(Form::new("grade", &GRADE, &LIBRARY, &GRADE_SAVES))
         } else {
             None
         }

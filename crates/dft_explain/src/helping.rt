@@ -11,6 +11,7 @@ dft scan      inserts scan chains
 dft compile   inserts chains behind compression hardware, and makes patterns of test cubes
 dft certify   tests what a report gives for its unsolvable cubes
 dft generate  makes a job from a seed, compiles it, and replays what it compiled
+dft grade     tells which single stuck-at faults of a netlist patterns find
 
 dft COMMAND --help tells its options, what it prints, and an example.
 ";
@@ -93,6 +94,22 @@ status 0 pass, 2 wrong words, 5 not printed, 6 no memory
 dft generate --seed 1 --size 64
 ";
 
+const GRADE: &str = "\
+usage: dft grade --netlist FILE --patterns FILE --out FILE [--library FILE]
+
+--netlist FILE   the netlist, structural Verilog
+--patterns FILE  the patterns, STIL; they must pass on it
+--out FILE       where each single stuck-at fault is told with its grade
+--library FILE   the cells of the netlist, TOML; without it the standard cells
+
+prints
+  graded faults F detected D undetected U  a detected fault fails a compared bit in every run
+  the line of replay                       where the patterns do not pass; nothing is saved
+status 0 saved, 1 not passed, 2 wrong words, 3 refused, 4 not loaded, 5 not saved or printed, 6 no memory
+
+dft grade --netlist scanned.v --patterns patterns.stil --out faults.report
+";
+
 const VERSION: &str = "dft 0.1\n";
 
 /// What is told to who asks: of `--help` a line for each command; of a command its form, its options, what it prints and an
@@ -107,6 +124,7 @@ pub fn help(request: Request) -> &'static str
         Request::HelpOf(Topic::Compile) => COMPILE,
         Request::HelpOf(Topic::Certify) => CERTIFY,
         Request::HelpOf(Topic::Generate) => GENERATE,
+        Request::HelpOf(Topic::Grade) => GRADE,
         Request::Version => VERSION,
     }
 }

@@ -10,10 +10,12 @@ pub(crate) static LOADED: [&str; 6] = [
     "library", "config", "netlist", "patterns", "cubes", "report",
 ];
 
-// The options whose files a scan and a compilation save, in the order of saves.
+// The options whose files a scan, a compilation and a grading save, in the order of saves.
 pub(crate) static SCAN_SAVES: [&str; 2] = ["out", "report"];
 
 pub(crate) static COMPILE_SAVES: [&str; 3] = ["out-netlist", "out-patterns", "out-report"];
+
+pub(crate) static GRADE_SAVES: [&str; 1] = ["out"];
 
 pub(crate) static NOTHING: [&str; 0] = [];
 
@@ -103,13 +105,16 @@ fn patterns_saved<'a>(words: &'a [String]) -> Option<&'a [u8]>
 }
 
 #[tactic(auto, unfolding(crate::specs::Options::report_saved))]
-// The report that is saved.
+// The report that is saved: of a compilation, of a scan, or of a grading.
 fn report_saved<'a>(words: &'a [String]) -> Option<&'a [u8]>
     ensures { option_map (λ file. file.now) result ≡ spec.report_saved (map string_bytes words.entry.now) }
 {
-    match value_of(b"out-report".as_slice(), words) {
+    if let Some(file) = value_of(b"out-report".as_slice(), words) {
+        return Some(file);
+    }
+    match value_of(b"report".as_slice(), words) {
         Some(file) => Some(file),
-        None => value_of(b"report".as_slice(), words),
+        None => value_of(b"out".as_slice(), words),
     }
 }
 
@@ -136,6 +141,7 @@ pub(crate) fn saved(words: &[String]) -> &'static [&'static str]
     match words {
         [command, ..] if command.as_str() == "scan" => &SCAN_SAVES,
         [command, ..] if command.as_str() == "compile" => &COMPILE_SAVES,
+        [command, ..] if command.as_str() == "grade" => &GRADE_SAVES,
         _ => &NOTHING,
     }
 }

@@ -13,7 +13,7 @@ use Rattle.dft_hier.specs.declared.weights.Weight.{Weight}
 use Rattle.dft_hier.specs.declared.error.HierError.{HierError}
 use Rattle.dft_hier.specs.Growing.{IsRefusal}
 use Rattle.dft_hier.specs.Hierarchy.{all_subs, HaveOwnNames}
-use Rattle.dft_hier.specs.Laid.{IsTopOf, IsLaidOut, flat_at, flat_in, told_of}
+use Rattle.dft_hier.specs.Laid.{IsTopOf, IsFlatNetlist, IsLaidOut, flat_at, flat_in, told_of}
 use Rattle.dft_hier.specs.Numbers.{children_of}
 use Rattle.dft_hier.specs.Reach.{Graph, AreWithin, IsOrder, IsFirstOnCircle, NoCircle}
 use Rattle.dft_hier.specs.Refusals.{first_unknown, first_misfit, NoneInItself, IsFirstInItself, IsFlat, Part, Whole, CannotFlatten}
@@ -62,13 +62,21 @@ top_found ms g k own known apart is top live fitting =
 
 -- ---- what is built
 
--- a netlist that is built and finished is the flat design
-pub built_flat : (ms : List Module) (library : List Cell) (k : ℕ) (grown design : Netlist) → IsTopOf ms k → flat_at ms library k ≡ Ok grown → IsFinished grown design → IsFlat ms library design
-built_flat ms library k grown design t built done = record {
+-- what is built is the flat netlist
+pub built_whole : (ms : List Module) (library : List Cell) (k : ℕ) (grown : Netlist) → IsTopOf ms k → flat_at ms library k ≡ Ok grown → IsFlatNetlist ms library grown
+built_whole ms library k grown t built = record {
   top = t.top;
   joinable = t.joinable;
-  grown = grown;
   parts = sym (ap (flat_in ms library) t.at) ∙ built;
+}
+
+-- a flat netlist that is finished is the flat design
+pub finished_flat : (ms : List Module) (library : List Cell) (grown design : Netlist) → IsFlatNetlist ms library grown → IsFinished grown design → IsFlat ms library design
+finished_flat ms library grown design f done = record {
+  top = f.top;
+  joinable = f.joinable;
+  grown = grown;
+  parts = f.parts;
   finished = done;
 }
 
@@ -79,12 +87,12 @@ built_refused ms library k (netlist.Loop net) t is = Part t.joinable (sym (ap (f
 built_refused ms library k (netlist.DuplicateName name) t is = Part t.joinable (sym (ap (flat_in ms library) t.at) ∙ is)
 built_refused ms library k (netlist.TooMany what limit) t is = Part t.joinable (sym (ap (flat_in ms library) t.at) ∙ is)
 
-pub unfinished_told : (ms : List Module) (library : List Cell) (k : ℕ) (grown : Netlist) (e : NetlistError) → IsTopOf ms k → flat_at ms library k ≡ Ok grown → CannotFinish grown e → CannotFlatten ms library (told_of e)
-unfinished_told ms library k grown (netlist.Memory error) t built is = tt
-unfinished_told ms library k grown (netlist.MultipleDrivers net) t built is = Whole t.joinable (sym (ap (flat_in ms library) t.at) ∙ built) is
-unfinished_told ms library k grown (netlist.Loop net) t built is = Whole t.joinable (sym (ap (flat_in ms library) t.at) ∙ built) is
-unfinished_told ms library k grown (netlist.DuplicateName name) t built is = Whole t.joinable (sym (ap (flat_in ms library) t.at) ∙ built) is
-unfinished_told ms library k grown (netlist.TooMany what limit) t built is = Whole t.joinable (sym (ap (flat_in ms library) t.at) ∙ built) is
+pub unfinished_told : (ms : List Module) (library : List Cell) (grown : Netlist) (e : NetlistError) → IsFlatNetlist ms library grown → CannotFinish grown e → CannotFlatten ms library (told_of e)
+unfinished_told ms library grown (netlist.Memory error) f is = tt
+unfinished_told ms library grown (netlist.MultipleDrivers net) f is = Whole f.joinable f.parts is
+unfinished_told ms library grown (netlist.Loop net) f is = Whole f.joinable f.parts is
+unfinished_told ms library grown (netlist.DuplicateName name) f is = Whole f.joinable f.parts is
+unfinished_told ms library grown (netlist.TooMany what limit) f is = Whole f.joinable f.parts is
 
 -- ---- refusals of the top and of connections
 

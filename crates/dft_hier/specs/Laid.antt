@@ -4,6 +4,7 @@ use Rattle.dft_base.specs.Lexing.{Text}
 use Rattle.dft_cells.specs.declared.cell.Cell.{Cell}
 use Rattle.dft_netlist.specs.declared.error.NetlistError.{NetlistError}
 use Rattle.dft_netlist.specs.declared.error.NetlistError.TheVariants as netlist
+use Rattle.dft_netlist.specs.Netlist.{Netlist}
 use Rattle.dft_netlist_text.specs.NetlistText.{Grown}
 use Rattle.dft_modules.specs.Modules.{Module}
 use Rattle.dft_modules.specs.Sound.{AreModules}
@@ -23,6 +24,12 @@ pub record IsTopOf (ms : List Module) (number : ℕ) : Type 0 where
   pub top : Module
   pub at : slice_get ms number ≡ Some top
   pub joinable : IsJoinable ms top
+
+-- the flat netlist of modules that can be joined, not finished yet
+pub record IsFlatNetlist (ms : List Module) (library : List Cell) (grown : Netlist) : Type 0 where
+  pub top : Module
+  pub joinable : IsJoinable ms top
+  pub parts : flat_netlist ms library top ≡ Ok grown
 
 -- sound modules that can be joined, with their weights and live items
 pub record IsLaidOut (library : List Cell) (ms : List Module) (all_weights : List Weight) (all_items : List Live) : Type 0 where

@@ -187,14 +187,16 @@ fn pass_sub(
     ensures walks { Walks hierarchy.now (and_visit walk.old visit) builder.old result walk.new builder.new }
     ensures fewer { OnOk result (item_way_size hierarchy.now.modules.now hierarchy.now.items.now walk.new.way < item_way_size hierarchy.now.modules.now hierarchy.now.items.now (and_visit walk.old visit).way) }
 {
+    let item = live.item as usize;
+    let child = live.child as usize;
     let items = hierarchy.modules[visit.number].items();
-    match sub_in(&items[live.item]) {
+    match sub_in(&items[item]) {
         Some(sub) => {
-            let inner = &hierarchy.modules[live.child];
+            let inner = &hierarchy.modules[child];
             let ports = inner.ports();
             let connections = sub.connections.as_slice();
             add_connections(alloc, builder, visit.first, visit.next, ports, connections)?;
-            let below = nets_at(hierarchy.weights, live.child);
+            let below = nets_at(hierarchy.weights, child);
             walk.push(Visit {
                 number: visit.number,
                 first: visit.first,
@@ -203,7 +205,7 @@ fn pass_sub(
                 prefix: visit.prefix,
             })?;
             let names = inner.nets();
-            walk.go_into(visit, &sub.name, live.child, names.len())?;
+            walk.go_into(visit, &sub.name, child, names.len())?;
             Ok(())
         }
         None => unreachable!(),
@@ -234,7 +236,7 @@ fn pass(
     ensures fewer { OnOk result (item_way_size hierarchy.now.modules.now hierarchy.now.items.now walk.new.way < item_way_size hierarchy.now.modules.now hierarchy.now.items.now (and_visit walk.old visit).way) }
 {
     match live {
-        LiveItem::Own(place) => pass_own(alloc, hierarchy, builder, walk, visit, place),
+        LiveItem::Own(place) => pass_own(alloc, hierarchy, builder, walk, visit, place as usize),
         LiveItem::Sub(sub) => pass_sub(alloc, hierarchy, builder, walk, visit, sub),
     }
 }

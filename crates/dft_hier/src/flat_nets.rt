@@ -163,11 +163,13 @@ fn enter(
     ensures walks { (whole : Grown) → IsNetWalk hierarchy.now.modules.now hierarchy.now.items.now whole (record walk.old { way = walk.old.way ++ visit ∷ [] }) builder.old → MatchResult result (λ _. IsNetWalk hierarchy.now.modules.now hierarchy.now.items.now whole walk.new builder.new) (IsRefusal whole) }
     ensures fewer { OnOk result (way_size hierarchy.now.modules.now hierarchy.now.items.now walk.new.way < way_size hierarchy.now.modules.now hierarchy.now.items.now (walk.old.way ++ visit ∷ [])) }
 {
+    let item = live.item as usize;
+    let child = live.child as usize;
     let items = hierarchy.modules[visit.number].items();
-    match sub_in(&items[live.item]) {
+    match sub_in(&items[item]) {
         Some(sub) => {
-            walk.go_on(visit, &sub.name, live.child)?;
-            let names = hierarchy.modules[live.child].nets();
+            walk.go_on(visit, &sub.name, child)?;
+            let names = hierarchy.modules[child].nets();
             add_names(alloc, builder, walk.prefix(), names)
         }
         None => unreachable!(),

@@ -4,9 +4,10 @@ ghost use Rattle.std.specs.Prelude.{◌≡◌, ◌<◌, ◌≤◌, List, None, S
 ghost use Rattle.dft_cells.specs.declared.cell.Cell.{Cell};
 ghost use Rattle.dft_hier.specs.Fitting.{ArePortsFound};
 ghost use Rattle.dft_hier.specs.Flat as spec;
+ghost use Rattle.dft_modules.specs.Modules as said;
 ghost use Rattle.dft_hier.specs.Growing.{Builds, Grows};
 ghost use Rattle.dft_hier.specs.Hierarchy.{HaveOwnNames};
-ghost use Rattle.dft_hier.specs.Laid.{IsLaid, IsTopOf, flat_at, name_at, told_of};
+ghost use Rattle.dft_hier.specs.Laid.{IsFlatNetlist, IsLaid, IsTopOf, flat_at, name_at, told_of};
 ghost use Rattle.dft_hier.specs.Numbers.{children_of};
 ghost use Rattle.dft_hier.specs.Reach.{AreBelow, IsOrder};
 ghost use Rattle.dft_hier.specs.Refusals.{IsFlat, CannotFlatten, NoneInItself, TellsFirst, first_unknown};
@@ -24,7 +25,7 @@ use crate::flat_nets::{Hierarchy, add_nets_below};
 use crate::numbered::Numbered;
 use crate::reach::first_in_itself;
 use crate::tops::top;
-use crate::weights::{all_live_items, weights};
+use crate::weights::{all_live_items, net_count, weights};
 use dft_base::Name;
 use dft_cells::Library;
 use dft_modules::Module;
@@ -119,6 +120,22 @@ fn add_all(
     add_items(alloc, hierarchy, builder, top)
 }
 
+// The flat netlist of a top that has nothing yet, and room for so many nets and for an instance for each item of the top.
+fn begun(
+    alloc: Global,
+    owner: &Module,
+    nets: usize,
+    library: Library,
+) -> Result<DesignBuilder, AllocError>
+    ensures { IfOk result (λ builder. builder ≡ empty_netlist owner.now.name library) }
+{
+    let name = owner.name().copy(alloc)?;
+    let items = owner.items().len();
+    let mut builder = DesignBuilder::new(alloc, name, library);
+    builder.reserve(nets.saturating_add(items), items)?;
+    Ok(builder)
+}
+
 // The flat netlist of a hierarchy, not finished yet.
 fn built(
     alloc: Global,
@@ -130,8 +147,8 @@ fn built(
     requires top { IsTopOf hierarchy.now.modules.now top }
     ensures { Builds (flat_at hierarchy.now.modules.now library top) result }
 {
-    let name = hierarchy.modules[top].name().copy(alloc)?;
-    let mut builder = DesignBuilder::new(alloc, name, library);
+    let nets = net_count(hierarchy.weights, top);
+    let mut builder = begun(alloc, &hierarchy.modules[top], nets, library)?;
     add_all(alloc, hierarchy, &mut builder, top)?;
     Ok(builder)
 }
@@ -146,38 +163,22 @@ fn told(error: NetlistError) -> HierError
     }
 }
 
-// The flat netlist of a hierarchy as a design.
-fn finished(
-    alloc: Global,
-    hierarchy: &Hierarchy<'_>,
-    library: Library,
-    top: usize,
-) -> Result<Design, NetlistError>
-    requires laid { IsLaid library hierarchy.now }
-    requires top { IsTopOf hierarchy.now.modules.now top }
-    ensures flat { IfOk result (λ design. IsFlat hierarchy.now.modules.now library design) }
-    ensures refused { IfErr result (λ error. CannotFlatten hierarchy.now.modules.now library (told_of error)) }
-{
-    let builder = built(alloc, hierarchy, library, top)?;
-    builder.finish()
-}
-
-// The design of modules that can be joined, in an order in which each stands behind those below it.
-fn design(
+// The flat netlist of modules that can be joined, in an order in which each stands behind those below it, not finished yet.
+fn built_in_order(
     alloc: Global,
     modules: &[Module],
     children: &[Children],
     order: &[usize],
     top: usize,
     library: Library,
-) -> Result<Design, HierError>
+) -> Result<DesignBuilder, HierError>
     requires sound { AreModules library modules.now }
     requires children { children.now ≡ children_of modules.now }
     requires order { IsOrder children.now order.now }
     requires live { AreBelow (length children.now) order.now }
     requires top { IsTopOf modules.now top }
-    ensures flat { IfOk result (λ design. IsFlat modules.now library design) }
-    ensures refused { IfErr result (λ error. CannotFlatten modules.now library error) }
+    ensures flat { IfOk result (IsFlatNetlist modules.now library) }
+    ensures refused { IfErr result (CannotFlatten modules.now library) }
 {
     let weights = weights(alloc, modules, children, order)?;
     let items = all_live_items(alloc, modules, children, &weights)?;
@@ -186,7 +187,47 @@ fn design(
         items: &items,
         weights: &weights,
     };
-    match finished(alloc, &hierarchy, library, top) {
+    match built(alloc, &hierarchy, library, top) {
+        Ok(builder) => Ok(builder),
+        Err(error) => Err(told(error)),
+    }
+}
+
+// The flat netlist of modules, not finished yet, or why there is none.
+fn joined(alloc: Global, modules: &[Module], library: Library) -> Result<DesignBuilder, HierError>
+    requires sound { AreModules library modules.now }
+    requires names { HaveOwnNames modules.now }
+    ensures flat { IfOk result (IsFlatNetlist modules.now library) }
+    ensures refused { IfErr result (CannotFlatten modules.now library) }
+{
+    let numbers = module_numbers(alloc, modules)?;
+    let children = all_children(alloc, modules, &numbers)?;
+    let order = ordered(alloc, modules, &children)?;
+    let ports = all_ports(alloc, modules)?;
+    let top = top_of(alloc, modules, &ports, &children)?;
+    built_in_order(alloc, modules, &children, &order, top, library)
+}
+
+// The flat netlist of modules, which are given back then.
+fn joined_alone(
+    alloc: Global,
+    modules: Vec<Module>,
+    library: Library,
+) -> Result<DesignBuilder, HierError>
+    requires sound { AreModules library modules.items }
+    requires names { HaveOwnNames modules.items }
+    ensures flat { IfOk result (IsFlatNetlist modules.items library) }
+    ensures refused { IfErr result (CannotFlatten modules.items library) }
+{
+    joined(alloc, &modules, library)
+}
+
+// The design of a flat netlist.
+fn finished(builder: DesignBuilder) -> Result<Design, HierError>
+    ensures flat { IfOk result (λ design. (ms : List said.Module) → (library : List Cell) → IsFlatNetlist ms library builder → IsFlat ms library design) }
+    ensures refused { IfErr result (λ error. (ms : List said.Module) → (library : List Cell) → IsFlatNetlist ms library builder → CannotFlatten ms library error) }
+{
+    match builder.finish() {
         Ok(design) => Ok(design),
         Err(error) => Err(told(error)),
     }
@@ -195,17 +236,15 @@ fn design(
 /// The flat design of the modules of a text over the cells that it was read with: the one module that no module has an
 /// instance of is its top, and names below instances stand behind their paths, with `/` between. No two modules have the same
 /// name. Refused with `H2`, `H3`, `H4`, `H5` in this order, each for the first in the order of the text, and then as the flat
-/// netlist is.
-pub fn flatten(alloc: Global, modules: &[Module], library: Library) -> Result<Design, HierError>
-    requires sound { AreModules library modules.now }
-    requires names { HaveOwnNames modules.now }
-    ensures flat { IfOk result (λ design. IsFlat modules.now library design) }
-    ensures refused { IfErr result (λ error. CannotFlatten modules.now library error) }
+/// netlist is. The modules are given back before the flat netlist is finished.
+pub fn flatten(alloc: Global, modules: Vec<Module>, library: Library) -> Result<Design, HierError>
+    requires sound { AreModules library modules.items }
+    requires names { HaveOwnNames modules.items }
+    ensures flat { IfOk result (λ design. IsFlat modules.items library design) }
+    ensures refused { IfErr result (λ error. CannotFlatten modules.items library error) }
 {
-    let numbers = module_numbers(alloc, modules)?;
-    let children = all_children(alloc, modules, &numbers)?;
-    let order = ordered(alloc, modules, &children)?;
-    let ports = all_ports(alloc, modules)?;
-    let top = top_of(alloc, modules, &ports, &children)?;
-    design(alloc, modules, &children, &order, top, library)
+    match joined_alone(alloc, modules, library) {
+        Ok(builder) => finished(builder),
+        Err(error) => Err(error),
+    }
 }

@@ -25,14 +25,14 @@ pub struct Weight {
 /// A module instance, by the place of its item and its module's number.
 #[derive(Clone, Copy, Debug)]
 pub struct LiveSub {
-    pub item: usize,
-    pub child: usize,
+    pub item: u32,
+    pub child: u32,
 }
 
 /// An item that gives something: one of the module's own, by its place, or a module instance.
 #[derive(Clone, Copy, Debug)]
 pub enum LiveItem {
-    Own(usize),
+    Own(u32),
     Sub(LiveSub),
 }
 
@@ -71,6 +71,17 @@ fn with(weight: Weight, below: Weight) -> Weight
     Weight {
         nets: at_most(weight.nets + below.nets),
         lives: weight.lives || below.lives,
+    }
+}
+
+/// How many nets a module has with all below it, and none past the end.
+pub fn net_count(weights: &[Weight], number: usize) -> usize
+    ensures { result ≡ (slice_index_or weights.now number no_weight).nets }
+{
+    if number < weights.len() {
+        weights[number].nets
+    } else {
+        0
     }
 }
 
@@ -131,15 +142,26 @@ pub fn weights(
     Ok(weights)
 }
 
+// A place or a number of a module, in 32 bits.
+fn number_of(place: usize) -> Result<u32, AllocError>
+    ensures { IfOk result (λ number. number ≡ place) }
+{
+    match u32::try_from(place) {
+        Ok(number) => Ok(number),
+        Err(_past) => Err(AllocError),
+    }
+}
+
 impl LiveItems {
-    // No item yet.
-    fn new(alloc: Global) -> LiveItems
-        ensures { result ≡ no_live }
+    // No item yet, and room for so many.
+    fn with_room(alloc: Global, items: usize) -> Result<LiveItems, AllocError>
+        ensures { IfOk result (λ live. live ≡ no_live) }
     {
-        LiveItems {
-            items: Vec::new(alloc),
+        let items = Vec::with_capacity(alloc, items)?;
+        Ok(LiveItems {
+            items,
             with_nets: Vec::new(alloc),
-        }
+        })
     }
 
     /// The items that give something.
@@ -160,14 +182,19 @@ impl LiveItems {
     fn add_own(&mut self, place: usize) -> Result<(), AllocError>
         ensures { OnOk result (self.new ≡ and_own place self.old) }
     {
+        let place = number_of(place)?;
         self.items.push(LiveItem::Own(place))?;
         Ok(())
     }
 
-    // Adds a module instance to those that it belongs to.
-    fn add_sub(&mut self, weight: Weight, sub: LiveSub) -> Result<(), AllocError>
-        ensures { OnOk result (self.new ≡ and_sub weight sub self.old) }
+    // Adds the instance at a place, of a module with this weight, to those that it belongs to.
+    fn add_sub(&mut self, weight: Weight, place: usize, child: usize) -> Result<(), AllocError>
+        ensures { OnOk result (self.new ≡ and_sub weight (record { item = place; child = child }) self.old) }
     {
+        let sub = LiveSub {
+            item: number_of(place)?,
+            child: number_of(child)?,
+        };
         if weight.lives {
             self.items.push(LiveItem::Sub(sub))?;
         }
@@ -189,13 +216,13 @@ fn live_items(
     requires below { AreBelow (length weights.now) children.now }
     ensures { IfOk result (λ live. live ≡ live_of weights.now owner.now children.now) }
 {
-    let mut all = LiveItems::new(alloc);
+    let mut all = LiveItems::with_room(alloc, owner.items().len())?;
     let mut next = 0;
     for (place, item) in owner.items().iter().enumerate() {
         match sub_in(item) {
             Some(_sub) => {
                 let child = children[next];
-                all.add_sub(weights[child], LiveSub { item: place, child })?;
+                all.add_sub(weights[child], place, child)?;
                 next += 1;
             }
             None => all.add_own(place)?,

@@ -12,6 +12,7 @@ pub mod Settlings
 pub mod CircuitRanks
 pub mod Writings
 pub mod TableLemmas
+pub mod PackedLemmas
 pub mod WireLemmas
 pub mod OpLemmas
 pub mod BuildLemmas

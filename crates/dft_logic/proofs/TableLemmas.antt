@@ -123,5 +123,9 @@ table_more room count places table new ps t is added = record {
   ];
 }
 
-pub table_all : (room count j : ℕ) (places : ℕ → List ℕ) (table : List (List ℕ)) → count ≤ j → j ≤ count → IsTable room j places table → IsTable room count places table
+table_all : (room count j : ℕ) (places : ℕ → List ℕ) (table : List (List ℕ)) → count ≤ j → j ≤ count → IsTable room j places table → IsTable room count places table
 table_all room count j places table past less t = (let e : j ≡ count = omega arith in let P : ℕ → Type 0 = λ n. IsTable room n places table in subst P e t)
+
+pub table_packed : (room count j : ℕ) (places : ℕ → List ℕ) (table lent new : List (List ℕ)) → new ≡ lent → lent ≡ table → count ≤ j → j ≤ count → IsTable room j places table → IsTable room count places new
+table_packed room count j places table lent new is of past less t =
+    (let P : List (List ℕ) → Type 0 = λ l. IsTable room count places l in subst P (sym (is ∙ of)) (table_all room count j places table past less t))

@@ -14,6 +14,7 @@ use Rattle.dft_logic.specs.declared.entries.Entry.{Entry}
 use Rattle.dft_logic.specs.declared.entries.Entry.TheVariants.{Keeps}
 use Rattle.dft_logic.specs.declared.circuit.FlipFlop.{FlipFlop}
 use Rattle.dft_logic.specs.declared.takings.Taking.{Taking}
+use Rattle.dft_registers.specs.declared.layout.Place.{Place}
 use Rattle.dft_registers.specs.Layout.{Layout, place_at, cells_at}
 use Rattle.dft_registers.specs.Layout as layout
 use Rattle.dft_registers.specs.Cells.{Contents, value_at, Course, Rests, course_in, course, IsCarried, IsShifted}
@@ -95,20 +96,30 @@ taken_more cells table moved takings place d less t =
           (inl (record { at = length takings; before = omega (arith, size); here = ap (λ (x : Taking). x.place) here }));
     }
 
+-- what is told of the place of a cell: it is the beginning of the first register where the cell rests, and else the cell is named there
+pub record IsLaidAt (l : Layout) (p : Place) (c : ℕ) : Type 0 where
+  pub rest : p.register ≡ 0 → p.index ≡ 0
+  pub within : 0 < p.register → p.index < length (cells_at l.registers p.register)
+  pub here : 0 < p.register → layout.cell_at l.registers p.register p.index ≡ c
+
 -- a flip-flop with this entry is left out: it takes the value of the one before it as its register moves, or it is idle where it rests
 pub left_out : (flops : List FlipFlop) (table : List Entry) (l : Layout) (moves : List Bool) (c : ℕ) (f : FlipFlop) (d : Entry) (idle : Bool) → c < length flops → c < length table → AreMoves (entry_at table) l moves →
-    (place_at l.places c).index < length (cells_at l.registers (place_at l.places c).register) → layout.cell_at l.registers (place_at l.places c).register (place_at l.places c).index ≡ c →
-    idle ≡ is_idle (cell_of (get_or flops c f)) (entry_of (get_or table c d)) → (if flag_at moves (place_at l.places c).register then nat_lt 0 (place_at l.places c).index else idle) ≡ true →
-    IsLeft (cell_at (map cell_of flops) c) (entry_at table c) (course l moves c)
-left_out flops table l moves c f d idle live less are within here is left = go (flag_at moves (place_at l.places c).register) (place_at l.places c).register (place_at l.places c).index refl within here left where
-  go : (b : Bool) (r i : ℕ) → flag_at moves r ≡ b → i < length (cells_at l.registers r) → layout.cell_at l.registers r i ≡ c → (if b then nat_lt 0 i else idle) ≡ true →
+    IsLaidAt l (place_at l.places c) c → idle ≡ is_idle (cell_of (get_or flops c f)) (entry_of (get_or table c d)) →
+    (if flag_at moves (place_at l.places c).register then nat_lt 0 (place_at l.places c).index else idle) ≡ true → IsLeft (cell_at (map cell_of flops) c) (entry_at table c) (course l moves c)
+left_out flops table l moves c f d idle live less are laid is left = go (flag_at moves (place_at l.places c).register) (place_at l.places c).register (place_at l.places c).index refl laid left where
+  go : (b : Bool) (r i : ℕ) → flag_at moves r ≡ b → IsLaidAt l (record { register = r; index = i }) c → (if b then nat_lt 0 i else idle) ≡ true →
       IsLeft (cell_at (map cell_of flops) c) (entry_at table c) (if b then course_in (cells_at l.registers r) i else Rests)
-  go false r i up within here left =
+  go false r i up laid left =
       let C : Cell → Type 0 = λ cell. is_idle cell (entry_of (get_or table c d)) ≡ true in
       let E : Entry → Type 0 = λ entry. is_idle (cell_at (map cell_of flops) c) (entry_of entry) ≡ true in
       subst E (get_or_default table c d Keeps less) (subst C (cell_read flops c f live) (sym is ∙ left))
-  go true r zero up within here left = absurd cc
-  go true r (suc i) up within here left = ap (entry_at table) (sym here) ∙ are r up i within
+  go true r zero up laid left = absurd cc
+  go true r (suc i) up laid left = elim (eqb_tells r 0) [
+    | inl e ↦ absurd (let none : suc i ≡ 0 = laid.rest e.1 in omega (arith, none))
+    | inr e ↦ (let ne : r ≢ 0 = e.1 in
+        let above : 0 < r = omega (arith, ne) in
+        ap (entry_at table) (sym (laid.here above)) ∙ are r up i (laid.within above))
+  ]
 
 -- ---- what is taken is put
 

@@ -123,12 +123,12 @@ force_nets (Some force) = force.port ∷ []
 
 -- by net, what reads it and what it resets or sets; and for a clock what shows its domain, its flip-flops and its lock-ups
 pub record AreTables (x : Circuit) : Type 0 where
-  pub readers : IsTable (length x.ops.items) (length x.ops.items) (λ net. reads (meaning (op_at x.ops.items net))) x.readers.items
-  pub sources : IsTable 1 (length x.ops.items) (λ net. source_places (meaning (op_at x.ops.items net))) x.sources.items
-  pub leaves : IsTable (length x.ops.items) (length x.ops.items) (λ net. leaf_domains (map cell_of x.flops.items) net (meaning (op_at x.ops.items net))) x.leaves.items
-  pub cells : IsTable (length x.ops.items) (length x.flops.items) (λ c. (cell_at (map cell_of x.flops.items) c).domain ∷ []) x.cells.items
-  pub holders : IsTable (length x.ops.items) (length x.latches.items) (λ c. latch_domains (latch_at x.latches.items c)) x.holders.items
-  pub followers : IsTable (length x.ops.items) (length x.flops.items) (λ c. force_nets (cell_at (map cell_of x.flops.items) c).force) x.followers.items
+  pub readers : IsTable (length x.ops.items) (length x.ops.items) (λ net. reads (meaning (op_at x.ops.items net))) x.readers
+  pub sources : IsTable 1 (length x.ops.items) (λ net. source_places (meaning (op_at x.ops.items net))) x.sources
+  pub leaves : IsTable (length x.ops.items) (length x.ops.items) (λ net. leaf_domains (map cell_of x.flops.items) net (meaning (op_at x.ops.items net))) x.leaves
+  pub cells : IsTable (length x.ops.items) (length x.flops.items) (λ c. (cell_at (map cell_of x.flops.items) c).domain ∷ []) x.cells
+  pub holders : IsTable (length x.ops.items) (length x.latches.items) (λ c. latch_domains (latch_at x.latches.items c)) x.holders
+  pub followers : IsTable (length x.ops.items) (length x.flops.items) (λ c. force_nets (cell_at (map cell_of x.flops.items) c).force) x.followers
 
 pub record IsCircuit (x : Circuit) : Type 0 where
   pub fits : (net : ℕ) → Fits (op_at x.ops.items net)

@@ -8,6 +8,7 @@ pub mod Laws
 pub mod Values
 pub mod Circuit
 pub mod Tables
+pub mod Packed
 pub mod Compiling
 pub mod Ranks
 pub mod ShownTables

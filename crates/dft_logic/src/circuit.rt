@@ -2,6 +2,7 @@
 
 ghost use Rattle.std.specs.Prelude.{◌≡◌, ◌++◌, ◌∷◌, [], OnOk, OnErr};
 
+use crate::packed::Table;
 use dft_cells::Kind;
 use dft_netlist::{InstanceId, NetId};
 use std::alloc::{AllocError, Global};
@@ -58,9 +59,9 @@ impl Operands {
     }
 }
 
-/// Numbers of nets or of instances. A clause sees them as a list.
+// Numbers of nets or of instances. A clause sees them as a list.
 #[derive(Drop)]
-pub struct Numbers {
+pub(crate) struct Numbers {
     numbers: Vec<u32>,
 }
 
@@ -73,8 +74,8 @@ impl Model for Numbers {
 }
 
 impl Numbers {
-    /// No number yet.
-    pub fn new(alloc: Global) -> Numbers
+    // No number yet.
+    pub(crate) fn new(alloc: Global) -> Numbers
         ensures { result ≡ [] }
     {
         Numbers {
@@ -82,8 +83,8 @@ impl Numbers {
         }
     }
 
-    /// Adds a number at the end.
-    pub fn push(&mut self, number: u32) -> Result<(), AllocError>
+    // Adds a number at the end.
+    pub(crate) fn push(&mut self, number: u32) -> Result<(), AllocError>
         ensures ok { OnOk result (self.new ≡ self.old ++ number ∷ []) }
         ensures err { OnErr result (self.new ≡ self.old) }
     {
@@ -91,8 +92,8 @@ impl Numbers {
         Ok(())
     }
 
-    /// The numbers.
-    pub fn as_slice(&self) -> &[u32]
+    // The numbers.
+    pub(crate) fn as_slice(&self) -> &[u32]
         ensures { result.now ≡ self.now }
     {
         &self.numbers
@@ -158,10 +159,10 @@ pub struct Circuit {
     pub ops: Vec<Op>,
     pub flops: Vec<FlipFlop>,
     pub latches: Vec<Option<Latch>>,
-    pub readers: Vec<Numbers>,
-    pub sources: Vec<Numbers>,
-    pub leaves: Vec<Numbers>,
-    pub cells: Vec<Numbers>,
-    pub holders: Vec<Numbers>,
-    pub followers: Vec<Numbers>,
+    pub readers: Table,
+    pub sources: Table,
+    pub leaves: Table,
+    pub cells: Table,
+    pub holders: Table,
+    pub followers: Table,
 }

@@ -11,6 +11,7 @@ mod lists;
 mod marks;
 mod needs;
 mod origins;
+mod packed;
 mod settling;
 mod shown;
 mod tables;
@@ -18,7 +19,7 @@ mod takings;
 mod wires;
 
 pub use building::compile;
-pub use circuit::{Acting, Circuit, FlipFlop, Latch, Numbers, Op, Operand, Operands, ScanPins};
+pub use circuit::{Acting, Circuit, FlipFlop, Latch, Op, Operand, Operands, ScanPins};
 pub use entries::{Entry, Sights, find_entries};
 pub use flipflops::forced;
 pub use laws::{
@@ -29,6 +30,7 @@ pub use lists::{has_row, read_list, settle_list, settle_strobe};
 pub use marks::{lower, mark_entries, mark_forces, mark_nets};
 pub use needs::{list_marked, mark_needed};
 pub use origins::find_origins;
+pub use packed::Table;
 pub use settling::{Pulse, View, differ, flag_at, op_value, settle, strobe_view, takes, value_at};
 pub use shown::{Shown, show_all};
 pub use tables::list_of;

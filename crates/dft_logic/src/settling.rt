@@ -1,6 +1,6 @@
 //! The settled values of all nets, in an order.
 
-ghost use Rattle.std.specs.Prelude.{◌≡◌, ℕ, ◌<◌, ◌≤◌, length, map, take, true, false, ◌==◌, ◌&&◌, if◌then◌else◌};
+ghost use Rattle.std.specs.Prelude.{◌≡◌, ℕ, ◌<◌, ◌≤◌, [], length, map, take, true, false, ◌==◌, ◌&&◌, if◌then◌else◌};
 ghost use Rattle.dft_netlist.specs.Settled.{value_from, value_given, IsTriSettled};
 ghost use Rattle.dft_netlist.specs.Settled as settled;
 ghost use Rattle.dft_cells.specs.Gates as gates;
@@ -72,10 +72,13 @@ pub struct View<'p, 'q, 'h> {
     pub held: &'h [Tri],
 }
 
-/// The view of net 0 where no flip-flop may have another value, and no lock-up is held at one. Where no clock falls it is
-/// a strobe's.
+/// A view of net 0 in a phase in which no clock pulses, as that of a strobe: what flip-flops of pulsed domains may have, and
+/// what lock-ups take that close, is left out (Unknown).
 pub fn strobe_view(pulse: Pulse<'_>) -> View<'_, '_, '_>
-    ensures { result.pulse ≡ pulse.entry }
+    ensures pulse { result.pulse ≡ pulse.entry }
+    ensures domain { result.domain ≡ record { 0 = 0 } }
+    ensures poss { result.poss.now ≡ [] }
+    ensures held { result.held.now ≡ [] }
 {
     View {
         pulse,
@@ -241,15 +244,29 @@ fn inverted(value: Tri, inverse: bool) -> Tri
     }
 }
 
-// The value of a gate.
-fn gate_value(kind: Kind, inputs: &Operands, values: &[Tri]) -> Tri
+// The value of a gate with any number of inputs.
+fn value_of_many(kind: Kind, inputs: &[Operand], values: &[Tri]) -> Tri
     requires { TakesInputs kind (length inputs.now) }
     ensures { result ≡ gates.tri_of kind (map (value_from (spec.value_at values.now)) (map source_at inputs.now)) }
 {
     let mut row = [Tri::Unknown; MAX_INPUTS];
-    let inputs = inputs.as_slice();
     gather(inputs, values, &mut row);
     tri_of(kind, &row[..inputs.len()])
+}
+
+// The value of a gate. Most gates have two or three inputs, which need no room in between.
+fn gate_value(kind: Kind, inputs: &Operands, values: &[Tri]) -> Tri
+    requires { TakesInputs kind (length inputs.now) }
+    ensures { result ≡ gates.tri_of kind (map (value_from (spec.value_at values.now)) (map source_at inputs.now)) }
+{
+    match inputs.as_slice() {
+        [one, two] => tri_of(kind, &[one.value(values), two.value(values)]),
+        [one, two, three] => {
+            let row = [one.value(values), two.value(values), three.value(values)];
+            tri_of(kind, &row)
+        }
+        inputs => value_of_many(kind, inputs, values),
+    }
 }
 
 /// The value that a net's driver gives it.

@@ -8,25 +8,23 @@ ghost use Rattle.dft_logic.specs.Circuit as circuits;
 ghost use Rattle.dft_logic.specs.Tables.{list_at, listed, IsAdded, IsTable};
 
 use crate::circuit::{Acting, FlipFlop, Latch, Numbers, Op, Operand};
+use crate::packed::{Table, packed};
 use crate::settling::domain_at;
 use dft_netlist::NetId;
 use std::alloc::{AllocError, Global};
 
 /// The list at a place, and none past the end.
-pub fn list_of(table: &[Numbers], place: NetId) -> &[u32]
+pub fn list_of(table: &Table, place: NetId) -> &[u32]
     ensures { result.now ≡ list_at table.now place.0 }
 {
-    match table.get(place.0 as usize) {
-        Some(list) => list.as_slice(),
-        None => &[],
-    }
+    table.at(place.0 as usize)
 }
 
 // So many empty lists.
 fn empty(alloc: Global, count: usize) -> Result<Vec<Numbers>, AllocError>
     ensures { IfOk result (λ table. table.items ≡ replicate count []) }
 {
-    let mut table = Vec::new(alloc);
+    let mut table = Vec::with_capacity(alloc, count)?;
     for _place in 0..count {
         table.push(Numbers::new(alloc))?;
     }
@@ -85,15 +83,16 @@ fn add_reader(table: &mut Vec<Numbers>, op: &Op, reader: u32) -> Result<(), Allo
 }
 
 // The readers of each net.
-pub(crate) fn readers(alloc: Global, ops: &[Op]) -> Result<Vec<Numbers>, AllocError>
+pub(crate) fn readers(alloc: Global, ops: &[Op]) -> Result<Table, AllocError>
     requires { length ops.now < 2 ^ 32 }
-    ensures { IfOk result (λ table. IsTable (length ops.now) (length ops.now) (λ net. reads (meaning (op_at ops.now net))) table.items) }
+    ensures { IfOk result (λ table. IsTable (length ops.now) (length ops.now) (λ net. reads (meaning (op_at ops.now net))) table) }
 {
     let mut table = empty(alloc, ops.len())?;
     for (net, op) in ops.iter().enumerate() {
         add_reader(&mut table, op, net as u32)?;
     }
-    Ok(table)
+    let packed = packed(alloc, &table)?;
+    Ok(packed)
 }
 
 // The domain whose clock, flip-flop or lock-up a net shows.
@@ -119,48 +118,43 @@ fn source_place(op: &Op) -> Option<NetId>
 }
 
 // The sources, in a table of one list: the nets that show an input, a clock, a flip-flop or a lock-up.
-pub(crate) fn sources(alloc: Global, ops: &[Op]) -> Result<Vec<Numbers>, AllocError>
+pub(crate) fn sources(alloc: Global, ops: &[Op]) -> Result<Table, AllocError>
     requires { length ops.now < 2 ^ 32 }
-    ensures { IfOk result (λ table. IsTable 1 (length ops.now) (λ net. source_places (meaning (op_at ops.now net))) table.items) }
+    ensures { IfOk result (λ table. IsTable 1 (length ops.now) (λ net. source_places (meaning (op_at ops.now net))) table) }
 {
     let mut table = empty(alloc, 1)?;
     for (net, op) in ops.iter().enumerate() {
         add_at(&mut table, source_place(op), net as u32)?;
     }
-    Ok(table)
+    let packed = packed(alloc, &table)?;
+    Ok(packed)
 }
 
 // The nets that show the clock of each domain, or a flip-flop or a lock-up of it.
-pub(crate) fn leaves(
-    alloc: Global,
-    ops: &[Op],
-    flops: &[FlipFlop],
-) -> Result<Vec<Numbers>, AllocError>
+pub(crate) fn leaves(alloc: Global, ops: &[Op], flops: &[FlipFlop]) -> Result<Table, AllocError>
     requires { length ops.now < 2 ^ 32 }
-    ensures { IfOk result (λ table. IsTable (length ops.now) (length ops.now) (λ net. leaf_domains (map cell_of flops.now) net (meaning (op_at ops.now net))) table.items) }
+    ensures { IfOk result (λ table. IsTable (length ops.now) (length ops.now) (λ net. leaf_domains (map cell_of flops.now) net (meaning (op_at ops.now net))) table) }
 {
     let mut table = empty(alloc, ops.len())?;
     for (net, op) in ops.iter().enumerate() {
         let net = net as u32;
         add_at(&mut table, leaf_domain(op, NetId(net), flops), net)?;
     }
-    Ok(table)
+    let packed = packed(alloc, &table)?;
+    Ok(packed)
 }
 
 // What stores bits in each domain: its flip-flops and its lock-ups.
-pub(crate) fn cells(
-    alloc: Global,
-    flops: &[FlipFlop],
-    nets: usize,
-) -> Result<Vec<Numbers>, AllocError>
+pub(crate) fn cells(alloc: Global, flops: &[FlipFlop], nets: usize) -> Result<Table, AllocError>
     requires { length flops.now < 2 ^ 32 }
-    ensures { IfOk result (λ table. IsTable nets (length flops.now) (λ c. (cell_at (map cell_of flops.now) c).domain ∷ []) table.items) }
+    ensures { IfOk result (λ table. IsTable nets (length flops.now) (λ c. (cell_at (map cell_of flops.now) c).domain ∷ []) table) }
 {
     let mut table = empty(alloc, nets)?;
     for (place, flop) in flops.iter().enumerate() {
         add(&mut table, flop.domain, place as u32)?;
     }
-    Ok(table)
+    let packed = packed(alloc, &table)?;
+    Ok(packed)
 }
 
 // The domain of a lock-up.
@@ -178,15 +172,16 @@ pub(crate) fn holders(
     alloc: Global,
     latches: &[Option<Latch>],
     nets: usize,
-) -> Result<Vec<Numbers>, AllocError>
+) -> Result<Table, AllocError>
     requires { length latches.now < 2 ^ 32 }
-    ensures { IfOk result (λ table. IsTable nets (length latches.now) (λ c. latch_domains (latch_at latches.now c)) table.items) }
+    ensures { IfOk result (λ table. IsTable nets (length latches.now) (λ c. latch_domains (latch_at latches.now c)) table) }
 {
     let mut table = empty(alloc, nets)?;
     for (place, latch) in latches.iter().enumerate() {
         add_at(&mut table, latch_domain(*latch), place as u32)?;
     }
-    Ok(table)
+    let packed = packed(alloc, &table)?;
+    Ok(packed)
 }
 
 // The net of a reset or set.
@@ -200,17 +195,14 @@ fn force_net(force: Option<Acting>) -> Option<NetId>
 }
 
 // The flip-flops that each reset or set acts on.
-pub(crate) fn followers(
-    alloc: Global,
-    flops: &[FlipFlop],
-    nets: usize,
-) -> Result<Vec<Numbers>, AllocError>
+pub(crate) fn followers(alloc: Global, flops: &[FlipFlop], nets: usize) -> Result<Table, AllocError>
     requires { length flops.now < 2 ^ 32 }
-    ensures { IfOk result (λ table. IsTable nets (length flops.now) (λ c. force_nets (cell_at (map cell_of flops.now) c).force) table.items) }
+    ensures { IfOk result (λ table. IsTable nets (length flops.now) (λ c. force_nets (cell_at (map cell_of flops.now) c).force) table) }
 {
     let mut table = empty(alloc, nets)?;
     for (place, flop) in flops.iter().enumerate() {
         add_at(&mut table, force_net(flop.force), place as u32)?;
     }
-    Ok(table)
+    let packed = packed(alloc, &table)?;
+    Ok(packed)
 }

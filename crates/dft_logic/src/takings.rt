@@ -13,7 +13,7 @@ ghost use Rattle.dft_logic.specs.Takings.{taking_at, taken_by, TakeFromBefore, A
 
 use crate::circuit::{FlipFlop, Operand};
 use crate::entries::Entry;
-use crate::settling::Pulse;
+use crate::settling::{Pulse, flag_at};
 use dft_base::Tri;
 use dft_registers::{Cells, Place};
 
@@ -50,20 +50,10 @@ fn is_idle(flop: &FlipFlop, entry: Entry) -> bool
 fn is_left(place: Place, moves: &[bool], idle: bool) -> bool
     ensures { result ≡ (if is_up moves.now place.register then nat_lt 0 place.index else idle) }
 {
-    if moves_on(moves, place.register) {
+    if flag_at(moves, place.register) {
         place.index > 0
     } else {
         idle
-    }
-}
-
-// Whether a register moves.
-fn moves_on(moves: &[bool], register: usize) -> bool
-    ensures { result ≡ is_up moves.now register }
-{
-    match moves.get(register) {
-        Some(moves) => *moves,
-        None => false,
     }
 }
 

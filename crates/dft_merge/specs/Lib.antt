@@ -8,5 +8,6 @@ pub mod Systems
 pub mod Tables
 pub mod Slots
 pub mod Shown
+pub mod ClosedShown
 pub mod Laws
 pub mod Staying

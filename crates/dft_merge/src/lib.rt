@@ -2,6 +2,7 @@
 #![tactic(auto)]
 
 mod adding;
+mod closed;
 mod fills;
 mod joining;
 mod laws;
@@ -12,6 +13,7 @@ mod placed;
 mod slot;
 mod tables;
 
+pub use closed::Closed;
 pub use fills::fill_bits;
 pub use laws::{
     cubes_stay, patterns_are_sound, placement_is_one, plans_stand_apart, unsolvable_is_exact,

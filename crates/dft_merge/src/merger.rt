@@ -8,6 +8,7 @@ ghost use Rattle.dft_merge.specs.Placement.{Joins, NoneFits, Places, equations_o
 ghost use Rattle.dft_merge.specs.Merging.{columns_in, rows_in};
 
 use crate::adding::{add_cells, system_of};
+use crate::closed::Closed;
 use crate::joining::join_first;
 use crate::loads::Loads;
 use crate::opening::open;
@@ -139,6 +140,18 @@ impl<'a> Merger<'a> {
             cube,
         )?;
         Ok(Placed::Into(number))
+    }
+
+    /// The patterns, to which no cube comes any more. What was kept of the open ones is given back.
+    pub fn close(self) -> Closed<'a>
+        ensures { result ≡ self.entry }
+    {
+        Closed {
+            alloc: self.alloc,
+            loads: self.loads,
+            window: self.window,
+            patterns: self.patterns,
+        }
     }
 
     /// The patterns so far.

@@ -156,7 +156,7 @@ fn outcome(alloc: Global, text: &str, library: Library) -> Result<String, AllocE
     requires { length text.now ≤ MAX_TEXT }
 {
     match read_modules(alloc, text.as_bytes(), &library) {
-        Ok(modules) => match flatten(alloc, &modules, library) {
+        Ok(modules) => match flatten(alloc, modules, library) {
             Ok(design) => design_of(alloc, &design),
             Err(error) => hier_error_of(alloc, error),
         },

@@ -3,7 +3,7 @@
 ghost use Rattle.dft_netlist_reader.specs.Laws.{DesignOrRefusal, FlatAreJoined, RefusalsAreOne};
 
 /// The gates of the design that a text stands for are joined at every pin, so whatever was read can be written.
-pub fn flat_designs_are_joined()
+pub fn designs_can_be_written()
     ensures { FlatAreJoined }
 {}
 

@@ -6,5 +6,5 @@ mod laws;
 mod reading;
 
 pub use error::DesignError;
-pub use laws::{flat_designs_are_joined, texts_have_one_end};
+pub use laws::{designs_can_be_written, texts_have_one_end};
 pub use reading::read;

@@ -21,6 +21,6 @@ pub fn read(alloc: Global, bytes: &[u8], library: Library) -> Result<Design, Des
     ensures refused { IfErr result (λ error. HasNoDesign library bytes.now error) }
 {
     let modules = read_modules(alloc, bytes, &library)?;
-    let design = flatten(alloc, &modules, library)?;
+    let design = flatten(alloc, modules, library)?;
     Ok(design)
 }

@@ -1,64 +1,114 @@
 -- Values by place: read, written, shifted.
-use Rattle.std.proofs.Common.{ℕ, zero, suc, Bool, true, false, List, [], ◌++◌, ◌≡◌, ◌<◌, ◌≤◌, ◌+◌, ◌-◌, ◌≢◌, inl, inr, Option, None, ◌∙◌, refl, sym, ap, subst, map, take, drop, length, get_or, slice_get, slice_set, get_or-set_same, get_or-set_other, arith}
-use Rattle.std.specs.Prelude.{replicate, option_map, unwrap_or, if◌then◌else◌}
+use Rattle.std.proofs.Common.{ℕ, zero, suc, Bool, true, false, List, [], ◌∷◌, ◌++◌, ◌≡◌, ◌<◌, ◌≤◌, ◌+◌, ◌-◌, ◌≢◌, inl, inr, ◌∙◌, refl, sym, ap, subst, take, drop, length, get_or, slice_set, get_or-set_same, get_or-set_other, arith}
+use Rattle.std.specs.Prelude.{replicate, if◌then◌else◌, ◌==◌}
 use Rattle.std.proofs.lemmas.Bool.Decides.{eqb_tells, leb_tells}
-use Rattle.std.proofs.lemmas.List.{get_or_past, get_or-map, length-map, length-set, length-append, ext_get_or, get_or-take}
+use Rattle.std.proofs.lemmas.List.{get_or_past, length-set, length-append, ext_get_or, get_or-take}
 use Rattle.std.proofs.lemmas.List.{get_or-append-add, length-drop, length-take, length-replicate}
-use Rattle.std.proofs.lemmas.Option.{unwrap_or-slice_get, slice_get-map}
 use Rattle.dft_base.specs.declared.tri.Tri.{Tri}
 use Rattle.dft_base.specs.declared.tri.Tri.TheVariants.{Unknown}
 use Rattle.dft_registers.specs.declared.layout.Place.{Place}
 use Rattle.dft_registers.specs.Layout.{Layout, place_at, cells_at, cell_at, IsLaid}
-use Rattle.dft_registers.specs.Cells.{value_at, row_at, value_in, shifted_if, Rests, course_in, course, IsCarried}
+use Rattle.dft_registers.specs.declared.cells.Cells.TheInside.{Inside}
+use Rattle.dft_registers.specs.Cells.{Contents, contents_of, AreCells, value_at, row_at, value_in, values_in, shifted_if, Rests, course_in, course, IsCarried}
 use Rattle.dft_registers.proofs.ListLemmas.{same_all}
 
 -- ---- values are read
 
-pub read_at : (rows : List (List Tri)) (places : List Place) (c : ℕ) → c < length places → value_at (map (value_in rows) places) c ≡ value_in rows (place_at places c)
-read_at rows places c less = get_or-map (value_in rows) places c (record { register = 0; index = 0 }) Unknown less
+pub count_in : (rows : List (List Tri)) (places : List Place) (resting : List Tri) → length resting ≡ length places → length (values_in rows places resting) ≡ length places
+count_in rows [] resting sized = refl
+count_in rows (p ∷ places) [] sized = absurd cc
+count_in rows (p ∷ places) (own ∷ resting) sized = ap suc (count_in rows places resting (omega (arith, sized)))
 
-pub read_past : (rows : List (List Tri)) (places : List Place) (c : ℕ) → slice_get places c ≡ None → value_at (map (value_in rows) places) c ≡ Unknown
-read_past rows places c none =
-    let got : slice_get (map (value_in rows) places) c ≡ None = slice_get-map (value_in rows) places c ∙ ap (λ (o : Option Place). option_map (value_in rows) o) none in
-    sym (unwrap_or-slice_get (map (value_in rows) places) c Unknown) ∙ ap (λ (o : Option Tri). unwrap_or o Unknown) got
+pub read_at : (rows : List (List Tri)) (places : List Place) (resting : List Tri) (c : ℕ) → length resting ≡ length places → c < length places →
+    value_at (values_in rows places resting) c ≡ value_in rows (place_at places c) (value_at resting c)
+read_at rows [] resting c sized less = absurd (omega (arith, less))
+read_at rows (p ∷ places) [] c sized less = absurd cc
+read_at rows (p ∷ places) (own ∷ resting) zero sized less = refl
+read_at rows (p ∷ places) (own ∷ resting) (suc c) sized less = read_at rows places resting c (omega (arith, sized)) (omega (arith, less))
+
+-- a cell that rests has its own value
+pub in_rest : (rows : List (List Tri)) (p : Place) (own : Tri) → p.register ≡ 0 → value_in rows p own ≡ own
+in_rest rows p own rests = ap (λ (r : ℕ). if r == 0 then own else value_at (row_at rows r) p.index) rests
+
+-- another one has that of its place
+pub in_row : (rows : List (List Tri)) (p : Place) (own : Tri) → 0 < p.register → value_in rows p own ≡ value_at (row_at rows p.register) p.index
+in_row rows p own above = elim (eqb_tells p.register 0) [
+  | inl e ↦ absurd (omega (arith, e.1, above))
+  | inr e ↦ ap (λ (b : Bool). if b then own else value_at (row_at rows p.register) p.index) e.0
+]
+
+-- a cell with a value has a place
+pub placed : (d : Inside) (k : Contents) (cell : ℕ) → AreCells d → contents_of d ≡ k → cell < length k.values → cell < length d.layout.places
+placed d k cell is same less =
+    let inside : cell < length (contents_of d).values = subst (λ (x : Contents). cell < length x.values) (sym same) less in
+    omega (arith, count_in d.rows.items d.layout.places d.resting.items is.resting, inside)
 
 -- ---- nothing is known at first
 
-pub none_known : (rows : List (List Tri)) (places : List Place) (count : ℕ) (size : ℕ → ℕ) → length places ≡ count → ((r : ℕ) → row_at rows r ≡ replicate (size r) Unknown) → map (value_in rows) places ≡ replicate count Unknown
-none_known rows places count size sized each =
-    ext_get_or Unknown (map (value_in rows) places) (replicate count Unknown) (length-map places (value_in rows) ∙ sized ∙ sym (length-replicate count Unknown))
-    (λ c less. read_at rows places c (omega (arith, length-map places (value_in rows), less))
-    ∙ ap (λ (l : List Tri). value_at l (place_at places c).index) (each (place_at places c).register) ∙ same_all (size (place_at places c).register) (place_at places c).index Unknown ∙ sym (same_all count c Unknown))
+pub none_known : (rows : List (List Tri)) (places : List Place) (resting : List Tri) (count : ℕ) (size : ℕ → ℕ) → length places ≡ count → resting ≡ replicate count Unknown → ((r : ℕ) → row_at rows r ≡ replicate (size r) Unknown) →
+    values_in rows places resting ≡ replicate count Unknown
+none_known rows places resting count size sized none each =
+    ap (λ (l : List Tri). values_in rows places l) none ∙
+    (let own : List Tri = replicate count Unknown in
+    let full : length own ≡ length places = length-replicate count Unknown ∙ sym sized in
+    ext_get_or Unknown (values_in rows places own) own (count_in rows places own full ∙ sym full)
+    (λ c less. (let live : c < length places = omega (arith, count_in rows places own full, less) in
+    let p : Place = place_at places c in
+    let here : value_at own c ≡ Unknown = same_all count c Unknown in
+    read_at rows places own c full live ∙ ap (λ (t : Tri). value_in rows p t) here ∙ ap (λ (x : List Tri). if p.register == 0 then Unknown else value_at x p.index) (each p.register)
+    ∙ ap (λ (t : Tri). if p.register == 0 then Unknown else t) (same_all (size p.register) p.index Unknown) ∙ either (p.register == 0) ∙ sym here))) where
+      either : (b : Bool) → (if b then Unknown else Unknown) ≡ Unknown
+      either true = refl
+      either false = refl
 
 -- ---- a value is written
 
-pub written : (l : Layout) (rows : List (List Tri)) (cell : ℕ) (value : Tri) (row : List Tri) → IsLaid l → length rows ≡ length l.registers → ((r : ℕ) → length (row_at rows r) ≡ length (cells_at l.registers r)) →
-    cell < length l.places → row ≡ row_at rows (place_at l.places cell).register →
-    map (value_in (slice_set rows (place_at l.places cell).register (slice_set row (place_at l.places cell).index value))) l.places ≡ slice_set (map (value_in rows) l.places) cell value
-written l rows cell value row laid many sizes live named =
+-- a value that is there at one cell alone is written there
+pub set_at : (rows rs : List (List Tri)) (places : List Place) (own rest : List Tri) (cell : ℕ) (value : Tri) → length own ≡ length places → length rest ≡ length places → cell < length places →
+    value_in rs (place_at places cell) (value_at rest cell) ≡ value →
+    ((c : ℕ) → c < length places → c ≢ cell → value_in rs (place_at places c) (value_at rest c) ≡ value_in rows (place_at places c) (value_at own c)) →
+    values_in rs places rest ≡ slice_set (values_in rows places own) cell value
+set_at rows rs places own rest cell value sized full live here there =
+    let values : List Tri = values_in rows places own in
+    let count : length values ≡ length places = count_in rows places own sized in
+    ext_get_or Unknown (values_in rs places rest) (slice_set values cell value) (count_in rs places rest full ∙ sym count ∙ sym (length-set values cell value))
+    (λ c h. (let less : c < length places = omega (arith, count_in rs places rest full, h) in
+    read_at rs places rest c full less ∙ elim (eqb_tells c cell) [
+      | inl e ↦ ap (λ (k : ℕ). value_in rs (place_at places k) (value_at rest k)) e.1 ∙ here
+          ∙ sym (ap (λ (k : ℕ). value_at (slice_set values cell value) k) e.1 ∙ get_or-set_same values cell value Unknown (omega (arith, count, live)))
+      | inr e ↦ there c less e.1 ∙ sym (read_at rows places own c sized less) ∙ sym (get_or-set_other values cell c value Unknown e.1)
+    ]))
+
+-- one that rests
+pub written_resting : (rows : List (List Tri)) (places : List Place) (own : List Tri) (cell : ℕ) (value : Tri) → length own ≡ length places → cell < length places → (place_at places cell).register ≡ 0 →
+    values_in rows places (slice_set own cell value) ≡ slice_set (values_in rows places own) cell value
+written_resting rows places own cell value sized live rests =
+    set_at rows rows places own (slice_set own cell value) cell value sized (length-set own cell value ∙ sized) live
+    (in_rest rows (place_at places cell) (value_at (slice_set own cell value) cell) rests ∙ get_or-set_same own cell value Unknown (omega (arith, sized, live)))
+    (λ c less ne. ap (λ (t : Tri). value_in rows (place_at places c) t) (get_or-set_other own cell c value Unknown ne))
+
+-- one of a register
+pub written : (l : Layout) (rows : List (List Tri)) (own : List Tri) (cell : ℕ) (value : Tri) (row : List Tri) → IsLaid l → length own ≡ length l.places → length rows ≡ length l.registers →
+    ((r : ℕ) → length (row_at rows r) ≡ length (cells_at l.registers r)) → cell < length l.places → 0 < (place_at l.places cell).register → row ≡ row_at rows (place_at l.places cell).register →
+    values_in (slice_set rows (place_at l.places cell).register (slice_set row (place_at l.places cell).index value)) l.places own ≡ slice_set (values_in rows l.places own) cell value
+written l rows own cell value row laid sized many sizes live above named =
     let r : ℕ = (place_at l.places cell).register in
     let i : ℕ = (place_at l.places cell).index in
     let new : List Tri = slice_set row i value in
     let rs : List (List Tri) = slice_set rows r new in
-    let values : List Tri = map (value_in rows) l.places in
     let less_r : r < length rows = (let was = laid.register cell live in omega (arith, many, was)) in
-    let less_i : i < length row = (let was = laid.index cell live in let e : length row ≡ length (cells_at l.registers r) = ap (λ (x : List Tri). length x) named ∙ sizes r in omega (arith, e, was)) in
-    let count : length values ≡ length l.places = length-map l.places (value_in rows) in
+    let less_i : i < length row = (let was = laid.index cell live above in let e : length row ≡ length (cells_at l.registers r) = ap (λ (x : List Tri). length x) named ∙ sizes r in omega (arith, e, was)) in
     let here : row_at rs r ≡ new = get_or-set_same rows r new [] less_r in
-    ext_get_or Unknown (map (value_in rs) l.places) (slice_set values cell value) (length-map l.places (value_in rs) ∙ sym count ∙ sym (length-set values cell value))
-    (λ c h. (let live_c : c < length l.places = omega (arith, length-map l.places (value_in rs), h) in
-    let q : Place = place_at l.places c in
-    read_at rs l.places c live_c ∙ elim (eqb_tells c cell) [
-      | inl e ↦ (ap (λ (k : ℕ). value_in rs (place_at l.places k)) e.1 ∙ ap (λ (x : List Tri). value_at x i) here ∙ get_or-set_same row i value Unknown less_i
-          ∙ sym (ap (λ (k : ℕ). value_at (slice_set values cell value) k) e.1 ∙ get_or-set_same values cell value Unknown (omega (arith, count, live))))
-      | inr e ↦ (let ne : c ≢ cell = e.1 in
-          let same : value_in rs q ≡ value_in rows q = elim (eqb_tells q.register r) [
-            | inl g ↦ (let far : q.index ≢ i = λ s. ne (sym (laid.cell c live_c) ∙ (λ t. cell_at l.registers (g.1 t) (s t)) ∙ laid.cell cell live) in
-                ap (λ (k : ℕ). value_at (row_at rs k) q.index) g.1 ∙ ap (λ (x : List Tri). value_at x q.index) here ∙ get_or-set_other row i q.index value Unknown far
-                ∙ ap (λ (x : List Tri). value_at x q.index) named ∙ ap (λ (k : ℕ). value_at (row_at rows k) q.index) (sym g.1))
-            | inr g ↦ ap (λ (x : List Tri). value_at x q.index) (get_or-set_other rows r q.register new [] g.1)
-          ] in
-          same ∙ sym (read_at rows l.places c live_c) ∙ sym (get_or-set_other values cell c value Unknown ne))
+    set_at rows rs l.places own own cell value sized sized live
+    (in_row rs (place_at l.places cell) (value_at own cell) above ∙ ap (λ (x : List Tri). value_at x i) here ∙ get_or-set_same row i value Unknown less_i)
+    (λ c less ne.
+    (let q : Place = place_at l.places c in
+    elim (eqb_tells q.register r) [
+      | inl g ↦ (let up : 0 < q.register = subst (λ (k : ℕ). 0 < k) (sym g.1) above in
+          let far : q.index ≢ i = λ s. ne (sym (laid.cell c less up) ∙ (λ t. cell_at l.registers (g.1 t) (s t)) ∙ laid.cell cell live above) in
+          in_row rs q (value_at own c) up ∙ ap (λ (k : ℕ). value_at (row_at rs k) q.index) g.1 ∙ ap (λ (x : List Tri). value_at x q.index) here ∙ get_or-set_other row i q.index value Unknown far
+          ∙ ap (λ (x : List Tri). value_at x q.index) named ∙ ap (λ (k : ℕ). value_at (row_at rows k) q.index) (sym g.1) ∙ sym (in_row rows q (value_at own c) up))
+      | inr g ↦ ap (λ (x : List Tri). if q.register == 0 then value_at own c else value_at x q.index) (get_or-set_other rows r q.register new [] g.1)
     ]))
 
 pub rows_kept : (rows : List (List Tri)) (r i : ℕ) (value : Tri) (row : List Tri) (k : ℕ) → r < length rows → row ≡ row_at rows r → length (row_at (slice_set rows r (slice_set row i value)) k) ≡ length (row_at rows k)
@@ -131,24 +181,31 @@ positive (suc r) none = omega arith
 true_false : true ≡ false → ⊥
 true_false e = absurd cc
 
-pub carried : (l : Layout) (rows new : List (List Tri)) (moves : List Bool) (c : ℕ) → IsLaid l → ((r : ℕ) → length (row_at rows r) ≡ length (cells_at l.registers r)) → get_or moves 0 false ≡ false →
-    ((r : ℕ) → row_at new r ≡ shifted_if (get_or moves r false) (row_at rows r)) → c < length l.places →
-    IsCarried (value_at (map (value_in rows) l.places)) c (value_at (map (value_in new) l.places) c) (course l moves c)
-carried l rows new moves c laid sizes rest each live =
-    let p : Place = place_at l.places c in
-    let old : ℕ → Tri = value_at (map (value_in rows) l.places) in
-    let after : value_at (map (value_in new) l.places) c ≡ value_at (shifted_if (get_or moves p.register false) (row_at rows p.register)) p.index =
-    read_at new l.places c live ∙ ap (λ (x : List Tri). value_at x p.index) (each p.register) in
-    go (get_or moves p.register false) p.register p.index refl refl refl after where
+pub carried : (l : Layout) (rows new : List (List Tri)) (own : List Tri) (moves : List Bool) (c : ℕ) → IsLaid l → length own ≡ length l.places → ((r : ℕ) → length (row_at rows r) ≡ length (cells_at l.registers r)) →
+    get_or moves 0 false ≡ false → ((r : ℕ) → row_at new r ≡ shifted_if (get_or moves r false) (row_at rows r)) → c < length l.places →
+    IsCarried (value_at (values_in rows l.places own)) c (value_at (values_in new l.places own) c) (course l moves c)
+carried l rows new own moves c laid sized sizes rest each live =
+    go (get_or moves (place_at l.places c).register false) (place_at l.places c).register (place_at l.places c).index refl refl refl where
+      stays : (b : Bool) (row : List Tri) → b ≡ false → shifted_if b row ≡ row
+      stays b row down = ap (λ (x : Bool). shifted_if x row) down
+
       go : (b : Bool) (r i : ℕ) → get_or moves (place_at l.places c).register false ≡ b → (place_at l.places c).register ≡ r → (place_at l.places c).index ≡ i →
-          value_at (map (value_in new) l.places) c ≡ value_at (shifted_if b (row_at rows r)) i →
-          IsCarried (value_at (map (value_in rows) l.places)) c (value_at (map (value_in new) l.places) c) (if b then course_in (cells_at l.registers r) i else Rests)
-      go false r i up at place after = after ∙ sym (read_at rows l.places c live ∙ λ t. value_at (row_at rows (at t)) (place t))
-      go true r zero up at place after = tt
-      go true r (suc i) up at place after =
+          IsCarried (value_at (values_in rows l.places own)) c (value_at (values_in new l.places own) c) (if b then course_in (cells_at l.registers r) i else Rests)
+      go false r i up at place =
+          let p : Place = place_at l.places c in
+          read_at new l.places own c sized live ∙ ap (λ (x : List Tri). if p.register == 0 then value_at own c else value_at x p.index) (each p.register ∙ stays (get_or moves p.register false) (row_at rows p.register) up)
+          ∙ sym (read_at rows l.places own c sized live)
+      go true r zero up at place = tt
+      go true r (suc i) up at place =
+          let p : Place = place_at l.places c in
           let above : 0 < r = positive r (λ e. true_false (sym up ∙ ap (λ (k : ℕ). get_or moves k false) (at ∙ e) ∙ rest)) in
-          let inside : suc i < length (cells_at l.registers r) = subst (λ (k : ℕ). k < length (cells_at l.registers r)) place (subst (λ (k : ℕ). (place_at l.places c).index < length (cells_at l.registers k)) at (laid.index c live)) in
+          let higher : 0 < p.register = subst (λ (k : ℕ). 0 < k) (sym at) above in
+          let inside : suc i < length (cells_at l.registers r) = subst (λ (k : ℕ). k < length (cells_at l.registers r)) place (subst (λ (k : ℕ). p.index < length (cells_at l.registers k)) at (laid.index c live higher)) in
           let before : i < length (cells_at l.registers r) = omega (arith, inside) in
           let k : ℕ = cell_at l.registers r i in
-          after ∙ (shifted_read (row_at rows r) i (omega (arith, sizes r, inside)))
-          ∙ sym (read_at rows l.places k (laid.live r i above before) ∙ ap (λ (q : Place). value_in rows q) (laid.place r i above before))
+          let q : Place = place_at l.places k in
+          let found : q ≡ record { register = r; index = i } = laid.place r i above before in
+          read_at new l.places own c sized live ∙ in_row new p (value_at own c) higher ∙ ap (λ (x : List Tri). value_at x p.index) (each p.register ∙ ap (λ (x : Bool). shifted_if x (row_at rows p.register)) up)
+          ∙ (λ t. value_at (shifted_if true (row_at rows (at t))) (place t)) ∙ shifted_read (row_at rows r) i (omega (arith, sizes r, inside))
+          ∙ sym (read_at rows l.places own k sized (laid.live r i above before) ∙ in_row rows q (value_at own k) (subst (λ (x : Place). 0 < x.register) (sym found) above)
+          ∙ ap (λ (x : Place). value_at (row_at rows x.register) x.index) found)

@@ -1,5 +1,5 @@
 -- Cells that rest, registers that open, and a cell that is taken to one.
-use Rattle.std.proofs.Common.{ℕ, List, [], ◌∷◌, ◌++◌, ◌≡◌, ◌<◌, ◌≤◌, ◌+◌, ◌≢◌, inl, inr, ◌∙◌, sym, ap, subst, length, get_or, slice_set, get_or-set_same, get_or-set_other, arith}
+use Rattle.std.proofs.Common.{ℕ, List, [], ◌∷◌, ◌++◌, ◌≡◌, ◌<◌, ◌≤◌, ◌+◌, ◌≢◌, inl, inr, refl, ◌∙◌, sym, ap, subst, length, get_or, slice_set, get_or-set_same, get_or-set_other, arith}
 use Rattle.std.proofs.lemmas.Bool.Decides.{eqb_tells, leb_tells}
 use Rattle.std.proofs.lemmas.List.{get_or_append_left, get_or_push, get_or_past, length-append, length-set}
 use Rattle.dft_registers.specs.declared.layout.Place.{Place}
@@ -7,24 +7,23 @@ use Rattle.dft_registers.specs.Layout.{place_at, cells_at, cell_at, IsLaid}
 
 -- ---- all cells rest
 
-pub laid_resting : (places : List Place) (register : List ℕ) (count : ℕ) → length places ≡ count → length register ≡ count → ((c : ℕ) → c < count → place_at places c ≡ record { register = 0; index = c }) →
-    ((c : ℕ) → c < count → get_or register c 0 ≡ c) → IsLaid (record { places = places; registers = register ∷ [] })
-laid_resting places register count sized full each named =
-    let P : Place → ℕ → Type 0 = λ p c. (p.register < 1) × ((p.index < length (cells_at (register ∷ []) p.register)) × (cell_at (register ∷ []) p.register p.index ≡ c)) in
-    let all : (c : ℕ) → c < length places → P (place_at places c) c = λ c less.
-    (let live : c < count = omega (arith, sized, less) in
-    subst (λ (p : Place). P p c) (sym (each c live)) (omega arith, (omega (arith, full, live), named c live))) in
+pub laid_resting : (places : List Place) → ((c : ℕ) → place_at places c ≡ record { register = 0; index = 0 }) → IsLaid (record { places = places; registers = [] ∷ [] })
+laid_resting places each =
+    let at : (c : ℕ) → (place_at places c).register ≡ 0 = λ c. ap (λ (p : Place). p.register) (each c) in
+    let rests : (c : ℕ) → 0 < (place_at places c).register → ⊥ = λ c above. omega (arith, at c, above) in
     record {
-      register = λ c less. (all c less).0;
-      index = λ c less. (all c less).1.0;
-      cell = λ c less. (all c less).1.1;
+      first = refl;
+      rest = λ c less same. ap (λ (p : Place). p.index) (each c);
+      register = λ c less. omega (arith, at c);
+      index = λ c less above. absurd (rests c above);
+      cell = λ c less above. absurd (rests c above);
       live = λ r i above less. absurd (none r i above less);
       place = λ r i above less. absurd (none r i above less);
     } where
-      none : (r i : ℕ) → 0 < r → i < length (cells_at (register ∷ []) r) → ⊥
+      none : (r i : ℕ) → 0 < r → i < length (cells_at ([] ∷ []) r) → ⊥
       none r i above less =
-          let past : cells_at (register ∷ []) r ≡ [] = get_or_past (register ∷ []) r [] (omega (arith, above)) in
-          let size : length (cells_at (register ∷ []) r) ≡ 0 = ap (λ (l : List ℕ). length l) past in
+          let past : cells_at ([] ∷ []) r ≡ [] = get_or_past ([] ∷ []) r [] (omega (arith, above)) in
+          let size : length (cells_at ([] ∷ []) r) ≡ 0 = ap (λ (l : List ℕ). length l) past in
           omega (arith, size, less)
 
 -- ---- a register opens
@@ -38,9 +37,11 @@ laid_open places registers is =
       | inr live ↦ get_or_append_left registers ([] ∷ []) [] r live.1
     ] in
     record {
+      first = there 0 ∙ is.first;
+      rest = is.rest;
       register = λ c less. (let was = is.register c less in omega (arith, size, was));
-      index = λ c less. (let was = is.index c less in let e : length (cells_at all (place_at places c).register) ≡ length (cells_at registers (place_at places c).register) = ap (λ (l : List ℕ). length l) (there (place_at places c).register) in omega (arith, e, was));
-      cell = λ c less. ap (λ (l : List ℕ). get_or l (place_at places c).index 0) (there (place_at places c).register) ∙ is.cell c less;
+      index = λ c less above. (let was = is.index c less above in let e : length (cells_at all (place_at places c).register) ≡ length (cells_at registers (place_at places c).register) = ap (λ (l : List ℕ). length l) (there (place_at places c).register) in omega (arith, e, was));
+      cell = λ c less above. ap (λ (l : List ℕ). get_or l (place_at places c).index 0) (there (place_at places c).register) ∙ is.cell c less above;
       live = λ r i above less. subst (λ (l : List ℕ). get_or l i 0 < length places) (sym (there r)) (is.live r i above (subst (λ (l : List ℕ). i < length l) (there r) less));
       place = λ r i above less. subst (λ (l : List ℕ). place_at places (get_or l i 0) ≡ record { register = r; index = i }) (sym (there r)) (is.place r i above (subst (λ (l : List ℕ). i < length l) (there r) less));
     } where
@@ -104,11 +105,13 @@ laid_added places registers row new cell last index is live above below rests na
       | inr q ↦ before r i up (subst (λ (l : List ℕ). i < length l) (row_there r q.1) h)
     ] in
     record {
+      first = row_there 0 (λ e. omega (arith, e, above)) ∙ is.first;
+      rest = both (λ c q. q.register ≡ 0 → q.index ≡ 0) (λ e. absurd (omega (arith, e, above))) is.rest;
       register = both (λ c q. q.register < length rs) (omega (arith, many, below)) (λ c h. (let was = is.register c h in omega (arith, many, was)));
-      index = both (λ c q. q.index < length (cells_at rs q.register)) (let size : length (cells_at rs last) ≡ length new = ap (λ (l : List ℕ). length l) row_here in omega (arith, size, sized, at))
-          (λ c h. (stays (place_at places c).register (place_at places c).index (is.index c h)).0);
-      cell = both (λ c q. cell_at rs q.register q.index ≡ c) (ap (λ (l : List ℕ). get_or l index 0) row_here ∙ last_named)
-          (λ c h. (stays (place_at places c).register (place_at places c).index (is.index c h)).1 ∙ is.cell c h);
+      index = both (λ c q. 0 < q.register → q.index < length (cells_at rs q.register)) (λ up. let size : length (cells_at rs last) ≡ length new = ap (λ (l : List ℕ). length l) row_here in omega (arith, size, sized, at))
+          (λ c h up. (stays (place_at places c).register (place_at places c).index (is.index c h up)).0);
+      cell = both (λ c q. 0 < q.register → cell_at rs q.register q.index ≡ c) (λ up. ap (λ (l : List ℕ). get_or l index 0) row_here ∙ last_named)
+          (λ c h up. (stays (place_at places c).register (place_at places c).index (is.index c h up)).1 ∙ is.cell c h up);
       live = λ r i up h. (all r i up h).0;
       place = λ r i up h. (all r i up h).1;
     }

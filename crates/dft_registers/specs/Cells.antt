@@ -1,5 +1,6 @@
 -- The values of cells, and what a shift of some registers makes of them.
-use Rattle.std.specs.Prelude.{ℕ, zero, suc, Bool, false, ◌≡◌, ◌<◌, List, [], length, map, slice_index_or, take, drop, ◌-◌, ◌++◌, if◌then◌else◌}
+use Rattle.std.specs.Prelude.{ℕ, zero, suc, Bool, false, ◌≡◌, ◌<◌, ◌==◌, List, [], length, map, slice_index_or, take, drop, ◌-◌, ◌++◌, if◌then◌else◌}
+use Rattle.std.specs.List.{zip}
 use Rattle.dft_base.specs.declared.tri.Tri.{Tri}
 use Rattle.dft_base.specs.declared.tri.Tri.TheVariants.{Unknown}
 use Rattle.dft_registers.specs.Layout.{Layout, place_at, cells_at, IsLaid}
@@ -54,14 +55,19 @@ shifted_if moves row = if moves then drop (length row - 1) row ++ take (length r
 abbrev pub row_at : List (List Tri) → ℕ → List Tri
 row_at rows r = slice_index_or rows r []
 
-abbrev pub value_in : List (List Tri) → Place → Tri
-value_in rows p = value_at (row_at rows p.register) p.index
+-- a cell that rests has its own value, another one that of its place
+abbrev pub value_in : List (List Tri) → (place : Place) → (own : Tri) → Tri
+value_in rows p own = if p.register == 0 then own else value_at (row_at rows p.register) p.index
+
+abbrev pub values_in : List (List Tri) → List Place → (resting : List Tri) → List Tri
+values_in rows places resting = map (λ (c : Place × Tri). value_in rows c.0 c.1) (zip places resting)
 
 abbrev pub contents_of : Inside → Contents
-contents_of d = record { layout = d.layout; values = map (value_in d.rows.items) d.layout.places }
+contents_of d = record { layout = d.layout; values = values_in d.rows.items d.layout.places d.resting.items }
 
--- a register has as many values as cells
+-- each cell has a value of its own, and a register has as many values as cells
 pub record AreCells (d : Inside) : Type 0 where
   pub laid : IsLaid d.layout
+  pub resting : length d.resting.items ≡ length d.layout.places
   pub count : length d.rows.items ≡ length d.layout.registers
   pub rows : (r : ℕ) → length (row_at d.rows.items r) ≡ length (cells_at d.layout.registers r)

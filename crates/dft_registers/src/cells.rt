@@ -1,20 +1,22 @@
 //! The values of cells.
 
-ghost use Rattle.std.specs.Prelude.{◌≡◌, ℕ, ◌<◌, length, replicate, false, IfOk, slice_set, slice_index_or};
+ghost use Rattle.std.specs.Prelude.{◌≡◌, ℕ, ◌<◌, [], length, replicate, false, IfOk, slice_set, slice_index_or};
 ghost use Rattle.dft_registers.specs.Layout.{place_at, cells_at, cell_at};
 ghost use Rattle.dft_registers.specs.Cells as spec;
 
 use crate::layout::{Layout, Place};
-use crate::registers::Values;
+use crate::registers::{Values, unknown};
 use dft_base::Tri;
 use std::alloc::{AllocError, Global};
 use std::marker::Model;
 
-/// The values of cells. Those that follow each other lie in a shift register, whose values move on by one place at once.
-/// A clause sees where they lie, and the list of their values.
+/// The values of cells. Those that follow each other lie in a shift register, whose values move on by one place at once;
+/// all others rest, each by itself. A clause sees where they lie, and the list of their values.
 #[derive(Drop)]
 pub struct Cells {
     layout: Layout,
+    // The values of cells that rest, by cell; those of others tell nothing.
+    resting: Vec<Tri>,
     rows: Vec<Values>,
 }
 
@@ -71,8 +73,13 @@ impl Cells {
         ensures { IfOk result (λ cells. cells.values ≡ replicate (length before.now) Tri.Unknown) }
     {
         let layout = Layout::of_chains(alloc, before)?;
+        let resting = unknown(alloc, before.len())?;
         let rows = unknown_rows(alloc, &layout)?;
-        Ok(Cells { layout, rows })
+        Ok(Cells {
+            layout,
+            resting,
+            rows,
+        })
     }
 
     /// How many cells there are.
@@ -86,9 +93,16 @@ impl Cells {
     pub fn at(&self, cell: usize) -> Tri
         ensures { result ≡ spec.value_at self.now.values cell }
     {
-        match self.layout.place(cell) {
-            Some(place) => self.rows[place.register].at(place.index),
-            None => Tri::Unknown,
+        if cell < self.resting.len() {
+            let place = self.layout.place(cell);
+            if place.register == 0 {
+                self.resting[cell]
+            } else {
+                let row = &self.rows[place.register as usize];
+                row.at(place.index as usize)
+            }
+        } else {
+            Tri::Unknown
         }
     }
 
@@ -98,9 +112,13 @@ impl Cells {
         ensures layout { self.new.layout ≡ self.old.layout }
         ensures values { self.new.values ≡ slice_set self.old.values cell value }
     {
-        let place = self.place(cell);
-        let row = &mut self.rows[place.register];
-        row.set(place.index, value);
+        let place = self.layout.place(cell);
+        if place.register == 0 {
+            self.resting[cell] = value;
+        } else {
+            let row = &mut self.rows[place.register as usize];
+            row.set(place.index as usize, value);
+        }
     }
 
     /// Reads the values of all cells, in their order.
@@ -120,9 +138,10 @@ impl Cells {
         self.layout.registers()
     }
 
-    /// The cells of a register, in their order; past the end there is none.
+    /// The cells of a register, in their order; the first, for cells that rest, has none, and past the end there is none.
     pub fn register(&self, number: usize) -> &[usize]
-        ensures { result.now ≡ cells_at self.now.layout.registers number }
+        ensures cells { result.now ≡ cells_at self.now.layout.registers number }
+        ensures first { number ≡ 0 → result.now ≡ [] }
     {
         self.layout.register(number)
     }
@@ -131,10 +150,11 @@ impl Cells {
     pub fn place(&self, cell: usize) -> Place
         requires { cell < length self.now.values }
         ensures at { result ≡ place_at self.now.layout.places cell }
-        ensures within { result.index < length (cells_at self.now.layout.registers result.register) }
-        ensures here { cell_at self.now.layout.registers result.register result.index ≡ cell }
+        ensures rest { result.register ≡ 0 → result.index ≡ 0 }
+        ensures within { 0 < result.register → result.index < length (cells_at self.now.layout.registers result.register) }
+        ensures here { 0 < result.register → cell_at self.now.layout.registers result.register result.index ≡ cell }
     {
-        self.layout.place_of(cell)
+        self.layout.place(cell)
     }
 
     /// Moves the values of some registers on by one place: each cell has the value of the one before it. The first

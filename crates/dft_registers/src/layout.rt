@@ -1,6 +1,6 @@
-//! Where cells lie: shift registers of those that follow each other, and one register for all others.
+//! Where cells lie: shift registers of those that follow each other, and all others by themselves.
 
-ghost use Rattle.std.specs.Prelude.{◌≡◌, ℕ, ◌<◌, length, true, IfOk, slice_get, slice_index_or};
+ghost use Rattle.std.specs.Prelude.{◌≡◌, ℕ, ◌<◌, length, true, IfOk, IfSome};
 ghost use Rattle.dft_registers.specs.Layout.{IsLaid, place_at, cells_at};
 
 use crate::registers::Register;
@@ -10,14 +10,15 @@ use std::marker::Model;
 // The fewest cells that make a shift register.
 const FEWEST: usize = 8;
 
-/// Where a cell lies: its register, and how many cells are before it there.
+/// Where a cell lies: its register, and how many cells are before it there. Cells that rest lie by themselves: they are
+/// told to be at the beginning of the first register, which has no cell.
 #[derive(Clone, Copy)]
 pub struct Place {
-    pub register: usize,
-    pub index: usize,
+    pub register: u32,
+    pub index: u32,
 }
 
-// Where cells lie. The first register has the place of each cell that rests; those that were taken out leave a gap.
+// Where cells lie. The first register has no cell: it is for those that rest.
 #[derive(Drop)]
 pub(crate) struct Layout {
     places: Vec<Place>,
@@ -34,28 +35,14 @@ impl Model for Layout {
     ghost invariant = { λ l. spec.IsLaid (record { places = l.places.items; registers = l.registers.items }) };
 }
 
-// The first register: so many cells, in order.
-fn resting(alloc: Global, count: usize) -> Result<Register, AllocError>
-    ensures count { IfOk result (λ register. length register ≡ count) }
-    ensures each { IfOk result (λ register. (c : ℕ) → c < count → slice_index_or register c 0 ≡ c) }
+// A place, if numbers of 32 bits tell it.
+fn place_of(register: usize, index: usize) -> Option<Place>
+    ensures { IfSome result (λ place. (place.register ≡ register) × (place.index ≡ index)) }
 {
-    let mut register = Register::new(alloc);
-    for cell in 0..count {
-        register.push(cell)?;
+    match (u32::try_from(register), u32::try_from(index)) {
+        (Ok(register), Ok(index)) => Some(Place { register, index }),
+        _ => None,
     }
-    Ok(register)
-}
-
-// The places of so many cells that rest.
-fn resting_places(alloc: Global, count: usize) -> Result<Vec<Place>, AllocError>
-    ensures count { IfOk result (λ places. length places.items ≡ count) }
-    ensures each { IfOk result (λ places. (c : ℕ) → c < count → place_at places.items c ≡ record { register = 0; index = c }) }
-{
-    let mut places = Vec::with_capacity(alloc, count)?;
-    for index in 0..count {
-        places.push(Place { register: 0, index })?;
-    }
-    Ok(places)
 }
 
 // The cell that follows one, if there is one.
@@ -114,10 +101,13 @@ impl Layout {
     fn rest(alloc: Global, count: usize) -> Result<Layout, AllocError>
         ensures { IfOk result (λ layout. length layout.places ≡ count) }
     {
-        let places = resting_places(alloc, count)?;
-        let register = resting(alloc, count)?;
+        let resting = Place {
+            register: 0,
+            index: 0,
+        };
+        let places = vec![in alloc; resting; count]?;
         let mut registers = Vec::new(alloc);
-        registers.push(register)?;
+        registers.push(Register::new(alloc))?;
         Ok(Layout { places, registers })
     }
 
@@ -139,7 +129,8 @@ impl Layout {
         }
     }
 
-    // Takes a cell to the end of the last register, if it is one that rests.
+    // Takes a cell to the end of the last register, if it is one that rests. Where a place's numbers would be too great, it
+    // rests on.
     fn add(&mut self, cell: usize) -> Result<(), AllocError>
         ensures { length self.new.places ≡ length self.old.places }
     {
@@ -147,13 +138,13 @@ impl Layout {
             return Ok(());
         }
         let last = self.registers.len() - 1;
-        let register = &mut self.registers[last];
-        let index = register.as_slice().len();
-        register.push(cell)?;
-        self.places[cell] = Place {
-            register: last,
-            index,
+        let index = self.register(last).len();
+        let Some(place) = place_of(last, index) else {
+            return Ok(());
         };
+        let register = &mut self.registers[last];
+        register.push(cell)?;
+        self.places[cell] = place;
         Ok(())
     }
 
@@ -210,7 +201,7 @@ impl Layout {
         self.registers.len()
     }
 
-    // The cells of a register, in their order; past the end there is none.
+    // The cells of a register, in their order; the first has none, and past the end there is none.
     pub(crate) fn register(&self, number: usize) -> &[usize]
         ensures { result.now ≡ cells_at self.now.registers number }
     {
@@ -220,18 +211,8 @@ impl Layout {
         }
     }
 
-    // The place of a cell, if there is this cell.
-    pub(crate) fn place(&self, cell: usize) -> Option<Place>
-        ensures { result ≡ slice_get self.now.places cell }
-    {
-        match self.places.get(cell) {
-            Some(place) => Some(*place),
-            None => None,
-        }
-    }
-
     // The place of a cell.
-    pub(crate) fn place_of(&self, cell: usize) -> Place
+    pub(crate) fn place(&self, cell: usize) -> Place
         requires { cell < length self.now.places }
         ensures { result ≡ place_at self.now.places cell }
     {

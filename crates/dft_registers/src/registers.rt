@@ -48,6 +48,13 @@ impl Register {
     }
 }
 
+// So many values that nobody knows.
+pub(crate) fn unknown(alloc: Global, count: usize) -> Result<Vec<Tri>, AllocError>
+    ensures { IfOk result (λ values. values.items ≡ replicate count Tri.Unknown) }
+{
+    vec![in alloc; Tri::Unknown; count]
+}
+
 // The values of a register's cells, in their order. A clause sees them as a list.
 #[derive(Drop)]
 pub(crate) struct Values {
@@ -68,9 +75,8 @@ impl Values {
     pub(crate) fn unknown(alloc: Global, count: usize) -> Result<Values, AllocError>
         ensures { IfOk result (λ values. values ≡ replicate count Tri.Unknown) }
     {
-        let values = vec![in alloc; Tri::Unknown; count]?;
         Ok(Values {
-            values: VecDeque::from_vec(values),
+            values: VecDeque::from_vec(unknown(alloc, count)?),
         })
     }
 

@@ -11,52 +11,56 @@ use Rattle.dft_netlist.proofs.StandLemmas.{numbers-push}
 use Rattle.dft_patterns.specs.declared.act.Act.{Act}
 use Rattle.dft_patterns.specs.declared.act.Act.TheVariants.{Unset, Low, High, Pulse, ExpectLow, ExpectHigh, Ignore}
 use Rattle.dft_replay.specs.declared.comparing.Asked.{Asked}
+use Rattle.dft_replay.specs.declared.verdict.Unknowns.{Unknowns}
+use Rattle.dft_replay.specs.declared.verdict.Unknowns.TheVariants.{Stop, Skip}
 use Rattle.dft_replay.specs.declared.verdict.Verdict.{Verdict}
 use Rattle.dft_replay.specs.Looks.{asked_of, decided_seen, AreBefore}
 use Rattle.dft_replay.specs.Rows.{Compared, compared_at, compared_from}
 use Rattle.dft_replay.specs.Vectors.{act_at, printed}
-use Rattle.dft_replay.specs.Verdicts.{decided_by, decided}
+use Rattle.dft_replay.specs.Verdicts.{bit_decides, bits_decide}
 
 -- ---- one bit
 
-by_none : (v i : ℕ) (value : Tri) (bit : Bool) (rest : Option Verdict) → decided_by v i value bit None ≡ None → decided_by v i value bit rest ≡ rest
-by_none v i Unknown bit rest h = absurd cc
-by_none v i Zero true rest h = absurd cc
-by_none v i Zero false rest h = refl
-by_none v i One true rest h = refl
-by_none v i One false rest h = absurd cc
+by_none : (u : Unknowns) (v i : ℕ) (value : Tri) (bit : Bool) (rest : Option Verdict) → bit_decides u v i value bit None ≡ None → bit_decides u v i value bit rest ≡ rest
+by_none Stop v i Unknown bit rest h = absurd cc
+by_none Skip v i Unknown bit rest h = refl
+by_none u v i Zero true rest h = absurd cc
+by_none u v i Zero false rest h = refl
+by_none u v i One true rest h = refl
+by_none u v i One false rest h = absurd cc
 
-by_some : (v i : ℕ) (value : Tri) (bit : Bool) (rest : Option Verdict) (d : Verdict) → decided_by v i value bit None ≡ Some d → decided_by v i value bit rest ≡ Some d
-by_some v i Unknown bit rest d h = h
-by_some v i Zero true rest d h = h
-by_some v i Zero false rest d h = absurd cc
-by_some v i One true rest d h = absurd cc
-by_some v i One false rest d h = h
+by_some : (u : Unknowns) (v i : ℕ) (value : Tri) (bit : Bool) (rest : Option Verdict) (d : Verdict) → bit_decides u v i value bit None ≡ Some d → bit_decides u v i value bit rest ≡ Some d
+by_some Stop v i Unknown bit rest d h = h
+by_some Skip v i Unknown bit rest d h = absurd cc
+by_some u v i Zero true rest d h = h
+by_some u v i Zero false rest d h = absurd cc
+by_some u v i One true rest d h = absurd cc
+by_some u v i One false rest d h = h
 
 -- ---- the bits from a place on
 
-abbrev pub seen_from : (vector : ℕ) → List Asked → List Tri → (place : ℕ) → Option Verdict
-seen_from v asked seen i = decided_seen v (drop i asked) (drop i seen)
+abbrev pub seen_from : Unknowns → (vector : ℕ) → List Asked → List Tri → (place : ℕ) → Option Verdict
+seen_from u v asked seen i = decided_seen u v (drop i asked) (drop i seen)
 
 abbrev pub asked_at : List Asked → ℕ → Asked
 asked_at asked i = get_or asked i (record { signal = 0; printed = false })
 
-seen_split : (v : ℕ) (asked : List Asked) (seen : List Tri) (i : ℕ) (t : Tri) → i < length asked → i < length seen →
-    seen_from v asked seen i ≡ decided_by v (asked_at asked i).signal (get_or seen i t) (asked_at asked i).printed (seen_from v asked seen (suc i))
-seen_split v asked seen i t less within = λ k. decided_seen v (drop-cons asked i (record { signal = 0; printed = false }) less k) (drop-cons seen i t within k)
+seen_split : (u : Unknowns) (v : ℕ) (asked : List Asked) (seen : List Tri) (i : ℕ) (t : Tri) → i < length asked → i < length seen →
+    seen_from u v asked seen i ≡ bit_decides u v (asked_at asked i).signal (get_or seen i t) (asked_at asked i).printed (seen_from u v asked seen (suc i))
+seen_split u v asked seen i t less within = λ k. decided_seen u v (drop-cons asked i (record { signal = 0; printed = false }) less k) (drop-cons seen i t within k)
 
 -- a bit that decides nothing leaves it to those after it
-pub seen_none : (v : ℕ) (asked : List Asked) (seen : List Tri) (i : ℕ) (t : Tri) → i < length asked → i < length seen →
-    decided_by v (asked_at asked i).signal (get_or seen i t) (asked_at asked i).printed None ≡ None → seen_from v asked seen i ≡ seen_from v asked seen (i + 1)
-seen_none v asked seen i t less within h =
-    seen_split v asked seen i t less within ∙ by_none v (asked_at asked i).signal (get_or seen i t) (asked_at asked i).printed (seen_from v asked seen (suc i)) h
-    ∙ ap (seen_from v asked seen) (let next : suc i ≡ i + 1 = omega arith in next)
+pub seen_none : (u : Unknowns) (v : ℕ) (asked : List Asked) (seen : List Tri) (i : ℕ) (t : Tri) → i < length asked → i < length seen →
+    bit_decides u v (asked_at asked i).signal (get_or seen i t) (asked_at asked i).printed None ≡ None → seen_from u v asked seen i ≡ seen_from u v asked seen (i + 1)
+seen_none u v asked seen i t less within h =
+    seen_split u v asked seen i t less within ∙ by_none u v (asked_at asked i).signal (get_or seen i t) (asked_at asked i).printed (seen_from u v asked seen (suc i)) h
+    ∙ ap (seen_from u v asked seen) (let next : suc i ≡ i + 1 = omega arith in next)
 
 -- one that decides something decides it for all from its place on
-pub seen_some : (v : ℕ) (asked : List Asked) (seen : List Tri) (i : ℕ) (t : Tri) (d : Verdict) → i < length asked → i < length seen →
-    decided_by v (asked_at asked i).signal (get_or seen i t) (asked_at asked i).printed None ≡ Some d → seen_from v asked seen i ≡ Some d
-seen_some v asked seen i t d less within h =
-    seen_split v asked seen i t less within ∙ by_some v (asked_at asked i).signal (get_or seen i t) (asked_at asked i).printed (seen_from v asked seen (suc i)) d h
+pub seen_some : (u : Unknowns) (v : ℕ) (asked : List Asked) (seen : List Tri) (i : ℕ) (t : Tri) (d : Verdict) → i < length asked → i < length seen →
+    bit_decides u v (asked_at asked i).signal (get_or seen i t) (asked_at asked i).printed None ≡ Some d → seen_from u v asked seen i ≡ Some d
+seen_some u v asked seen i t d less within h =
+    seen_split u v asked seen i t less within ∙ by_some u v (asked_at asked i).signal (get_or seen i t) (asked_at asked i).printed (seen_from u v asked seen (suc i)) d h
 
 -- ---- the list of what is compared
 
@@ -147,9 +151,9 @@ listed_asked nets acts i wanted asked same past listed =
 
 -- ---- what the values decide
 
-pub seen_decides : (values : ℕ → Tri) (v : ℕ) (cs : List Compared) → decided_seen v (map asked_of cs) (map (λ (c : Compared). values c.net) cs) ≡ decided values v cs
-seen_decides values v [] = refl
-seen_decides values v (c ∷ cs) = ap (decided_by v c.signal (values c.net) c.bit) (seen_decides values v cs)
+pub seen_decides : (u : Unknowns) (values : ℕ → Tri) (v : ℕ) (cs : List Compared) → decided_seen u v (map asked_of cs) (map (λ (c : Compared). values c.net) cs) ≡ bits_decide u values v cs
+seen_decides u values v [] = refl
+seen_decides u values v (c ∷ cs) = ap (bit_decides u v c.signal (values c.net) c.bit) (seen_decides u values v cs)
 
 values_nets : (values : ℕ → Tri) (wanted : List NetId) → map (λ (net : NetId). values net.0) wanted ≡ map values (numbers_of wanted)
 values_nets values [] = refl
@@ -160,10 +164,10 @@ values_compared values [] = refl
 values_compared values (c ∷ cs) = ap (λ (ts : List Tri). values c.net ∷ ts) (values_compared values cs)
 
 -- looking up what is compared decides what the vector does
-pub looks_decide : (values : ℕ → Tri) (v : ℕ) (cs : List Compared) (wanted : List NetId) (asked : List Asked) → numbers_of wanted ≡ map (λ (c : Compared). c.net) cs → asked ≡ map asked_of cs →
-    decided_seen v asked (map (λ (net : NetId). values net.0) wanted) ≡ decided values v cs
-looks_decide values v cs wanted asked nets are =
-    (λ k. decided_seen v (are k) ((values_nets values wanted ∙ ap (map values) nets ∙ values_compared values cs) k)) ∙ seen_decides values v cs
+pub looks_decide : (u : Unknowns) (values : ℕ → Tri) (v : ℕ) (cs : List Compared) (wanted : List NetId) (asked : List Asked) → numbers_of wanted ≡ map (λ (c : Compared). c.net) cs → asked ≡ map asked_of cs →
+    decided_seen u v asked (map (λ (net : NetId). values net.0) wanted) ≡ bits_decide u values v cs
+looks_decide u values v cs wanted asked nets are =
+    (λ k. decided_seen u v (are k) ((values_nets values wanted ∙ ap (map values) nets ∙ values_compared values cs) k)) ∙ seen_decides u values v cs
 
 -- ---- signals
 

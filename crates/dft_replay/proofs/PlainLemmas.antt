@@ -5,6 +5,8 @@ use Rattle.dft_base.specs.declared.tri.Tri.{Tri}
 use Rattle.dft_base.specs.declared.tri.Tri.TheVariants.{Zero, One, Unknown}
 use Rattle.dft_base.specs.Tri.{AboveTri}
 use Rattle.dft_netlist.specs.Logic.{Logic, no_cell, IsRanked, logic_of}
+use Rattle.dft_netlist.specs.Netlist.{Netlist}
+use Rattle.dft_netlist.specs.Drivers.{IsOrdered}
 use Rattle.dft_netlist.specs.Settled.{IsTriSettled}
 use Rattle.dft_netlist.specs.Runs.{Vector, takes}
 use Rattle.dft_netlist.proofs.Meanings.{source_same}
@@ -16,10 +18,13 @@ use Rattle.dft_abstract.proofs.OneDomain.{raised as risen}
 use Rattle.dft_cells.proofs.Completions.{above_self, join_over_left}
 use Rattle.std.proofs.lemmas.Bool.{and_cases, cases_Bool, and_parts, cases_lt}
 use Rattle.dft_logic.proofs.Compiled.{past_cell}
+use Rattle.dft_replay.specs.declared.verdict.Unknowns.{Unknowns}
+use Rattle.dft_replay.specs.declared.verdict.Unknowns.TheVariants.{Stop}
 use Rattle.dft_replay.specs.declared.verdict.Verdict.{Verdict}
+use Rattle.dft_patterns.specs.Patterns.{Patterns}
 use Rattle.dft_replay.specs.Rows.{Row, rows_of, ports_of}
-use Rattle.dft_replay.specs.Verdicts.{decided, Stops, HasVerdictFrom}
-use Rattle.dft_replay.specs.Plain.{value_at, table, strobe_values, view_values, Size, raised_value, raised, raised_by, or_later, plain_map, plain_from, size_of, VerdictIsPlain, plain_fall}
+use Rattle.dft_replay.specs.Verdicts.{bits_decide, Stops, EndsFrom, EndsAt}
+use Rattle.dft_replay.specs.Plain.{value_at, table, strobe_values, view_values, Size, raised_value, raised, raised_by, or_later, plain_map, plain_from, plain_end, size_of, VerdictIsPlain, plain_fall}
 use Rattle.dft_replay.proofs.Uniqueness.{same_map}
 
 -- ---- lists
@@ -347,30 +352,34 @@ stops_from : (d : Option Verdict) (later : Verdict) (Later : Verdict → Type 0)
 stops_from None later Later h = h
 stops_from (Some d) later Later h = refl
 
-verdict_from : (l : Logic) (rank : ℕ → ℕ) (s : Size) (old : List Tri) (v count : ℕ) (rows : List Row) → Fits l rank s → IsPast s.cells old → HasVerdictFrom l (value_at old) v count rows (plain_from l s old v count rows)
-verdict_from l rank s old v count [] fits past = refl
-verdict_from l rank s old v count (x ∷ xs) fits past =
+ends_from : (u : Unknowns) (l : Logic) (rank : ℕ → ℕ) (s : Size) (old : List Tri) (v count : ℕ) (rows : List Row) → Fits l rank s → IsPast s.cells old → EndsFrom u l (value_at old) v count rows (plain_from u l s old v count rows)
+ends_from u l rank s old v count [] fits past = refl
+ends_from u l rank s old v count (x ∷ xs) fits past =
     let r : Round = plain_round l s x old in
     let next : List Tri = table s.cells (after_round l x.vector (value_at old) r) in
     let count' : ℕ = count + length x.compared in
-    let later : Verdict = plain_from l s next (suc v) count' xs in (
+    let later : Verdict = plain_from u l s next (suc v) count' xs in (
       r,
       (
         round_is l rank s x old fits past,
-        stops_from (decided r.strobe v x.compared) later (HasVerdictFrom l (after_round l x.vector (value_at old) r) (suc v) count' xs)
-            (subst (λ (w : ℕ → Tri). HasVerdictFrom l w (suc v) count' xs later) (after_is l rank s x old fits past)
-            (verdict_from l rank s next (suc v) count' xs fits (table_past s.cells _))),
+        stops_from (bits_decide u r.strobe v x.compared) later (EndsFrom u l (after_round l x.vector (value_at old) r) (suc v) count' xs)
+            (subst (λ (w : ℕ → Tri). EndsFrom u l w (suc v) count' xs later) (after_is l rank s x old fits past)
+            (ends_from u l rank s next (suc v) count' xs fits (table_past s.cells _))),
       ),
     )
 
 -- ---- designs
 
-pub verdict_plain : VerdictIsPlain
-verdict_plain n rank p order =
-    verdict_from (logic_of n (ports_of n p)) rank (size_of n) [] 0 0 (rows_of n p)
+-- a replay comes to an end on every design with an order
+pub end_plain : (u : Unknowns) (n : Netlist) (rank : ℕ → ℕ) (p : Patterns) → IsOrdered n rank → EndsAt u n p (plain_end u n p)
+end_plain u n rank p order =
+    ends_from u (logic_of n (ports_of n p)) rank (size_of n) [] 0 0 (rows_of n p)
     (record {
       ranked = order_is_rank n (ports_of n p) rank order;
       levels = λ net. (let h : rank net ≤ length n.nets = order.within net in omega arith);
       cells = past_cell n (ports_of n p);
     })
     (λ c h. refl)
+
+pub verdict_plain : VerdictIsPlain
+verdict_plain n rank p order = end_plain Stop n rank p order

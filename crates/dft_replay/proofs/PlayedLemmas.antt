@@ -17,10 +17,11 @@ use Rattle.dft_cycle.specs.MachineLaws.{IsForced, StandsSince}
 use Rattle.dft_cycle.proofs.MachineRounds.{same_logic, halves_forced}
 use Rattle.dft_patterns.specs.declared.act.Act.{Act}
 use Rattle.dft_replay.specs.declared.comparing.Asked.{Asked}
+use Rattle.dft_replay.specs.declared.verdict.Unknowns.{Unknowns}
 use Rattle.dft_replay.specs.declared.verdict.Verdict.{Verdict}
 use Rattle.dft_replay.specs.Looks.{HasRanks, asked_of, decided_seen}
 use Rattle.dft_replay.specs.Rows.{Row, Compared, act_on, set_by, is_pulse, compared_from, row_of}
-use Rattle.dft_replay.specs.Verdicts.{decided}
+use Rattle.dft_replay.specs.Verdicts.{bits_decide}
 use Rattle.dft_replay.specs.Vectors.{act_at, AreClocks, IsPlayed}
 use Rattle.dft_replay.proofs.LookLemmas.{looks_decide}
 use Rattle.dft_replay.proofs.VectorLemmas.{Differ, clocks_marked}
@@ -76,13 +77,13 @@ settled_exists : (m : Machine) → HasRanks m.netlist → (values : ℕ → Tri)
 unfolding logic
 settled_exists m ranks = still_there (logic m) ranks.0 (λ e. false) (value_at m.inputs) (value_at m.cells) (order_is_rank m.netlist (ports_of m.clocks) ranks.0 ranks.1)
 
-pub played : (start set after : Machine) (nets : List NetId) (clocks : List ℕ) (pulsed : List Bool) (acts : List Act) (vector : ℕ) (wanted : List NetId) (asked : List Asked) (decision : Option Verdict) →
+pub played : (u : Unknowns) (start set after : Machine) (nets : List NetId) (clocks : List ℕ) (pulsed : List Bool) (acts : List Act) (vector : ℕ) (wanted : List NetId) (asked : List Asked) (decision : Option Verdict) →
     (ranks : HasRanks start.netlist) → (differ : Differ (numbers_of nets)) → (same : length acts ≡ length nets) →
     (are : AreClocks start nets clocks acts) → (stands : StandsSince start set) → (inputs : ((net : ℕ) → value_at set.inputs net ≡ set_by (act_on (numbers_of nets) acts net) (value_at start.inputs net))) →
     (listed : numbers_of wanted ≡ map (λ (c : Compared). c.net) (compared_from 0 (numbers_of nets) acts)) → (printed : asked ≡ map asked_of (compared_from 0 (numbers_of nets) acts)) →
-    (looks : ((values : ℕ → Tri) → IsStrobe (logic set) (value_at set.inputs) (value_at set.cells) values → decision ≡ decided_seen vector asked (map (λ (net : NetId). values net.0) wanted))) →
-    (marked : pulsed ≡ map (λ s. is_pulse (act_at acts s)) clocks) → (pulse : IsPulsed (logic set) set pulsed after) → IsPlayed start (row_of (numbers_of nets) (value_at start.inputs) acts) vector decision after
-played start set after nets clocks pulsed acts vector wanted asked decision ranks differ same are stands inputs listed printed looks marked pulse =
+    (looks : ((values : ℕ → Tri) → IsStrobe (logic set) (value_at set.inputs) (value_at set.cells) values → decision ≡ decided_seen u vector asked (map (λ (net : NetId). values net.0) wanted))) →
+    (marked : pulsed ≡ map (λ s. is_pulse (act_at acts s)) clocks) → (pulse : IsPulsed (logic set) set pulsed after) → IsPlayed u start (row_of (numbers_of nets) (value_at start.inputs) acts) vector decision after
+played u start set after nets clocks pulsed acts vector wanted asked decision ranks differ same are stands inputs listed printed looks marked pulse =
     let x : Row = row_of (numbers_of nets) (value_at start.inputs) acts in
     let ups : (e : ℕ) → pulses set.clocks pulsed e ≡ x.vector.pulsed e = λ e.
     (λ t. pulses (stands.clocks t) (marked t) e) ∙ clocks_marked start nets clocks acts e differ same are in
@@ -95,6 +96,6 @@ played start set after nets clocks pulsed acts vector wanted asked decision rank
       forced = r.forced;
       round = r.round;
       holds = r.holds;
-      says = looks settled.0 settled.1 ∙ looks_decide settled.0 vector x.compared wanted asked listed printed ∙ ap (λ (w : ℕ → Tri). decided w vector x.compared) (sym r.strobe);
+      says = looks settled.0 settled.1 ∙ looks_decide u settled.0 vector x.compared wanted asked listed printed ∙ ap (λ (w : ℕ → Tri). bits_decide u w vector x.compared) (sym r.strobe);
       cells = r.cells;
     }

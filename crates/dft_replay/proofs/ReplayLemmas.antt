@@ -13,11 +13,12 @@ use Rattle.dft_netlist.specs.Orders.{numbers_of}
 use Rattle.dft_abstract.specs.Cycle.{Round, IsRound, after_round, all_unknown}
 use Rattle.dft_cycle.specs.Machine.{Machine, value_at, logic, is_one_of, IsStart}
 use Rattle.dft_patterns.specs.declared.act.Act.{Act}
+use Rattle.dft_replay.specs.declared.verdict.Unknowns.{Unknowns}
 use Rattle.dft_replay.specs.declared.verdict.Verdict.{Verdict}
 use Rattle.dft_replay.specs.declared.verdict.Verdict.TheVariants.{Pass}
 use Rattle.dft_replay.specs.Rows.{Row, row_of, rows_from, ports_in, pulses}
 use Rattle.dft_replay.specs.Vectors.{net_at, clocks_of, is_compared, IsPlayed}
-use Rattle.dft_replay.specs.Verdicts.{decided, Stops, HasVerdictFrom}
+use Rattle.dft_replay.specs.Verdicts.{bits_decide, Stops, EndsFrom}
 use Rattle.dft_replay.proofs.Uniqueness.{same_map}
 use Rattle.dft_replay.proofs.VectorLemmas.{Differ, count_compared, clocks_pulse}
 
@@ -40,9 +41,9 @@ count_fits compared v vectors signals count acts few counted same less short nar
     omega (arith, all, most)
 
 -- no vector is left
-pub none_left : (l : Logic) (old inputs : ℕ → Tri) (v compared : ℕ) (nets : List ℕ) (vectors : List (List Act)) → length vectors ≤ v → HasVerdictFrom l old v compared (rows_from nets inputs (drop v vectors)) (Pass compared)
-none_left l old inputs v compared nets vectors end =
-    subst (λ (left : List (List Act)). HasVerdictFrom l old v compared (rows_from nets inputs left) (Pass compared)) (sym (drop_all v vectors end)) refl
+pub none_left : (u : Unknowns) (l : Logic) (old inputs : ℕ → Tri) (v compared : ℕ) (nets : List ℕ) (vectors : List (List Act)) → length vectors ≤ v → EndsFrom u l old v compared (rows_from nets inputs (drop v vectors)) (Pass compared)
+none_left u l old inputs v compared nets vectors end =
+    subst (λ (left : List (List Act)). EndsFrom u l old v compared (rows_from nets inputs left) (Pass compared)) (sym (drop_all v vectors end)) refl
 
 -- ---- the vector with a number
 
@@ -69,23 +70,23 @@ rows_split : (nets : List ℕ) (before : ℕ → Tri) (vectors : List (List Act)
 rows_split nets before vectors v acts within here = ap (rows_from nets before) (drop-cons vectors v [] within ∙ ap (λ (row : List Act). row ∷ drop (suc v) vectors) here)
 
 -- a vector that decided ends the verdict
-pub ends : (l : Logic) (nets : List ℕ) (vectors : List (List Act)) (v compared : ℕ) (acts : List Act) (m after : Machine) (decision : Option Verdict) (verdict : Verdict) → logic m ≡ l → v < length vectors → get_or vectors v [] ≡ acts →
-    IsPlayed m (row_of nets (value_at m.inputs) acts) v decision after → decision ≡ Some verdict → HasVerdictFrom l (value_at m.cells) v compared (rows_from nets (value_at m.inputs) (drop v vectors)) verdict
-ends l nets vectors v compared acts m after decision verdict means within here played is =
+pub ends : (u : Unknowns) (l : Logic) (nets : List ℕ) (vectors : List (List Act)) (v compared : ℕ) (acts : List Act) (m after : Machine) (decision : Option Verdict) (verdict : Verdict) → logic m ≡ l → v < length vectors → get_or vectors v [] ≡ acts →
+    IsPlayed u m (row_of nets (value_at m.inputs) acts) v decision after → decision ≡ Some verdict → EndsFrom u l (value_at m.cells) v compared (rows_from nets (value_at m.inputs) (drop v vectors)) verdict
+ends u l nets vectors v compared acts m after decision verdict means within here played is =
     let x : Row = row_of nets (value_at m.inputs) acts in
     let old : ℕ → Tri = value_at m.cells in
     let r : Round = played.round in
     let holds : IsRound l x.vector old r = subst (λ (k : Logic). IsRound k x.vector old r) means played.holds in
     let rest : List Row = rows_from nets x.vector.ports (drop (suc v) vectors) in
-    let Later : Type 0 = HasVerdictFrom l (after_round l x.vector old r) (suc v) (compared + length x.compared) rest verdict in
-    let stops : Stops (decided r.strobe v x.compared) verdict Later = subst (λ (d : Option Verdict). Stops d verdict Later) (sym is ∙ played.says) refl in
-    subst (λ (rows : List Row). HasVerdictFrom l old v compared rows verdict) (sym (rows_split nets (value_at m.inputs) vectors v acts within here)) (r, (holds, stops))
+    let Later : Type 0 = EndsFrom u l (after_round l x.vector old r) (suc v) (compared + length x.compared) rest verdict in
+    let stops : Stops (bits_decide u r.strobe v x.compared) verdict Later = subst (λ (d : Option Verdict). Stops d verdict Later) (sym is ∙ played.says) refl in
+    subst (λ (rows : List Row). EndsFrom u l old v compared rows verdict) (sym (rows_split nets (value_at m.inputs) vectors v acts within here)) (r, (holds, stops))
 
 -- a vector that decided nothing leaves the verdict to the others
-pub goes_on : (l : Logic) (nets : List ℕ) (vectors : List (List Act)) (v compared count : ℕ) (acts : List Act) (m after : Machine) (decision : Option Verdict) (verdict : Verdict) → (means : logic m ≡ l) → (within : v < length vectors) → (here : get_or vectors v [] ≡ acts) → (same : length acts ≡ length nets) → (counted : count ≡ count_by is_compared acts) →
-    (played : IsPlayed m (row_of nets (value_at m.inputs) acts) v decision after) → (is : decision ≡ None) → (later : HasVerdictFrom l (value_at after.cells) (v + 1) (compared + count) (rows_from nets (value_at after.inputs) (drop (v + 1) vectors)) verdict) →
-    HasVerdictFrom l (value_at m.cells) v compared (rows_from nets (value_at m.inputs) (drop v vectors)) verdict
-goes_on l nets vectors v compared count acts m after decision verdict means within here same counted played is later =
+pub goes_on : (u : Unknowns) (l : Logic) (nets : List ℕ) (vectors : List (List Act)) (v compared count : ℕ) (acts : List Act) (m after : Machine) (decision : Option Verdict) (verdict : Verdict) → (means : logic m ≡ l) → (within : v < length vectors) → (here : get_or vectors v [] ≡ acts) → (same : length acts ≡ length nets) → (counted : count ≡ count_by is_compared acts) →
+    (played : IsPlayed u m (row_of nets (value_at m.inputs) acts) v decision after) → (is : decision ≡ None) → (later : EndsFrom u l (value_at after.cells) (v + 1) (compared + count) (rows_from nets (value_at after.inputs) (drop (v + 1) vectors)) verdict) →
+    EndsFrom u l (value_at m.cells) v compared (rows_from nets (value_at m.inputs) (drop v vectors)) verdict
+goes_on u l nets vectors v compared count acts m after decision verdict means within here same counted played is later =
     let x : Row = row_of nets (value_at m.inputs) acts in
     let old : ℕ → Tri = value_at m.cells in
     let r : Round = played.round in
@@ -94,19 +95,19 @@ goes_on l nets vectors v compared count acts m after decision verdict means with
     let inputs : value_at after.inputs ≡ x.vector.ports = same_map _ _ played.inputs in
     let number : v + 1 ≡ suc v = omega arith in
     let sum : compared + count ≡ compared + length x.compared = ap (λ (k : ℕ). compared + k) (counted ∙ sym (count_compared 0 nets acts same)) in
-    let Later : Type 0 = HasVerdictFrom l (after_round l x.vector old r) (suc v) (compared + length x.compared) (rows_from nets x.vector.ports (drop (suc v) vectors)) verdict in
-    let then : Later = subst (λ (s : ℕ). HasVerdictFrom l (after_round l x.vector old r) (suc v) s (rows_from nets x.vector.ports (drop (suc v) vectors)) verdict) sum
-    (subst (λ (k : ℕ). HasVerdictFrom l (after_round l x.vector old r) k (compared + count) (rows_from nets x.vector.ports (drop k vectors)) verdict) number
-    (subst (λ (w : ℕ → Tri). HasVerdictFrom l (after_round l x.vector old r) (v + 1) (compared + count) (rows_from nets w (drop (v + 1) vectors)) verdict) inputs
-    (subst (λ (w : ℕ → Tri). HasVerdictFrom l w (v + 1) (compared + count) (rows_from nets (value_at after.inputs) (drop (v + 1) vectors)) verdict) cells later))) in
-    let stops : Stops (decided r.strobe v x.compared) verdict Later = subst (λ (d : Option Verdict). Stops d verdict Later) (sym is ∙ played.says) then in
-    subst (λ (rows : List Row). HasVerdictFrom l old v compared rows verdict) (sym (rows_split nets (value_at m.inputs) vectors v acts within here)) (r, (holds, stops))
+    let Later : Type 0 = EndsFrom u l (after_round l x.vector old r) (suc v) (compared + length x.compared) (rows_from nets x.vector.ports (drop (suc v) vectors)) verdict in
+    let then : Later = subst (λ (s : ℕ). EndsFrom u l (after_round l x.vector old r) (suc v) s (rows_from nets x.vector.ports (drop (suc v) vectors)) verdict) sum
+    (subst (λ (k : ℕ). EndsFrom u l (after_round l x.vector old r) k (compared + count) (rows_from nets x.vector.ports (drop k vectors)) verdict) number
+    (subst (λ (w : ℕ → Tri). EndsFrom u l (after_round l x.vector old r) (v + 1) (compared + count) (rows_from nets w (drop (v + 1) vectors)) verdict) inputs
+    (subst (λ (w : ℕ → Tri). EndsFrom u l w (v + 1) (compared + count) (rows_from nets (value_at after.inputs) (drop (v + 1) vectors)) verdict) cells later))) in
+    let stops : Stops (bits_decide u r.strobe v x.compared) verdict Later = subst (λ (d : Option Verdict). Stops d verdict Later) (sym is ∙ played.says) then in
+    subst (λ (rows : List Row). EndsFrom u l old v compared rows verdict) (sym (rows_split nets (value_at m.inputs) vectors v acts within here)) (r, (holds, stops))
 
 -- at the start nothing is known
-pub starts : (l : Logic) (n : Netlist) (clocks : List NetId) (m : Machine) (nets : List ℕ) (vectors : List (List Act)) (verdict : Verdict) → IsStart n clocks m →
-    HasVerdictFrom l (value_at m.cells) 0 0 (rows_from nets (value_at m.inputs) (drop 0 vectors)) verdict → HasVerdictFrom l all_unknown 0 0 (rows_from nets all_unknown vectors) verdict
-starts l n clocks m nets vectors verdict start h =
+pub starts : (u : Unknowns) (l : Logic) (n : Netlist) (clocks : List NetId) (m : Machine) (nets : List ℕ) (vectors : List (List Act)) (verdict : Verdict) → IsStart n clocks m →
+    EndsFrom u l (value_at m.cells) 0 0 (rows_from nets (value_at m.inputs) (drop 0 vectors)) verdict → EndsFrom u l all_unknown 0 0 (rows_from nets all_unknown vectors) verdict
+starts u l n clocks m nets vectors verdict start h =
     let cells : value_at m.cells ≡ all_unknown = same_map _ _ start.cells in
     let inputs : value_at m.inputs ≡ all_unknown = same_map _ _ start.inputs in
-    subst (λ (w : ℕ → Tri). HasVerdictFrom l all_unknown 0 0 (rows_from nets w (drop 0 vectors)) verdict) inputs
-    (subst (λ (w : ℕ → Tri). HasVerdictFrom l w 0 0 (rows_from nets (value_at m.inputs) (drop 0 vectors)) verdict) cells h)
+    subst (λ (w : ℕ → Tri). EndsFrom u l all_unknown 0 0 (rows_from nets w (drop 0 vectors)) verdict) inputs
+    (subst (λ (w : ℕ → Tri). EndsFrom u l w 0 0 (rows_from nets (value_at m.inputs) (drop 0 vectors)) verdict) cells h)

@@ -1,5 +1,5 @@
 -- The nets of the signals of well-formed patterns, and the lengths of their vectors.
-use Rattle.std.proofs.Common.{ℕ, zero, suc, ◌+◌, ◌^◌, ◌<◌, ◌≤◌, ◌≢◌, true, ◌||◌, List, [], ◌∷◌, ◌++◌, ◌≡◌, inl, inr, Option, None, Some, length, take, drop, refl, sym, ap, ◌∙◌, subst, slice_get, get_or, eqb, arith}
+use Rattle.std.proofs.Common.{ℕ, zero, suc, ◌+◌, ◌^◌, ◌<◌, ◌≤◌, ◌≢◌, true, ◌||◌, List, [], ◌∷◌, ◌++◌, ◌≡◌, inl, inr, Option, None, Some, length, map, take, drop, refl, sym, ap, ◌∙◌, subst, slice_get, get_or, eqb, arith}
 use Rattle.std.specs.Prelude.{if◌then◌else◌, All, AllPairs}
 use Rattle.std.proofs.Math.Seq.{drop-cons}
 use Rattle.std.specs.List.{list_any}
@@ -12,20 +12,21 @@ use Rattle.dft_netlist.specs.Netlist.{Netlist}
 use Rattle.dft_netlist.specs.Names.{find_net}
 use Rattle.dft_netlist.specs.Orders.{numbers_of}
 use Rattle.dft_netlist.specs.Sound.{IsNetlist}
-use Rattle.dft_cycle.specs.Machine.{AreNets}
+use Rattle.dft_cycle.specs.Machine.{AreNets, is_one_of}
 use Rattle.dft_patterns.specs.declared.act.Act.{Act}
 use Rattle.dft_patterns.specs.declared.signal.StilSignal.{StilSignal}
 use Rattle.dft_patterns.specs.Patterns.{Patterns, IsVector}
 use Rattle.dft_patterns.proofs.VectorLemmas.{vector_length}
 use Rattle.dft_netlist.specs.Logic.{logic_of}
 use Rattle.dft_abstract.specs.Cycle.{all_unknown}
+use Rattle.dft_replay.specs.declared.verdict.Unknowns.{Unknowns}
 use Rattle.dft_replay.specs.declared.verdict.Verdict.{Verdict}
-use Rattle.dft_replay.specs.Verdicts.{HasVerdictFrom, HasVerdict}
-use Rattle.dft_replay.specs.Rows.{or_past, net_named, nets_of, rows_from, ports_in}
+use Rattle.dft_replay.specs.Verdicts.{EndsFrom, EndsAt}
+use Rattle.dft_replay.specs.Rows.{or_past, net_named, nets_of, rows_from, ports_in, ports_of, pulses}
 use Rattle.dft_replay.specs.Fits.{is_port_bit, first_misfit}
-use Rattle.dft_replay.specs.Vectors.{AreSignals}
+use Rattle.dft_replay.specs.Vectors.{AreSignals, clocks_of, net_at}
 use Rattle.dft_replay.proofs.FitLemmas.{found_named}
-use Rattle.dft_replay.proofs.VectorLemmas.{Differ}
+use Rattle.dft_replay.proofs.VectorLemmas.{Differ, clocks_pulse}
 
 -- ---- one signal more
 
@@ -129,9 +130,17 @@ signal_count n signals nets are =
     omega arith
 
 -- the verdict at the nets of the signals is that of the patterns
-pub patterns_verdict : (n : Netlist) (p : Patterns) (nets : List NetId) (signals : List StilSignal) (vectors : List (List Act)) (verdict : Verdict) → numbers_of nets ≡ nets_of n signals → signals ≡ p.signals → vectors ≡ p.vectors →
-    HasVerdictFrom (logic_of n (ports_in (numbers_of nets) vectors)) all_unknown 0 0 (rows_from (numbers_of nets) all_unknown vectors) verdict → HasVerdict n p verdict
-patterns_verdict n p nets signals vectors verdict are same_signals same_vectors has =
+pub patterns_verdict : (u : Unknowns) (n : Netlist) (p : Patterns) (nets : List NetId) (signals : List StilSignal) (vectors : List (List Act)) (verdict : Verdict) → numbers_of nets ≡ nets_of n signals → signals ≡ p.signals → vectors ≡ p.vectors →
+    EndsFrom u (logic_of n (ports_in (numbers_of nets) vectors)) all_unknown 0 0 (rows_from (numbers_of nets) all_unknown vectors) verdict → EndsAt u n p verdict
+patterns_verdict u n p nets signals vectors verdict are same_signals same_vectors has =
     let numbers : numbers_of nets ≡ nets_of n p.signals = are ∙ ap (nets_of n) same_signals in
-    subst (λ (xs : List (List Act)). HasVerdictFrom (logic_of n (ports_in (nets_of n p.signals) xs)) all_unknown 0 0 (rows_from (nets_of n p.signals) all_unknown xs) verdict) same_vectors
-    (subst (λ (ks : List ℕ). HasVerdictFrom (logic_of n (ports_in ks vectors)) all_unknown 0 0 (rows_from ks all_unknown vectors) verdict) numbers has)
+    subst (λ (xs : List (List Act)). EndsFrom u (logic_of n (ports_in (nets_of n p.signals) xs)) all_unknown 0 0 (rows_from (nets_of n p.signals) all_unknown xs) verdict) same_vectors
+    (subst (λ (ks : List ℕ). EndsFrom u (logic_of n (ports_in ks vectors)) all_unknown 0 0 (rows_from ks all_unknown vectors) verdict) numbers has)
+
+-- the nets of the signals that pulse in some vector are the clock ports of the patterns
+pub clocks_are : (n : Netlist) (p : Patterns) (clocks nets : List NetId) → AllPairs (λ s t. s.name ≢ t.name) p.signals → All (λ acts. IsVector p.signals acts) p.vectors → numbers_of nets ≡ nets_of n p.signals → AreNets (length n.nets) nets →
+    clocks ≡ map (net_at nets) (clocks_of (length nets) p.vectors) → (net : ℕ) → is_one_of clocks net ≡ (ports_of n p).is_clock net
+clocks_are n p clocks nets distinct fits are live found = λ net.
+    ap (λ (cs : List NetId). is_one_of cs net) found
+    ∙ clocks_pulse nets p.vectors net (signals_are n p.signals nets distinct are live).differ (vectors_long n p.signals p.vectors nets fits are)
+    ∙ ap (λ (ks : List ℕ). pulses ks p.vectors net) are

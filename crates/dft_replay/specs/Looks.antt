@@ -6,19 +6,20 @@ use Rattle.dft_netlist.specs.Netlist.{Netlist}
 use Rattle.dft_netlist.specs.Drivers.{IsOrdered}
 use Rattle.dft_replay.specs.declared.comparing.Asked.{Asked}
 use Rattle.dft_replay.specs.declared.playing.Room.{Room}
+use Rattle.dft_replay.specs.declared.verdict.Unknowns.{Unknowns}
 use Rattle.dft_replay.specs.declared.verdict.Verdict.{Verdict}
 use Rattle.dft_replay.specs.Rows.{Compared}
-use Rattle.dft_replay.specs.Verdicts.{decided_by}
+use Rattle.dft_replay.specs.Verdicts.{bit_decides}
 
 -- what is asked of a compared bit, once its net is known
 abbrev pub asked_of : Compared → Asked
 asked_of c = record { signal = c.signal; printed = c.bit }
 
--- what these values decide, each beside what is asked of it; nothing where all are as printed
-abbrev pub decided_seen : (vector : ℕ) → List Asked → (seen : List Tri) → Option Verdict
-decided_seen v [] seen = None
-decided_seen v (bit ∷ asked) [] = None
-decided_seen v (bit ∷ asked) (value ∷ seen) = decided_by v bit.signal value bit.printed (decided_seen v asked seen)
+-- what these values decide, each beside what is asked of it
+abbrev pub decided_seen : Unknowns → (vector : ℕ) → List Asked → (seen : List Tri) → Option Verdict
+decided_seen u v [] seen = None
+decided_seen u v (bit ∷ asked) [] = None
+decided_seen u v (bit ∷ asked) (value ∷ seen) = bit_decides u v bit.signal value bit.printed (decided_seen u v asked seen)
 
 -- what is asked is of one of so many signals
 abbrev pub AreBefore : (signals : ℕ) → List Asked → Type 0

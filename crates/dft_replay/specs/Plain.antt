@@ -10,10 +10,12 @@ use Rattle.dft_netlist.specs.Settled.{value_given}
 use Rattle.dft_netlist.specs.Runs.{Vector}
 use Rattle.dft_abstract.specs.Cycle.{Pulse, changes, view_sources, next_value, after_pulse, rise_of, fall_of, strobe_sources}
 use Rattle.dft_patterns.specs.Patterns.{Patterns}
+use Rattle.dft_replay.specs.declared.verdict.Unknowns.{Unknowns}
+use Rattle.dft_replay.specs.declared.verdict.Unknowns.TheVariants.{Stop}
 use Rattle.dft_replay.specs.declared.verdict.Verdict.{Verdict}
 use Rattle.dft_replay.specs.declared.verdict.Verdict.TheVariants.{Pass}
 use Rattle.dft_replay.specs.Rows.{Row, rows_of, ports_of}
-use Rattle.dft_replay.specs.Verdicts.{decided, HasVerdict}
+use Rattle.dft_replay.specs.Verdicts.{bits_decide, HasVerdict}
 
 -- ---- maps as lists
 
@@ -75,25 +77,29 @@ abbrev pub plain_fall : Logic → Size → Vector → (old up : List Tri) → Pu
 plain_fall l s x old up = fall_of l x (value_at old) (view_values l (rise_of l x (value_at old)) (value_at up) s.levels)
 
 -- what a vector comes to at the maps of its halves, where the vectors after it come to `later` of the values of the cells
-abbrev pub plain_at : Logic → Size → (vector : ℕ) → Row → (old up down : List Tri) → (later : List Tri → Verdict) → Verdict
-plain_at l s v x old up down later =
-    or_later (decided (strobe_values l x.vector (value_at old) s.levels) v x.compared)
+abbrev pub plain_at : Unknowns → Logic → Size → (vector : ℕ) → Row → (old up down : List Tri) → (later : List Tri → Verdict) → Verdict
+plain_at u l s v x old up down later =
+    or_later (bits_decide u (strobe_values l x.vector (value_at old) s.levels) v x.compared)
     (later (table s.cells (after_pulse l (plain_fall l s x.vector old up) (view_values l (plain_fall l s x.vector old up) (value_at down) s.levels))))
 
 -- the same at the map of the falls behind these rises
-abbrev pub plain_down : Logic → Size → (vector : ℕ) → Row → (old up : List Tri) → (later : List Tri → Verdict) → Verdict
-plain_down l s v x old up later = plain_at l s v x old up (plain_map l (plain_fall l s x.vector old up) s) later
+abbrev pub plain_down : Unknowns → Logic → Size → (vector : ℕ) → Row → (old up : List Tri) → (later : List Tri → Verdict) → Verdict
+plain_down u l s v x old up later = plain_at u l s v x old up (plain_map l (plain_fall l s x.vector old up) s) later
 
-abbrev pub plain_from : Logic → Size → (old : List Tri) → (vector compared : ℕ) → List Row → Verdict
-plain_from l s old v compared [] = Pass compared
-plain_from l s old v compared (x ∷ xs) =
-    plain_down l s v x old (plain_map l (rise_of l x.vector (value_at old)) s) (λ next. plain_from l s next (suc v) (compared + length x.compared) xs)
+abbrev pub plain_from : Unknowns → Logic → Size → (old : List Tri) → (vector compared : ℕ) → List Row → Verdict
+plain_from u l s old v compared [] = Pass compared
+plain_from u l s old v compared (x ∷ xs) =
+    plain_down u l s v x old (plain_map l (rise_of l x.vector (value_at old)) s) (λ next. plain_from u l s next (suc v) (compared + length x.compared) xs)
 
 abbrev pub size_of : Netlist → Size
 size_of n = record { levels = suc (length n.nets); cells = length n.instances }
 
+-- what the plain replay comes to, where unknown bits stop it or are passed over
+abbrev pub plain_end : Unknowns → Netlist → Patterns → Verdict
+plain_end u n p = plain_from u (logic_of n (ports_of n p)) (size_of n) [] 0 0 (rows_of n p)
+
 abbrev pub plain_verdict : Netlist → Patterns → Verdict
-plain_verdict n p = plain_from (logic_of n (ports_of n p)) (size_of n) [] 0 0 (rows_of n p)
+plain_verdict n p = plain_end Stop n p
 
 -- Patterns have a verdict on every design with an order, and the plain replay gives it.
 abbrev pub VerdictIsPlain : Type 0

@@ -10,9 +10,10 @@ use Rattle.dft_cycle.specs.Machine.{Machine, value_at, logic}
 use Rattle.dft_cycle.specs.MachineLaws.{IsForced}
 use Rattle.dft_patterns.specs.declared.act.Act.{Act}
 use Rattle.dft_patterns.specs.declared.act.Act.TheVariants.{Unset, Low, High, Pulse, ExpectLow, ExpectHigh, Ignore}
+use Rattle.dft_replay.specs.declared.verdict.Unknowns.{Unknowns}
 use Rattle.dft_replay.specs.declared.verdict.Verdict.{Verdict}
 use Rattle.dft_replay.specs.Rows.{Row, is_pulse}
-use Rattle.dft_replay.specs.Verdicts.{decided}
+use Rattle.dft_replay.specs.Verdicts.{bits_decide}
 
 -- ---- ports
 
@@ -72,12 +73,12 @@ pub record AreClocks (m : Machine) (nets : List NetId) (signals : List ℕ) (act
   pub pulsing : (signal : ℕ) → is_pulse (act_at acts signal) ≡ true → Has signals signal
 
 -- the machine went through a vector, whose strobe decided this
-pub record IsPlayed (m : Machine) (x : Row) (vector : ℕ) (decision : Option Verdict) (after : Machine) : Type 0 where
+pub record IsPlayed (u : Unknowns) (m : Machine) (x : Row) (vector : ℕ) (decision : Option Verdict) (after : Machine) : Type 0 where
   pub netlist : after.netlist ≡ m.netlist
   pub clocks : after.clocks ≡ m.clocks
   pub inputs : (net : ℕ) → value_at after.inputs net ≡ x.vector.ports net
   pub forced : IsForced after
   pub round : Round
   pub holds : IsRound (logic m) x.vector (value_at m.cells) round
-  pub says : decision ≡ decided round.strobe vector x.compared
+  pub says : decision ≡ bits_decide u round.strobe vector x.compared
   pub cells : (cell : ℕ) → value_at after.cells cell ≡ after_round (logic m) x.vector (value_at m.cells) round cell

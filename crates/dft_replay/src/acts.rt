@@ -4,9 +4,9 @@ ghost use Rattle.std.specs.Prelude.{◌≡◌, false, length, map, IfOk, None};
 ghost use Rattle.dft_base.specs.declared.tri.Tri.{Tri};
 ghost use Rattle.dft_replay.specs.Rows as rows;
 ghost use Rattle.dft_replay.specs.Vectors as spec;
-ghost use Rattle.dft_replay.specs.Verdicts.{decided_by};
+ghost use Rattle.dft_replay.specs.Verdicts.{at_unknown, bit_decides};
 
-use crate::verdict::Verdict;
+use crate::verdict::{Unknowns, Verdict};
 use dft_base::Tri;
 use dft_netlist::NetId;
 use dft_patterns::{Act, Acts};
@@ -61,13 +61,29 @@ pub(crate) fn printed(act: Act) -> Option<bool>
 }
 
 // What a compared bit comes to where its value is not as printed.
-pub(crate) fn differs(vector: u32, signal: u32, value: Tri, printed: bool) -> Option<Verdict>
-    ensures { result ≡ decided_by vector signal value printed None }
+pub(crate) fn differs(
+    unknowns: Unknowns,
+    vector: u32,
+    signal: u32,
+    value: Tri,
+    printed: bool,
+) -> Option<Verdict>
+    ensures { result ≡ bit_decides unknowns vector signal value printed None }
 {
     match (value, printed) {
-        (Tri::Unknown, _) => Some(Verdict::Undetermined { vector, signal }),
+        (Tri::Unknown, _) => undetermined(unknowns, vector, signal),
         (Tri::Zero, true) | (Tri::One, false) => Some(Verdict::Mismatch { vector, signal }),
         (Tri::Zero, false) | (Tri::One, true) => None,
+    }
+}
+
+// What an unknown bit comes to.
+fn undetermined(unknowns: Unknowns, vector: u32, signal: u32) -> Option<Verdict>
+    ensures { result ≡ at_unknown unknowns vector signal None }
+{
+    match unknowns {
+        Unknowns::Stop => Some(Verdict::Undetermined { vector, signal }),
+        Unknowns::Skip => None,
     }
 }
 

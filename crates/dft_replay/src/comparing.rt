@@ -11,7 +11,7 @@ ghost use Rattle.dft_replay.specs.Rows.{compared_from};
 ghost use Rattle.dft_replay.specs.Verdicts.{IsPlaced};
 
 use crate::acts::{differs, printed};
-use crate::verdict::Verdict;
+use crate::verdict::{Unknowns, Verdict};
 use dft_base::Tri;
 use dft_cycle::AbstractMachine;
 use dft_netlist::NetId;
@@ -54,14 +54,14 @@ pub(crate) fn list_compared(
 }
 
 // What the first of these bits that does not have the printed value comes to, if there is one.
-fn decide(vector: u32, asked: &[Asked], seen: &[Tri]) -> Option<Verdict>
+fn decide(unknowns: Unknowns, vector: u32, asked: &[Asked], seen: &[Tri]) -> Option<Verdict>
     requires { length seen.now ≡ length asked.now }
-    ensures first { result ≡ decided_seen vector asked.now seen.now }
+    ensures first { result ≡ decided_seen unknowns vector asked.now seen.now }
     ensures placed { (vectors signals : ℕ) → vector < vectors → AreBefore signals asked.now → IfSome result (IsPlaced vectors signals) }
 {
     for (place, value) in seen.iter().enumerate() {
         let bit = asked[place];
-        let decision = differs(vector, bit.signal, *value, bit.printed);
+        let decision = differs(unknowns, vector, bit.signal, *value, bit.printed);
         if decision.is_some() {
             return decision;
         }
@@ -72,6 +72,7 @@ fn decide(vector: u32, asked: &[Asked], seen: &[Tri]) -> Option<Verdict>
 // What the values of these nets at a strobe come to, compared with what is printed.
 pub(crate) fn compare(
     machine: &mut AbstractMachine<'_>,
+    unknowns: Unknowns,
     vector: u32,
     wanted: &[NetId],
     asked: &[Asked],
@@ -82,10 +83,10 @@ pub(crate) fn compare(
     ensures same { machine.new ≡ machine.old }
     ensures room { length seen.new ≡ length seen.old }
     ensures first { (values : ℕ → Tri) → IsStrobe (logic machine.old) (value_at machine.old.inputs) (value_at machine.old.cells) values
-        → result ≡ decided_seen vector asked.now (map (λ net. values net.0) wanted.now) }
+        → result ≡ decided_seen unknowns vector asked.now (map (λ net. values net.0) wanted.now) }
     ensures placed { (vectors signals : ℕ) → vector < vectors → AreBefore signals asked.now → IfSome result (IsPlaced vectors signals) }
 {
     let row = &mut seen[..wanted.len()];
     machine.look(wanted, row);
-    decide(vector, asked, row)
+    decide(unknowns, vector, asked, row)
 }

@@ -12,7 +12,7 @@ ghost use Rattle.dft_replay.specs.Verdicts.{IsPlaced};
 
 use crate::acts::{act_at, differ, mark, set_by};
 use crate::comparing::{Asked, compare, list_compared};
-use crate::verdict::Verdict;
+use crate::verdict::{Unknowns, Verdict};
 use dft_base::Tri;
 use dft_cycle::AbstractMachine;
 use dft_netlist::NetId;
@@ -65,6 +65,7 @@ pub(crate) fn play(
     nets: &[NetId],
     clocks: &[usize],
     room: &mut Room,
+    unknowns: Unknowns,
     vector: u32,
     acts: &[Act],
 ) -> Option<Verdict>
@@ -75,14 +76,21 @@ pub(crate) fn play(
     requires acts { length acts.now ≡ length nets.now }
     requires clocks { AreClocks machine.old nets.now clocks.now acts.now }
     requires room { HasRoom (length clocks.now) (length nets.now) room.old }
-    ensures played { IsPlayed machine.old (row_of (numbers_of nets.now) (value_at machine.old.inputs) acts.now) vector result machine.new }
+    ensures played { IsPlayed unknowns machine.old (row_of (numbers_of nets.now) (value_at machine.old.inputs) acts.now) vector result machine.new }
     ensures placed { (vectors : ℕ) → vector < vectors → IfSome result (IsPlaced vectors (length nets.now)) }
     ensures room { HasRoom (length clocks.now) (length nets.now) room.new }
     ensures counted { length room.new.asked.items ≡ count_by is_compared acts.now }
 {
     set_inputs(machine, nets, acts);
     list_compared(nets, acts, &mut room.wanted, &mut room.asked);
-    let decision = compare(machine, vector, &room.wanted, &room.asked, &mut room.seen);
+    let decision = compare(
+        machine,
+        unknowns,
+        vector,
+        &room.wanted,
+        &room.asked,
+        &mut room.seen,
+    );
     mark(clocks, acts, &mut room.pulsed);
     machine.pulse(&room.pulsed);
     decision

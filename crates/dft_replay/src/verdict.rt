@@ -1,3 +1,12 @@
+/// What a compared bit does whose value is not known.
+#[derive(Clone, Copy, Debug, PartialEq, Eq)]
+pub enum Unknowns {
+    /// It stops the replay.
+    Stop,
+    /// It is passed over.
+    Skip,
+}
+
 /// What patterns come to on a design. Vectors and signals are numbered from 0.
 #[derive(Clone, Copy, Debug, PartialEq, Eq)]
 pub enum Verdict {

@@ -1,7 +1,11 @@
 -- When a command is answered.
-use Rattle.std.proofs.Common.{ℕ, ◌≡◌, ◌⊎◌, inl, inr, List, refl, sym, ap, subst, Option, None, Some}
+use Rattle.std.proofs.Common.{ℕ, ◌≡◌, ◌⊎◌, inl, inr, List, length, refl, sym, ap, subst, Option, None, Some}
 use Rattle.dft_files.specs.Outside.{Held}
-use Rattle.dft_command_line.specs.Words.{AreFor, Certify, CertifyFiles, Command, Compile, CompileFiles, Generate, Replay, ReplayFiles, Scan, ScanFiles}
+use Rattle.dft_netlist.specs.Netlist.{Netlist}
+use Rattle.dft_patterns.specs.Patterns.{Patterns}
+use Rattle.dft_replay.specs.declared.verdict.Verdict.{Verdict}
+use Rattle.dft_replay.specs.declared.verdict.Verdict.TheVariants as verdict
+use Rattle.dft_command_line.specs.Words.{AreFor, Certify, CertifyFiles, Command, Compile, CompileFiles, Generate, Grade, GradeFiles, Replay, ReplayFiles, Scan, ScanFiles}
 use Rattle.dft_command_line.proofs.Understood.{for_once}
 use Rattle.dft_answers.specs.declared.answer.Answer.{Answer}
 use Rattle.dft_answers.specs.declared.answer.Status.TheVariants.{Done, OutOfMemory}
@@ -11,9 +15,11 @@ use Rattle.dft_answers.specs.declared.outcome.Replayed.TheVariants.{Passed, Mism
 use Rattle.dft_answers.specs.declared.outcome.Work.TheVariants.{Replayed, Scanned, Compiled, Certified}
 use Rattle.dft_answers.specs.Answers.{status_of}
 use Rattle.dft_top.specs.Courses.{IsPassing, Reaches}
-use Rattle.dft_top.specs.Outcomes.{IsOutcomeFor, course_of, course_of_replay}
-use Rattle.dft_top.specs.Run.{CompletesTold, EndsFor, IsAnswered, IsDelivered, IsOf, IsPassed, NoneFailed, Seen, Suits, ToldFor}
+use Rattle.dft_top.specs.Outcomes.{IsOutcomeFor, IsOutcomeOfVerdict, course_of, course_of_grade, course_of_replay, outcome_of, signal_name}
+use Rattle.dft_top.specs.Promises.{replay_of}
+use Rattle.dft_top.specs.Run.{CompletesTold, EndsFor, IsAnswered, IsByVerdict, IsDelivered, IsOf, IsPassed, NoneFailed, Seen, Suits, ToldFor}
 use Rattle.dft_top.proofs.Determined.{passing_reaches, reaches_one}
+use Rattle.dft_top.proofs.Gradings.{grades_done, is_replayed}
 use Rattle.dft_top.proofs.OneOutcome.{determined}
 use Rattle.dft_top.proofs.JobReplays.{JobsPass}
 use Rattle.dft_top.proofs.Replays.{IsAccepted}
@@ -31,6 +37,17 @@ replay_answered files held (outcome.Finished (Replayed (Mismatch vector signal))
 replay_answered files held (outcome.Finished (Replayed (Undetermined vector signal))) suits accepts is =
     inr (refl, λ passed. let e = passed_alone files held (outcome.Finished (Replayed (Undetermined vector signal))) is passed in cc)
 replay_answered files held o suits accepts is = absurd suits
+
+-- a grading, by the verdict of its replay
+graded_answered : (files : ReplayFiles) (held : Held) (n : Netlist) (p : Patterns) (v : Verdict) (o : Outcome) → IsAccepted o → IsOutcomeOfVerdict n p v o → Reaches (course_of_replay files) held (outcome_of p v) → IsByVerdict files held (status_of o)
+graded_answered files held n p (verdict.Pass compared) o accepts comes replay = inl (grades_done n p o accepts comes, record { vectors = length p.vectors; compared = compared; is = replay })
+graded_answered files held n p (verdict.Mismatch vector signal) o accepts comes replay =
+    inr (ap status_of comes, λ passed. let e = passed_alone files held (outcome.Finished (Replayed (Mismatch vector (signal_name p.signals signal)))) replay passed in cc)
+graded_answered files held n p (verdict.Undetermined vector signal) o accepts comes replay =
+    inr (ap status_of comes, λ passed. let e = passed_alone files held (outcome.Finished (Replayed (Undetermined vector (signal_name p.signals signal)))) replay passed in cc)
+
+grade_answered : (files : GradeFiles) (held : Held) (o : Outcome) → IsAccepted o → Reaches (course_of_grade files) held o → IsByVerdict (replay_of files) held (status_of o)
+grade_answered files held o accepts is = (let r = is_replayed files held o accepts is in graded_answered (replay_of files) held r.netlist r.patterns r.verdict_of o accepts r.comes r.replay)
 
 scan_done : (files : ScanFiles) (o : Outcome) → IsOf (Scan files) o → IsAccepted o → status_of o ≡ Done
 scan_done files (outcome.Refused refusal) suits accepts = absurd (accepts refusal refl)
@@ -53,6 +70,7 @@ answered pass (Scan files) held o suits accepts is = scan_done files o suits acc
 answered pass (Compile files) held o suits accepts is = compile_done files o suits accepts
 answered pass (Certify files) held o suits accepts is = certify_done files o suits accepts
 answered pass (Generate numbers) held o suits accepts is = pass numbers o accepts is
+answered pass (Grade files) held o suits accepts is = grade_answered files held o accepts is
 
 -- ---- of a run
 
@@ -93,6 +111,8 @@ said_for (Some (Compile files)) None Q follows = tt
 said_for (Some (Compile files)) (Some held) Q follows = follows held (λ o is. is)
 said_for (Some (Certify files)) None Q follows = tt
 said_for (Some (Certify files)) (Some held) Q follows = follows held (λ o is. is)
+said_for (Some (Grade files)) None Q follows = tt
+said_for (Some (Grade files)) (Some held) Q follows = follows held (λ o is. is)
 said_for (Some (Generate numbers)) told Q follows = λ held. follows held (λ o is. is held)
 
 pub completes_for : JobsPass → (words : List (List ℕ)) (command : Option Command) (before after : Seen) (answer : Answer) → AreFor words command → EndsFor command before after answer → CompletesTold words before after answer

@@ -10,7 +10,7 @@ use Rattle.dft_replay.specs.Verdicts.{HasVerdict}
 use Rattle.dft_replay.specs.Rows.{ports_of}
 use Rattle.dft_replay.proofs.Soundness.{verdict_holds}
 use Rattle.dft_compile_laws.proofs.Running.{sets_run}
-use Rattle.dft_command_line.specs.Words.{AreFor, Command, Replay, ReplayFiles}
+use Rattle.dft_command_line.specs.Words.{AreFor, Command, Grade, GradeFiles, Replay, ReplayFiles}
 use Rattle.dft_command_line.proofs.Understood.{for_once}
 use Rattle.dft_answers.specs.declared.answer.Answer.{Answer}
 use Rattle.dft_answers.specs.declared.answer.Status.TheVariants.{NotPassed}
@@ -18,9 +18,10 @@ use Rattle.dft_answers.specs.declared.outcome.Outcome.{Outcome}
 use Rattle.dft_answers.specs.Answers.{status_of}
 use Rattle.dft_top.specs.Checks.{LibraryGives, NetlistGives, PatternsGive}
 use Rattle.dft_top.specs.Courses.{Reaches}
-use Rattle.dft_top.specs.Outcomes.{IsOutcomeOn, course_of_replay, outcome_of}
-use Rattle.dft_top.specs.Promises.{Fails}
-use Rattle.dft_top.specs.Run.{EndsFor, FailsTold, IsDelivered, IsOutcomeTold, Seen}
+use Rattle.dft_top.specs.Outcomes.{IsOutcomeOn, course_of_grade, course_of_replay, outcome_of}
+use Rattle.dft_top.specs.Promises.{Fails, replay_of}
+use Rattle.dft_top.specs.Run.{EndsFor, FailsTold, IsDelivered, IsOutcomeTold, Seen, UngradedTold}
+use Rattle.dft_top.proofs.Gradings.{unpassed_replays}
 use Rattle.dft_top.proofs.Promised.{design_of}
 use Rattle.dft_top.proofs.Replays.{IsAccepted, on_verdict, then_accepts}
 use Rattle.dft_top.proofs.Steps.{ReplayOn, ReplayOver}
@@ -66,6 +67,11 @@ told_fails : (files : ReplayFiles) (held : Option Held) (o : Outcome) → status
 told_fails files None o failed told = tt
 told_fails files (Some held) o failed told = fails files held o failed told
 
+-- a grading that does not pass is a replay that does not
+told_ungraded : (files : GradeFiles) (held : Option Held) (o : Outcome) → status_of o ≡ NotPassed → Told (λ h. Reaches (course_of_grade files) h o) held → Told (Fails (replay_of files)) held
+told_ungraded files None o failed told = tt
+told_ungraded files (Some held) o failed told = fails (replay_of files) held o failed (unpassed_replays files held o (no_refusal o failed) failed told)
+
 -- ---- of a run
 
 -- a run that answers NotPassed came to such an outcome
@@ -90,3 +96,9 @@ fails_for words command before after answer are ended files is failed =
     let ends = subst (λ (command : Option Command). EndsFor command before after answer) (for_once words command (Some (Replay files)) are is) ended in
     let d = ends_failed (Some (Replay files)) before after answer ends failed in
     told_fails files before.held d.o d.failed d.told.told
+
+pub ungraded_for : (words : List (List ℕ)) (command : Option Command) (before after : Seen) (answer : Answer) → AreFor words command → EndsFor command before after answer → UngradedTold words before.held answer
+ungraded_for words command before after answer are ended files is failed =
+    let ends = subst (λ (command : Option Command). EndsFor command before after answer) (for_once words command (Some (Grade files)) are is) ended in
+    let d = ends_failed (Some (Grade files)) before after answer ends failed in
+    told_ungraded files before.held d.o d.failed d.told.told

@@ -21,7 +21,7 @@ not_less : (limit bytes : ℕ) → nat_lt limit bytes ≡ false → bytes ≤ li
 not_less = grind (arith, nat_tests)
 
 -- what is refused past a limit, and is not refused, is within it
-within : {E : Type 0} (limit bytes : ℕ) (error : E) (t : Bool) → nat_lt limit bytes ≡ t → (if t then Some error else None) ≡ None → bytes ≤ limit
+pub within : {E : Type 0} (limit bytes : ℕ) (error : E) (t : Bool) → nat_lt limit bytes ≡ t → (if t then Some error else None) ≡ None → bytes ≤ limit
 within limit bytes error true is none = absurd cc
 within limit bytes error false is none = not_less limit bytes is
 

@@ -14,6 +14,7 @@ pub mod Promised
 pub mod ScannedDesigns
 pub mod Kept
 pub mod Replays
+pub mod Gradings
 pub mod JobReplays
 pub mod SavedFiles
 pub mod Lengths

@@ -1,10 +1,11 @@
 -- What Done says of the files of a command.
-use Rattle.std.proofs.Common.{ℕ, ◌≡◌, ◌∙◌, inl, inr, List, [], ◌∷◌, codes, refl, sym, ap, subst, Option, None, Some, Result, Ok}
+use Rattle.std.proofs.Common.{ℕ, zero, suc, ◌≡◌, ◌∙◌, inl, inr, List, [], ◌∷◌, codes, length, nat_lt, refl, sym, ap, subst, Option, None, Some, Result, Ok}
 use Rattle.dft_base.proofs.TextLemmas.{differ}
 use Rattle.dft_files.specs.Outside.{Held, Told, ToldChange, file_at}
 use Rattle.dft_cells.specs.declared.cell.Cell.{Cell}
 use Rattle.dft_config.specs.Config.{Config}
 use Rattle.dft_netlist.specs.Netlist.{Netlist}
+use Rattle.dft_netlist.specs.Drivers.{IsOrdered}
 use Rattle.dft_netlist.specs.Orders.{IsOrder}
 use Rattle.dft_netlist.specs.Sound.{IsNetlist}
 use Rattle.dft_netlist_text.specs.NetlistText.{StandsFor}
@@ -17,6 +18,13 @@ use Rattle.dft_replay.specs.Fits.{first_misfit}
 use Rattle.dft_replay.specs.Rows.{ports_of}
 use Rattle.dft_replay.specs.Verdicts.{HasVerdict}
 use Rattle.dft_replay.proofs.Soundness.{pass_sound}
+use Rattle.dft_faults.specs.declared.fault.Fault.{Fault}
+use Rattle.dft_faults.specs.Faulty.{faulty}
+use Rattle.dft_faults.proofs.Finished.{order_stays}
+use Rattle.dft_grade.specs.declared.found.Graded.{Graded}
+use Rattle.dft_grade.specs.AllGrades.{AreGrades, faults_in}
+use Rattle.dft_grade.proofs.AllOfThem.{AreFaults, all_fail, listed_are}
+use Rattle.dft_grade_report.specs.Written.{report_text as fault_report}
 use Rattle.dft_scan_behavior.proofs.PlainShifts.{scanned_shifts, scanned_shows}
 use Rattle.dft_scan_behavior.proofs.Reaching.{loads_reach, unloads_show}
 use Rattle.dft_scan_hardware.proofs.Keeping.{adds_in_order, keeps_design}
@@ -31,6 +39,7 @@ use Rattle.dft_stitch.specs.Chains.{plan_of}
 use Rattle.dft_stitch.specs.Plans.{Plan}
 use Rattle.dft_load_laws.specs.Loading.{rows_of}
 use Rattle.dft_load_laws.proofs.Running.{loads_run}
+use Rattle.dft_report.specs.declared.error.ReportError.{ReportError}
 use Rattle.dft_report.specs.declared.report.Report.{Report}
 use Rattle.dft_certify.specs.declared.error.CertifyError.{CertifyError}
 use Rattle.dft_certify.specs.Certifying.{certify_refusal}
@@ -40,32 +49,32 @@ use Rattle.dft_cubes.specs.declared.cube.Cube.{Cube}
 use Rattle.dft_cubes.specs.Laws.{AreCubes}
 use Rattle.dft_cubes.proofs.SoundLemmas.{cubes_sound}
 use Rattle.dft_compile_laws.specs.Holding.{CompilationsHold, HoldsOf}
-use Rattle.dft_compile_laws.proofs.Running.{sets_run}
+use Rattle.dft_compile_laws.proofs.Running.{ranked_run, sets_run}
 use Rattle.dft_vectors.specs.PatternData.{PatternData}
 use Rattle.dft_encode.specs.Compiled.{ArePatterns, Placing}
 use Rattle.dft_compile.specs.declared.error.CompileError.{CompileError}
-use Rattle.dft_compile.specs.Refusals.{first_refusal}
+use Rattle.dft_compile.specs.Refusals.{first_refusal, too_long}
 use Rattle.dft_compile.specs.Texts as compiled
-use Rattle.dft_command_line.specs.Words.{Command, Replay, Scan, Compile, Certify, ReplayFiles, ScanFiles, CompileFiles, CertifyFiles, AreFor}
+use Rattle.dft_command_line.specs.Words.{Command, Replay, Scan, Compile, Certify, Grade, ReplayFiles, ScanFiles, CompileFiles, CertifyFiles, GradeFiles, AreFor}
 use Rattle.dft_command_line.proofs.Understood.{for_once}
 use Rattle.dft_answers.specs.declared.answer.Answer.{Answer}
 use Rattle.dft_answers.specs.declared.answer.Refusal.{Refusal}
 use Rattle.dft_answers.specs.declared.answer.Status.TheVariants.{Done}
 use Rattle.dft_answers.specs.declared.outcome.Outcome.{Outcome}
 use Rattle.dft_answers.specs.declared.outcome.Outcome.TheVariants as outcome
-use Rattle.dft_top.specs.declared.limits.TheConstants.{MAX_CUBE_BYTES, MAX_NETLIST_BYTES}
+use Rattle.dft_top.specs.declared.limits.TheConstants.{MAX_CUBE_BYTES, MAX_NETLIST_BYTES, MAX_REPORT_BYTES}
 use Rattle.dft_answers.specs.Answers.{status_of}
-use Rattle.dft_answers.specs.Refusals.{compile_refusal, scan_refusal}
+use Rattle.dft_answers.specs.Refusals.{compile_refusal, report_refusal, scan_refusal}
 use Rattle.dft_answers.specs.Refusals as refusals
 use Rattle.dft_top.specs.Checks.{ConfigGives, CubeText, CubesGive, DesignGives, IsDesignOf, IsPlanned, LibraryGives, NetlistGives, NetlistText, PatternsGive, PlanGives, ReportGives}
 use Rattle.dft_top.specs.Courses.{After, Reaches, Then}
-use Rattle.dft_top.specs.Outcomes.{course_of_certify, course_of_compile, course_of_replay, course_of_scan, IsCompiled, IsOutcomeOfReport, IsOutcomeOfTest, IsOutcomeOfCubes, IsOutcomeOfPlacing, IsOutcomeOfScanOf, IsOutcomeOn, IsRefusal, IsScanned, outcome_of, refusal_of}
-use Rattle.dft_top.specs.Promises.{Certifies, Compiles, EveryRunShows, Passes, Scans}
-use Rattle.dft_top.specs.Run.{CertifiesTold, CompilesTold, EndsFor, IsDelivered, IsOutcomeTold, PassesTold, ScansTold, Seen}
+use Rattle.dft_top.specs.Outcomes.{course_of_certify, course_of_compile, course_of_grade, course_of_replay, course_of_scan, graded_as, IsCompiled, IsOutcomeOfGraded, IsOutcomeOfGrading, IsOutcomeOfReport, IsOutcomeOfVerdict, IsOutcomeOfTest, IsOutcomeOfCubes, IsOutcomeOfPlacing, IsOutcomeOfScanOf, IsOutcomeOn, IsRefusal, IsScanned, outcome_of, refusal_of}
+use Rattle.dft_top.specs.Promises.{Certifies, Compiles, EveryRunShows, FaultsRun, Grades, Passes, Scans}
+use Rattle.dft_top.specs.Run.{CertifiesTold, CompilesTold, EndsFor, GradesTold, IsDelivered, IsOutcomeTold, PassesTold, ScansTold, Seen}
 use Rattle.dft_top.specs.Saves.{AreSaved, HaveSaved, Saving, savings}
-use Rattle.dft_top.proofs.Lengths.{late_short}
+use Rattle.dft_top.proofs.Lengths.{late_short, within}
 use Rattle.dft_top.proofs.Readings.{text_of}
-use Rattle.dft_top.proofs.Steps.{CertifyFor, CertifyOf, CertifyOn, CertifyOver, CertifyWith, CompileOf, CompileOn, CompileOver, CompileWith, ReplayOn, ReplayOver, ScanOn, ScanOver}
+use Rattle.dft_top.proofs.Steps.{CertifyFor, CertifyOf, CertifyOn, CertifyOver, CertifyWith, CompileOf, CompileOn, CompileOver, CompileWith, GradeOn, GradeOver, ReplayOn, ReplayOver, ScanOn, ScanOver}
 
 not_done : (refusal : Refusal) (o : Outcome) → o ≡ outcome.Refused refusal → status_of o ≡ Done → ⊥
 not_done refusal o is done = let e = ap status_of is in cc
@@ -322,6 +331,75 @@ certifies exact never files held o done h =
       carried = λ ports suits table. loads_run n c ports table p.1.0.ready suits;
     }
 
+-- ---- a grading
+
+-- what a grading that is done came to
+record IsGradedDone (n : Netlist) (p : Patterns) (misfit : Option (List ℕ)) (o : Outcome) : Type 0 where
+  fit : misfit ≡ None
+  passed : (compared : ℕ) × HasVerdict n p (verdict.Pass compared)
+  graded : List Graded
+  are : AreGrades n p graded
+  short : too_long (fault_report n p graded) ≡ None
+  is : o ≡ graded_as n p graded
+
+graded_done : (n : Netlist) (p : Patterns) (compared : ℕ) (graded : List Graded) (long : Option ReportError) (o : Outcome) → too_long (fault_report n p graded) ≡ long → status_of o ≡ Done → HasVerdict n p (verdict.Pass compared) → AreGrades n p graded →
+    IsOutcomeOfGraded n p graded long o → IsGradedDone n p None o
+graded_done n p compared graded (Some error) o length_is done has are is = absurd (refusal_not_done (report_refusal error) o is done)
+graded_done n p compared graded None o length_is done has are is = record { fit = refl; passed = (compared, has); graded = graded; are = are; short = length_is; is = is }
+
+verdict_graded : (n : Netlist) (p : Patterns) (v : Verdict) (o : Outcome) → status_of o ≡ Done → HasVerdict n p v → IsOutcomeOfVerdict n p v o → IsGradedDone n p None o
+verdict_graded n p (verdict.Pass compared) o done has x = graded_done n p compared x.0 (too_long (fault_report n p x.0)) o refl done has x.1.0 x.1.1
+verdict_graded n p (verdict.Mismatch vector signal) o done has is = absurd (let e = ap status_of is in cc)
+verdict_graded n p (verdict.Undetermined vector signal) o done has is = absurd (let e = ap status_of is in cc)
+
+grading_done : (n : Netlist) (p : Patterns) (misfit : Option (List ℕ)) (o : Outcome) → status_of o ≡ Done → IsOutcomeOfGrading n p misfit o → IsGradedDone n p misfit o
+grading_done n p (Some name) o done is = absurd (not_done _ o is done)
+grading_done n p None o done is = verdict_graded n p is.0 o done is.1.0 is.1.1
+
+faults_run : (n : Netlist) (rank : ℕ → ℕ) (p : Patterns) (graded : List Graded) → IsOrdered n rank → AreFaults n (faults_in graded) → FaultsRun n p graded
+faults_run n rank p [] ordered are = tt
+faults_run n rank p (g ∷ graded) ordered are = (
+  λ start low. ranked_run (faulty n g.fault) rank p (ports_of (faulty n g.fault) p) start (order_stays n g.fault rank (are zero g.fault refl) ordered) low,
+  faults_run n rank p graded ordered (λ place f at. are (suc place) f at),
+)
+
+-- what is saved of a grading
+abbrev one_saving : (files : GradeFiles) → Netlist → Patterns → List Graded → List Saving
+one_saving files n p graded = record { name = files.out; bytes = fault_report n p graded } ∷ []
+
+grades : (files : GradeFiles) (old new : Held) (o : Outcome) → status_of o ≡ Done → Reaches (course_of_grade files) old o → HaveSaved (savings (Some (Grade files)) o) (Some old) (Some new) → Grades files old new
+grades files old new o done h saved =
+    let x = then_done (LibraryGives files.library old) (GradeOver files old) o done h in
+    let y = then_done (NetlistGives x.0 files.netlist old) (GradeOn files old) o done x.1.1 in
+    let n = y.0 in
+    let z = then_done (PatternsGive files.patterns old) (λ p. IsOutcomeOfGrading n p (first_misfit n p.signals)) o done y.1.1 in
+    let p = z.0 in
+    let d = grading_done n p (first_misfit n p.signals) o done z.1.1 in
+    let graded = d.graded in
+    let design = design_of x.0 files.netlist old n y.1.0 in
+    let ranked = order_ranks n design.1.order design.1.sound design.1.ordered in
+    let left : AreSaved (one_saving files n p graded) old new = subst (λ (end : Outcome). HaveSaved (savings (Some (Grade files)) end) (Some old) (Some new)) d.is saved in record {
+      replay = record {
+        cells = x.0;
+        library = x.1.0;
+        netlist = n;
+        design = y.1.0;
+        patterns = p;
+        vectors = z.1.0;
+        fit = d.fit;
+        passed = d.passed;
+        shown = every_run x.0 design.0 n p design.1 d.passed;
+        runs = λ start low. sets_run n design.1.order p (ports_of n p) start design.1.sound design.1.ordered low;
+      };
+      graded = graded;
+      are = d.are;
+      short = within MAX_REPORT_BYTES (length (fault_report n p graded)) _ (nat_lt MAX_REPORT_BYTES (length (fault_report n p graded))) refl d.short;
+      out = left.whole.0;
+      others = λ name a. left.others name (differ files.out name (λ e. a (sym e)), tt);
+      fail = all_fail n ranked.0 p graded ranked.1 d.are;
+      run = faults_run n ranked.0 p graded ranked.1 (subst (AreFaults n) (sym d.are.faults) (listed_are n p));
+    }
+
 -- ---- of a run
 
 -- what a run that answers Done came to
@@ -369,6 +447,11 @@ told_certifies : CertifiedExactly → CertifiedInRuns → (files : CertifyFiles)
 told_certifies exact never files None o done told = tt
 told_certifies exact never files (Some held) o done told = certifies exact never files held o done told
 
+told_grades : (files : GradeFiles) (held held' : Option Held) (o : Outcome) → status_of o ≡ Done → Told (λ h. Reaches (course_of_grade files) h o) held → HaveSaved (savings (Some (Grade files)) o) held held' → ToldChange (Grades files) held held'
+told_grades files None held' o done told saved = saved_untold (savings (Some (Grade files)) o) held' saved
+told_grades files (Some old) None o done told saved = saved_lost (savings (Some (Grade files)) o) old saved
+told_grades files (Some old) (Some new) o done told saved = grades files old new o done told saved
+
 -- of words that are for a command
 pub passes_for : (words : List (List ℕ)) (command : Option Command) (before after : Seen) (answer : Answer) → AreFor words command → EndsFor command before after answer → PassesTold words before.held answer
 passes_for words command before after answer are ended files is done =
@@ -393,3 +476,9 @@ certifies_for exact never words command before after answer are ended files is d
     let ends = subst (λ (command : Option Command). EndsFor command before after answer) (for_once words command (Some (Certify files)) are is) ended in
     let d = ends_done (Some (Certify files)) before after answer ends done in
     told_certifies exact never files before.held d.o d.done d.told.told
+
+pub grades_for : (words : List (List ℕ)) (command : Option Command) (before after : Seen) (answer : Answer) → AreFor words command → EndsFor command before after answer → GradesTold words before.held after.held answer
+grades_for words command before after answer are ended files is done =
+    let ends = subst (λ (command : Option Command). EndsFor command before after answer) (for_once words command (Some (Grade files)) are is) ended in
+    let d = ends_done (Some (Grade files)) before after answer ends done in
+    told_grades files before.held after.held d.o d.done d.told.told d.saved

@@ -9,11 +9,11 @@ use Rattle.dft_scan.specs.Refusals.{refusal}
 use Rattle.dft_stitch.specs.Planning.{Planned}
 use Rattle.dft_cubes.specs.declared.cube.Cube.{Cube}
 use Rattle.dft_stitch.specs.Plans.{Plan}
-use Rattle.dft_command_line.specs.Words.{ReplayFiles, ScanFiles, CompileFiles, CertifyFiles}
+use Rattle.dft_command_line.specs.Words.{ReplayFiles, ScanFiles, CompileFiles, CertifyFiles, GradeFiles}
 use Rattle.dft_answers.specs.declared.outcome.Outcome.{Outcome}
 use Rattle.dft_top.specs.Checks.{ConfigGives, NetlistGives, PatternsGive}
 use Rattle.dft_top.specs.Courses.{Reaches, Then}
-use Rattle.dft_top.specs.Outcomes.{IsOutcomeOn, IsOutcomeOfScanOf, course_of_certified, course_of_cubes, course_of_design, course_of_planned, course_of_report}
+use Rattle.dft_top.specs.Outcomes.{IsOutcomeOn, IsOutcomeOfGrading, IsOutcomeOfScanOf, course_of_certified, course_of_cubes, course_of_design, course_of_planned, course_of_report}
 
 -- ---- behind each file of a replay
 
@@ -64,3 +64,11 @@ CertifyWith n config cubes report h plan = Reaches (course_of_certified n config
 -- behind the cubes
 abbrev pub CertifyFor : Netlist → Config → (report : List ℕ) → Held → List Cube → Outcome → Type 0
 CertifyFor n config report h cubes = Reaches (course_of_report n config cubes report) h
+
+-- ---- behind each file of a grading
+
+abbrev pub GradeOn : GradeFiles → Held → Netlist → Outcome → Type 0
+GradeOn files h n = Then (PatternsGive files.patterns h) (λ p. IsOutcomeOfGrading n p (first_misfit n p.signals))
+
+abbrev pub GradeOver : GradeFiles → Held → List Cell → Outcome → Type 0
+GradeOver files h cells = Then (NetlistGives cells files.netlist h) (GradeOn files h)

@@ -2,7 +2,13 @@
 use Rattle.std.proofs.Common.{ℕ, List, Option, None, Some, subst, sym}
 use Rattle.dft_netlist.specs.Netlist.{Netlist}
 use Rattle.dft_patterns.specs.Patterns.{Patterns}
+use Rattle.dft_replay.specs.declared.verdict.Verdict.{Verdict}
+use Rattle.dft_replay.specs.declared.verdict.Verdict.TheVariants as verdict
 use Rattle.dft_replay.specs.Fits.{first_misfit}
+use Rattle.dft_grade.specs.declared.found.Graded.{Graded}
+use Rattle.dft_grade_report.specs.Written.{report_text as fault_report}
+use Rattle.dft_report.specs.declared.error.ReportError.{ReportError}
+use Rattle.dft_compile.specs.Refusals.{too_long}
 use Rattle.dft_config.specs.Config.{Config}
 use Rattle.dft_scan.specs.declared.error.ScanError.{ScanError}
 use Rattle.dft_scan.specs.Refusals.{refusal}
@@ -16,15 +22,15 @@ use Rattle.dft_report.specs.declared.report.Report.{Report}
 use Rattle.dft_load_laws.specs.Loading.{rows_of}
 use Rattle.dft_certify.specs.declared.error.CertifyError.{CertifyError}
 use Rattle.dft_certify.specs.Certifying.{certify_refusal}
-use Rattle.dft_command_line.specs.Words.{Command, Replay, Scan, Compile, Certify, Generate, CertifyFiles, CompileFiles, JobNumbers, ReplayFiles, ScanFiles}
+use Rattle.dft_command_line.specs.Words.{Command, Replay, Scan, Compile, Certify, Generate, Grade, CertifyFiles, CompileFiles, GradeFiles, JobNumbers, ReplayFiles, ScanFiles}
 use Rattle.dft_answers.specs.declared.answer.Refusal.{Refusal}
 use Rattle.dft_answers.specs.declared.outcome.Outcome.{Outcome}
 use Rattle.dft_answers.specs.declared.outcome.Outcome.TheVariants.{Usage, Refused, Finished}
 use Rattle.dft_answers.specs.declared.outcome.Work.TheVariants.{Compiled, Replayed}
-use Rattle.dft_answers.specs.Refusals.{compile_refusal, scan_refusal}
+use Rattle.dft_answers.specs.Refusals.{compile_refusal, report_refusal, scan_refusal}
 use Rattle.dft_answers.specs.Refusals as refusals
 use Rattle.dft_top.specs.Courses.{Allows}
-use Rattle.dft_top.specs.Outcomes.{IsOutcomeOfCubes, IsOutcomeOfPlacing, IsOutcomeOfReport, IsOutcomeOfScanOf, IsOutcomeOfTest, IsOutcomeOn, IsRefusal, IsReplayedOf, course_of, course_of_certify, course_of_compile, course_of_replay, course_of_scan, generated, made_files, made_held, refusal_of}
+use Rattle.dft_top.specs.Outcomes.{IsOutcomeOfCubes, IsOutcomeOfGraded, IsOutcomeOfGrading, IsOutcomeOfPlacing, IsOutcomeOfVerdict, IsOutcomeOfReport, IsOutcomeOfScanOf, IsOutcomeOfTest, IsOutcomeOn, IsRefusal, IsReplayedOf, course_of, course_of_certify, course_of_compile, course_of_grade, course_of_replay, course_of_scan, generated, made_files, made_held, refusal_of}
 use Rattle.dft_top.specs.Run.{IsOf, Suits}
 use Rattle.dft_top.proofs.Following.{allowed_so, reaches_allows}
 
@@ -67,6 +73,22 @@ certify_ends files n c cubes report o is = test_ends files report (certify_refus
 certify_suits : (files : CertifyFiles) (o : Outcome) → Allows (course_of_certify files) o → IsOf (Certify files) o
 certify_suits files o allowed = allowed_so (IsOf (Certify files)) (course_of_certify files) o (λ refusal. tt) (λ cells c n plan cubes report o is. certify_ends files n c cubes report o is) allowed
 
+graded_ends : (files : GradeFiles) (n : Netlist) (p : Patterns) (graded : List Graded) (long : Option ReportError) (o : Outcome) → IsOutcomeOfGraded n p graded long o → IsOf (Grade files) o
+graded_ends files n p graded (Some error) o is = refused_suits (Grade files) o (report_refusal error) is
+graded_ends files n p graded None o is = subst (IsOf (Grade files)) (sym is) tt
+
+verdict_ends : (files : GradeFiles) (n : Netlist) (p : Patterns) (v : Verdict) (o : Outcome) → IsOutcomeOfVerdict n p v o → IsOf (Grade files) o
+verdict_ends files n p (verdict.Pass compared) o x = graded_ends files n p x.0 (too_long (fault_report n p x.0)) o x.1.1
+verdict_ends files n p (verdict.Mismatch vector signal) o is = subst (IsOf (Grade files)) (sym is) tt
+verdict_ends files n p (verdict.Undetermined vector signal) o is = subst (IsOf (Grade files)) (sym is) tt
+
+grade_ends : (files : GradeFiles) (n : Netlist) (p : Patterns) (misfit : Option (List ℕ)) (o : Outcome) → IsOutcomeOfGrading n p misfit o → IsOf (Grade files) o
+grade_ends files n p (Some name) o is = subst (IsOf (Grade files)) (sym is) tt
+grade_ends files n p None o is = verdict_ends files n p is.0 o is.1.1
+
+grade_suits : (files : GradeFiles) (o : Outcome) → Allows (course_of_grade files) o → IsOf (Grade files) o
+grade_suits files o allowed = allowed_so (IsOf (Grade files)) (course_of_grade files) o (λ refusal. tt) (λ cells n p o is. grade_ends files n p (first_misfit n p.signals) o is) allowed
+
 -- a replay of what a compilation made
 generated_ends : (numbers : JobNumbers) (counts : Counts) (replay : Outcome) → IsOf (Replay made_files) replay → IsOf (Generate numbers) (generated counts replay)
 generated_ends numbers counts Usage suits = absurd suits
@@ -88,3 +110,4 @@ suits_of (Some (Scan files)) o allowed = scan_suits files o allowed
 suits_of (Some (Compile files)) o allowed = compile_suits files o allowed
 suits_of (Some (Certify files)) o allowed = certify_suits files o allowed
 suits_of (Some (Generate numbers)) o allowed = replayed_ends numbers allowed.0 o allowed.1.1
+suits_of (Some (Grade files)) o allowed = grade_suits files o allowed

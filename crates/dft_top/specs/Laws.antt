@@ -6,24 +6,29 @@ use Rattle.dft_config.specs.Config.{Config}
 use Rattle.dft_netlist.specs.Drivers.{IsOrdered}
 use Rattle.dft_netlist.specs.Netlist.{Netlist}
 use Rattle.dft_patterns.specs.Patterns.{Patterns}
+use Rattle.dft_replay.specs.declared.verdict.Verdict.TheVariants.{Pass}
 use Rattle.dft_replay.specs.Fits.{first_misfit}
+use Rattle.dft_replay.specs.Verdicts.{HasVerdict}
+use Rattle.dft_grade.specs.declared.found.Graded.{Graded}
+use Rattle.dft_grade.specs.AllGrades.{AreGrades}
+use Rattle.dft_grade_report.specs.Written.{report_text as fault_report}
 use Rattle.dft_scan.specs.Refusals.{refusal}
 use Rattle.dft_scan.specs.Scans.{counts_of, netlist_text, report_text}
 use Rattle.dft_stitch.specs.Chains.{plan_of}
 use Rattle.dft_cubes.specs.declared.cube.Cube.{Cube}
 use Rattle.dft_vectors.specs.PatternData.{PatternData}
 use Rattle.dft_encode.specs.Compiled.{ArePatterns, Placing}
-use Rattle.dft_compile.specs.Refusals.{first_refusal}
+use Rattle.dft_compile.specs.Refusals.{first_refusal, too_long}
 use Rattle.dft_equations.specs.LoadRows.{LoadRows}
 use Rattle.dft_load_laws.specs.Loading.{AreRows, rows_of}
 use Rattle.dft_report.specs.declared.report.Report.{Report}
 use Rattle.dft_certify.specs.Certifying.{certify_refusal, unsolvable_in}
-use Rattle.dft_command_line.specs.Words.{ReplayFiles, ScanFiles, CompileFiles, CertifyFiles, IsReplay, IsScan, IsCompile, IsCertify}
+use Rattle.dft_command_line.specs.Words.{ReplayFiles, ScanFiles, CompileFiles, CertifyFiles, GradeFiles, IsReplay, IsScan, IsCompile, IsCertify, IsGrade}
 use Rattle.dft_answers.specs.declared.outcome.Outcome.{Outcome}
 use Rattle.dft_answers.specs.declared.outcome.Outcome.TheVariants.{Finished}
 use Rattle.dft_answers.specs.declared.outcome.Work.TheVariants.{Scanned, Certified}
 use Rattle.dft_top.specs.Checks.{ConfigGives, CubesGive, LibraryGives, NetlistGives, PatternsGive, ReportGives, plan_refusal}
-use Rattle.dft_top.specs.Outcomes.{IsCompiled, IsOutcome, IsOutcomeOn, refusal_of}
+use Rattle.dft_top.specs.Outcomes.{IsCompiled, IsOutcome, IsOutcomeOn, graded_as, refusal_of}
 
 abbrev pub OutcomeIsOne : Type 0
 OutcomeIsOne = (words : List (List ℕ)) (held : Held) (a b : Outcome) → IsOutcome words held a → IsOutcome words held b → a ≡ b
@@ -64,3 +69,11 @@ PassingIsCertified =
     LibraryGives files.library held (Ok cells) → ConfigGives files.config held (Ok config) → NetlistGives cells files.netlist held (Ok n) → plan_refusal n config ≡ None →
     CubesGive n config files.cubes held (Ok cubes) → ReportGives files.report held (Ok report) → AreRows n config rows →
     certify_refusal n config.ring (rows_of n config rows) rows.columns cubes report ≡ None → IsOutcome words held o → o ≡ Finished (Certified (unsolvable_in report.cubes))
+
+-- where each file of a grading passes its checks, each signal is a bit of a port, the patterns pass, and the report of the grades is not too long, the
+-- faults are graded
+abbrev pub PassingIsGraded : Type 0
+PassingIsGraded =
+    (words : List (List ℕ)) (files : GradeFiles) (held : Held) (cells : List Cell) (n : Netlist) (p : Patterns) (compared : ℕ) (graded : List Graded) (o : Outcome) → IsGrade words files →
+    LibraryGives files.library held (Ok cells) → NetlistGives cells files.netlist held (Ok n) → PatternsGive files.patterns held (Ok p) → first_misfit n p.signals ≡ None → HasVerdict n p (Pass compared) →
+    AreGrades n p graded → too_long (fault_report n p graded) ≡ None → IsOutcome words held o → o ≡ graded_as n p graded

@@ -1,5 +1,5 @@
 -- What a command comes to, from its words and the files that are held.
-use Rattle.std.specs.Prelude.{ℕ, ◌<◌, ◌^◌, ◌≡◌, List, [], ◌∷◌, codes, length, Option, None, Some, option_map, Ok, slice_get}
+use Rattle.std.specs.Prelude.{ℕ, ◌<◌, ◌^◌, ◌≡◌, Bool, true, false, List, [], ◌∷◌, codes, length, Option, None, Some, option_map, Ok, slice_get}
 use Rattle.dft_files.specs.Outside.{Held}
 use Rattle.dft_config.specs.Config.{Config}
 use Rattle.dft_scan_frame.specs.Statements.{IsReady}
@@ -13,6 +13,10 @@ use Rattle.dft_replay.specs.declared.verdict.Verdict.{Verdict}
 use Rattle.dft_replay.specs.declared.verdict.Verdict.TheVariants as verdict
 use Rattle.dft_replay.specs.Fits.{first_misfit}
 use Rattle.dft_replay.specs.Verdicts.{HasVerdict}
+use Rattle.dft_grade.specs.declared.found.Graded.{Graded}
+use Rattle.dft_grade.specs.AllGrades.{AreGrades}
+use Rattle.dft_grade_report.specs.Counted.{counts_of as graded_counts}
+use Rattle.dft_grade_report.specs.Written.{report_text as fault_report}
 use Rattle.dft_scan.specs.declared.error.ScanError.{ScanError}
 use Rattle.dft_scan.specs.Refusals.{refusal}
 use Rattle.dft_scan.specs.Scans.{counts_of, netlist_text, report_text}
@@ -29,6 +33,7 @@ use Rattle.dft_report_reader.specs.Reading.{report_of}
 use Rattle.dft_compile.specs.declared.texts.Counts.{Counts}
 use Rattle.dft_equations.specs.LoadRows.{LoadRows}
 use Rattle.dft_load_laws.specs.Loading.{AreRows, rows_of}
+use Rattle.dft_report.specs.declared.error.ReportError.{ReportError}
 use Rattle.dft_report.specs.declared.report.Report.{Report}
 use Rattle.dft_certify.specs.declared.error.CertifyError.{CertifyError}
 use Rattle.dft_certify.specs.Certifying.{certify_refusal, unsolvable_in}
@@ -37,7 +42,7 @@ use Rattle.dft_generate.specs.Words.{words_of}
 use Rattle.dft_generate.specs.Netlists.{netlist_text as job_netlist}
 use Rattle.dft_generate.specs.Configurations.{configuration_text as job_configuration}
 use Rattle.dft_generate.specs.Cubes.{cubes_text as job_cubes}
-use Rattle.dft_command_line.specs.Words.{Command, Replay, Scan, Compile, Certify, Generate, ReplayFiles, ScanFiles, CompileFiles, CertifyFiles, JobNumbers, AreFor}
+use Rattle.dft_command_line.specs.Words.{Command, Replay, Scan, Compile, Certify, Generate, Grade, ReplayFiles, ScanFiles, CompileFiles, CertifyFiles, GradeFiles, JobNumbers, AreFor}
 use Rattle.dft_answers.specs.declared.answer.Code.TheVariants.{P7}
 use Rattle.dft_answers.specs.declared.answer.Refusal.{Refusal}
 use Rattle.dft_answers.specs.declared.outcome.Outcome.{Outcome}
@@ -45,7 +50,8 @@ use Rattle.dft_answers.specs.declared.outcome.Outcome.TheVariants.{Usage, Refuse
 use Rattle.dft_answers.specs.declared.outcome.Replayed.{Replayed as ReplayEnd}
 use Rattle.dft_answers.specs.declared.outcome.Replayed.TheVariants.{Passed, Mismatch, Undetermined}
 use Rattle.dft_answers.specs.declared.outcome.Work.TheVariants.{Replayed, Scanned, Compiled, Certified, Generated}
-use Rattle.dft_answers.specs.Refusals.{named, scan_refusal, compile_refusal}
+use Rattle.dft_answers.specs.declared.outcome.Work.TheVariants as work
+use Rattle.dft_answers.specs.Refusals.{named, scan_refusal, compile_refusal, report_refusal}
 use Rattle.dft_answers.specs.Refusals as refusals
 use Rattle.dft_top.specs.Checks.{LibraryGives, ConfigGives, NetlistGives, PatternsGive, DesignGives, CubesGive, PlanGives, ReportGives}
 use Rattle.dft_top.specs.Courses.{Course, Step, End, Reaches, Loads, TurnComes}
@@ -236,6 +242,51 @@ IsOutcomeOfJob numbers o = (compilation : Outcome) × (Reaches (course_of_compil
 abbrev pub course_of_generate : JobNumbers → Course
 course_of_generate numbers = End (IsOutcomeOfJob numbers)
 
+-- ---- a grading
+
+-- a replay passed
+abbrev pub is_pass : Outcome → Bool
+is_pass (Finished (Replayed (Passed vectors compared))) = true
+is_pass o = false
+
+-- what these grades are told as: how many there are, and the text of their report
+abbrev pub graded_as : Netlist → Patterns → List Graded → Outcome
+graded_as n p graded =
+    let counts = graded_counts graded in Finished (work.Graded counts.faults counts.detected counts.undetected (fault_report n p graded))
+
+-- a report that is too long is refused, and else the faults are graded
+abbrev pub IsOutcomeOfGraded : Netlist → Patterns → List Graded → Option ReportError → Outcome → Type 0
+IsOutcomeOfGraded n p graded (Some error) o = IsRefusal (report_refusal error) o
+IsOutcomeOfGraded n p graded None o = o ≡ graded_as n p graded
+
+-- these are the grades of all faults, and it is their outcome
+abbrev pub IsOutcomeOfGrades : Netlist → Patterns → Outcome → Type 0
+IsOutcomeOfGrades n p o = (graded : List Graded) × (AreGrades n p graded × IsOutcomeOfGraded n p graded (too_long (fault_report n p graded)) o)
+
+-- the first signal that is no bit of a port with its direction is refused, and else the faults are graded
+abbrev pub IsOutcomeOfFaults : Netlist → Patterns → Option (List ℕ) → Outcome → Type 0
+IsOutcomeOfFaults n p (Some name) o = o ≡ Refused (named P7 name)
+IsOutcomeOfFaults n p None o = IsOutcomeOfGrades n p o
+
+-- patterns that pass are graded, and else the verdict is the outcome
+abbrev pub IsOutcomeOfVerdict : Netlist → Patterns → Verdict → Outcome → Type 0
+IsOutcomeOfVerdict n p (verdict.Pass compared) o = IsOutcomeOfGrades n p o
+IsOutcomeOfVerdict n p (verdict.Mismatch vector signal) o = o ≡ outcome_of p (verdict.Mismatch vector signal)
+IsOutcomeOfVerdict n p (verdict.Undetermined vector signal) o = o ≡ outcome_of p (verdict.Undetermined vector signal)
+
+-- the first signal that is no bit of a port with its direction is refused, and else there is a verdict
+abbrev pub IsOutcomeOfGrading : Netlist → Patterns → Option (List ℕ) → Outcome → Type 0
+IsOutcomeOfGrading n p (Some name) o = o ≡ Refused (named P7 name)
+IsOutcomeOfGrading n p None o = (v : Verdict) × (HasVerdict n p v × IsOutcomeOfVerdict n p v o)
+
+-- the library, then the netlist, then the patterns, and then the verdict and the grades
+abbrev pub course_of_grade : GradeFiles → Course
+course_of_grade files =
+    Step files.library (LibraryGives files.library) (λ cells.
+    Step (Some files.netlist) (NetlistGives cells files.netlist) (λ n.
+    Step (Some files.patterns) (PatternsGive files.patterns) (λ p.
+    End (IsOutcomeOfGrading n p (first_misfit n p.signals)))))
+
 -- ---- of words
 
 -- what words are for: Usage, or what the command comes to
@@ -246,6 +297,7 @@ course_of (Some (Scan files)) = course_of_scan files
 course_of (Some (Compile files)) = course_of_compile files
 course_of (Some (Certify files)) = course_of_certify files
 course_of (Some (Generate numbers)) = course_of_generate numbers
+course_of (Some (Grade files)) = course_of_grade files
 
 abbrev pub IsOutcomeFor : Option Command → Held → Outcome → Type 0
 IsOutcomeFor command held o = Reaches (course_of command) held o
@@ -261,6 +313,7 @@ IsSized (Some (Scan files)) = Unit {0}
 IsSized (Some (Compile files)) = Unit {0}
 IsSized (Some (Certify files)) = Unit {0}
 IsSized (Some (Generate numbers)) = IsSize numbers.size
+IsSized (Some (Grade files)) = Unit {0}
 
 -- ---- which file is loaded
 

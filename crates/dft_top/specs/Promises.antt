@@ -1,5 +1,6 @@
 -- What Done promises of a command.
 use Rattle.std.specs.Prelude.{ℕ, ◌<◌, ◌≤◌, ◌^◌, ◌≡◌, List, length, None, Some, Ok, slice_get}
+use Rattle.std.specs.List.{AllByRecursion}
 use Rattle.dft_files.specs.Outside.{Held, file_at}
 use Rattle.dft_cells.specs.declared.cell.Cell.{Cell}
 use Rattle.dft_config.specs.Config.{Config}
@@ -16,6 +17,10 @@ use Rattle.dft_replay.specs.Fits.{first_misfit}
 use Rattle.dft_replay.specs.Rows.{rows_of}
 use Rattle.dft_replay.specs.Verdicts.{HasVerdict}
 use Rattle.dft_replay.specs.Laws.{IsRunOf, AllShow, HoldsInRuns}
+use Rattle.dft_faults.specs.Faulty.{faulty}
+use Rattle.dft_grade.specs.declared.found.Graded.{Graded}
+use Rattle.dft_grade.specs.AllGrades.{AllFail, AreGrades}
+use Rattle.dft_grade_report.specs.Written.{report_text as fault_report}
 use Rattle.dft_scan_behavior.specs.PlainLaws.{ChainsShift, ChainsShow}
 use Rattle.dft_scan_frame.specs.Statements.{IsReady}
 use Rattle.dft_scan_hardware.specs.declared.style.Style.TheVariants.{Plain, Edt}
@@ -45,7 +50,7 @@ use Rattle.dft_report.specs.declared.report.Report.{Report}
 use Rattle.dft_report.specs.declared.report.SumLine.{SumLine}
 use Rattle.dft_certify.specs.Certifying.{cube_named}
 use Rattle.dft_certify.specs.Laws.{AllCertified}
-use Rattle.dft_command_line.specs.Words.{ReplayFiles, ScanFiles, CompileFiles, CertifyFiles}
+use Rattle.dft_command_line.specs.Words.{ReplayFiles, ScanFiles, CompileFiles, CertifyFiles, GradeFiles}
 use Rattle.dft_top.specs.declared.limits.TheConstants.{MAX_PATTERN_BYTES, MAX_REPORT_BYTES}
 use Rattle.dft_top.specs.Checks.{LibraryGives, ConfigGives, NetlistGives, PatternsGive, CubesGive, PlanGives, ReportGives}
 use Rattle.dft_top.specs.Courses.{Reaches}
@@ -189,3 +194,27 @@ pub record Certifies (files : CertifyFiles) (held : Held) : Type 0 where
   -- what follows; each table is loaded in some run
   pub never : NeverLoads netlist config cubes report
   pub carried : (ports : Ports) → SuitsEdt netlist config ports → (table : Table) → LoadRun netlist config ports table
+
+-- ---- a grading
+
+-- the files that a grading replays
+abbrev pub replay_of : GradeFiles → ReplayFiles
+replay_of files = record { library = files.library; netlist = files.netlist; patterns = files.patterns }
+
+-- with each of these faults the netlist has a run over the patterns, from every start with low clocks
+abbrev pub FaultsRun : Netlist → Patterns → List Graded → Type 0
+FaultsRun n p graded = AllByRecursion (λ g. RunsFromEach (faulty n g.fault) p) graded
+
+-- The held patterns pass on the held netlist, and these are all its faults under them, in order, each with its grade. The report of them is saved,
+-- and no other file is changed. A fault that is detected fails in every run: the strobe that its grade names shows the opposite of the printed bit.
+pub record Grades (files : GradeFiles) (old new : Held) : Type 0 where
+  pub replay : Passes (replay_of files) old
+  pub graded : List Graded
+  pub are : AreGrades replay.netlist replay.patterns graded
+  -- what is saved, within its limit
+  pub short : length (fault_report replay.netlist replay.patterns graded) ≤ MAX_REPORT_BYTES
+  pub out : file_at files.out new ≡ Some (fault_report replay.netlist replay.patterns graded)
+  pub others : (name : List ℕ) → (name ≡ files.out → ⊥) → file_at name new ≡ file_at name old
+  -- what holds of it
+  pub fail : AllFail replay.netlist replay.patterns graded
+  pub run : FaultsRun replay.netlist replay.patterns graded

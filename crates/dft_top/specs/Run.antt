@@ -9,14 +9,15 @@ use Rattle.dft_answers.specs.declared.answer.Code.TheVariants.{K6, P4}
 use Rattle.dft_answers.specs.declared.answer.Refusal.{Refusal}
 use Rattle.dft_answers.specs.declared.outcome.Outcome.{Outcome}
 use Rattle.dft_answers.specs.declared.outcome.Outcome.TheVariants as outcome
-use Rattle.dft_answers.specs.declared.outcome.Replayed.TheVariants.{Passed}
+use Rattle.dft_answers.specs.declared.outcome.Replayed.{Replayed}
+use Rattle.dft_answers.specs.declared.outcome.Replayed.TheVariants.{Passed, Mismatch, Undetermined}
 use Rattle.dft_answers.specs.declared.outcome.Work.TheVariants as work
-use Rattle.dft_command_line.specs.Words.{Command, Replay, Scan, Compile, Certify, Generate, ReplayFiles, ScanFiles, CompileFiles, CertifyFiles, JobNumbers, AreFor, IsFor, IsReplay, IsScan, IsCompile, IsCertify, IsGenerate}
+use Rattle.dft_command_line.specs.Words.{Command, Replay, Scan, Compile, Certify, Generate, Grade, ReplayFiles, ScanFiles, CompileFiles, CertifyFiles, GradeFiles, JobNumbers, AreFor, IsFor, IsReplay, IsScan, IsCompile, IsCertify, IsGenerate, IsGrade}
 use Rattle.dft_answers.specs.Answers.{answer_of, stopped}
 use Rattle.dft_answers.specs.Lines.{line_of}
 use Rattle.dft_top.specs.Courses.{IsPassing}
 use Rattle.dft_top.specs.Outcomes.{IsOutcomeFor, IsOutcomeOfJob, IsLoaded, HasTurn, course_of}
-use Rattle.dft_top.specs.Promises.{Passes, Fails, Scans, Compiles, Certifies}
+use Rattle.dft_top.specs.Promises.{Passes, Fails, Scans, Compiles, Certifies, Grades, replay_of}
 use Rattle.dft_top.specs.Saves.{savings, HaveSaved, HaveSavedSome, SaveFailed, CountsSaves}
 
 -- what is seen of the files and of the output: what files are held, the name in the last call that failed, how many loads and saves
@@ -41,7 +42,13 @@ seen held failed read_faults write_faults printed put_faults = record {
 
 -- ---- the outcome
 
--- a command comes to a refusal, or to work of its own
+-- a replay does not pass
+abbrev pub IsUnpassed : Replayed → Type 0
+IsUnpassed (Passed vectors compared) = ⊥
+IsUnpassed (Mismatch vector signal) = Unit {0}
+IsUnpassed (Undetermined vector signal) = Unit {0}
+
+-- a command comes to a refusal, or to work of its own, a grading also to a replay that does not pass
 abbrev pub IsOf : Command → Outcome → Type 0
 IsOf command (outcome.Refused refusal) = Unit {0}
 IsOf (Replay files) (outcome.Finished (work.Replayed replay)) = Unit {0}
@@ -49,6 +56,8 @@ IsOf (Scan files) (outcome.Finished (work.Scanned counts netlist report)) = Unit
 IsOf (Compile files) (outcome.Finished (work.Compiled counts netlist patterns report)) = Unit {0}
 IsOf (Certify files) (outcome.Finished (work.Certified unsolvable)) = Unit {0}
 IsOf (Generate numbers) (outcome.Finished (work.Generated counts replay)) = Unit {0}
+IsOf (Grade files) (outcome.Finished (work.Replayed replay)) = IsUnpassed replay
+IsOf (Grade files) (outcome.Finished (work.Graded faults detected undetected report)) = Unit {0}
 IsOf command o = ⊥
 
 -- Usage is the outcome of exactly the words that are no command
@@ -64,6 +73,7 @@ ToldFor (Some (Scan files)) P held = Told P held
 ToldFor (Some (Compile files)) P held = Told P held
 ToldFor (Some (Certify files)) P held = Told P held
 ToldFor (Some (Generate numbers)) P held = (h : Held) → P h
+ToldFor (Some (Grade files)) P held = Told P held
 
 -- the outcome is one of the command, and that of the held files where they are told
 pub record IsOutcomeTold (command : Option Command) (held : Option Held) (o : Outcome) : Type 0 where
@@ -166,6 +176,14 @@ CompilesTold words held held' answer = (files : CompileFiles) → IsCompile word
 abbrev pub CertifiesTold : List (List ℕ) → Option Held → Answer → Type 0
 CertifiesTold words held answer = (files : CertifyFiles) → IsCertify words files → answer.status ≡ Done → Told (Certifies files) held
 
+-- where the words are a grading, the patterns pass and the report of all faults is saved, each with its grade; a fault that is detected fails in every run
+abbrev pub GradesTold : List (List ℕ) → (held held' : Option Held) → Answer → Type 0
+GradesTold words held held' answer = (files : GradeFiles) → IsGrade words files → answer.status ≡ Done → ToldChange (Grades files) held held'
+
+-- where the words are a grading whose patterns do not pass, a replay of them does not, and says why
+abbrev pub UngradedTold : List (List ℕ) → Option Held → Answer → Type 0
+UngradedTold words held answer = (files : GradeFiles) → IsGrade words files → answer.status ≡ NotPassed → Told (Fails (replay_of files)) held
+
 -- a refusal for size: the patterns have more vectors than are read, or the report would have more bytes than it may
 abbrev pub IsForSize : Refusal → Type 0
 IsForSize refusal = (refusal.code ≡ P4) ⊎ (refusal.code ≡ K6)
@@ -198,13 +216,18 @@ pub record IsPassed (files : ReplayFiles) (held : Held) : Type 0 where
   pub compared : ℕ
   pub is : IsOutcomeFor (Some (Replay files)) held (outcome.Finished (work.Replayed (Passed vectors compared)))
 
--- a replay is done exactly where the verdict is Pass, and not passed else; every other command is done
+-- a status is Done exactly where the verdict is Pass, and NotPassed else
+abbrev pub IsByVerdict : ReplayFiles → Held → Status → Type 0
+IsByVerdict files held status = ((status ≡ Done) × IsPassed files held) ⊎ ((status ≡ NotPassed) × (IsPassed files held → ⊥))
+
+-- a replay and a grading are done exactly where the verdict is Pass, and not passed else; every other command is done
 abbrev pub IsAnswered : Command → Held → Status → Type 0
-IsAnswered (Replay files) held status = ((status ≡ Done) × IsPassed files held) ⊎ ((status ≡ NotPassed) × (IsPassed files held → ⊥))
+IsAnswered (Replay files) held status = IsByVerdict files held status
 IsAnswered (Scan files) held status = status ≡ Done
 IsAnswered (Compile files) held status = status ≡ Done
 IsAnswered (Certify files) held status = status ≡ Done
 IsAnswered (Generate numbers) held status = status ≡ Done
+IsAnswered (Grade files) held status = IsByVerdict (replay_of files) held status
 
 -- Where the words are a command, whose checks the files that are told pass (those of a generated job, whatever is told), and no call of the outside failed, the command is answered. Want of memory
 -- is the one exception.
@@ -225,12 +248,12 @@ IsQuiet ReadFault = Unit {0}
 IsQuiet WriteFault = ⊥
 IsQuiet OutOfMemory = ⊥
 
--- the words are a scan or a compilation
+-- the words are a scan, a compilation or a grading
 abbrev pub AreSaving : List (List ℕ) → Type 0
-AreSaving words = ((files : ScanFiles) × IsScan words files) ⊎ ((files : CompileFiles) × IsCompile words files)
+AreSaving words = ((files : ScanFiles) × IsScan words files) ⊎ ((files : CompileFiles) × IsCompile words files) ⊎ ((files : GradeFiles) × IsGrade words files)
 
--- where the status is Usage, Refused, NotPassed or ReadFault, or the words are neither a scan nor a compilation, no file is changed, and no save has
--- failed
+-- where the status is Usage, Refused, NotPassed or ReadFault, or the words are no scan, no compilation and no grading, no file is changed, and no save
+-- has failed
 abbrev pub KeepsFiles : List (List ℕ) → (held held' : Option Held) → (write_faults write_faults' : ℕ) → Answer → Type 0
 KeepsFiles words held held' write_faults write_faults' answer =
     IsQuiet answer.status ⊎ (AreSaving words → ⊥) → (held' ≡ held) × (write_faults' ≡ write_faults)

@@ -5,12 +5,13 @@ ghost use Rattle.dft_command_line.specs.Named.{command_of};
 ghost use Rattle.dft_io.specs.Steps.{seen_files};
 ghost use Rattle.dft_top.specs.Follows.{Follows};
 ghost use Rattle.dft_top.specs.Outcomes.{IsSized, course_of};
-ghost use Rattle.dft_top.specs.Run.{Ends, EndsFor, IsDelivered, CertifiesTold, CompilesTold, CompletesTold, FailsTold, GeneratesJob, KeepsFiles, PassesTold, ScansTold, seen};
+ghost use Rattle.dft_top.specs.Run.{Ends, EndsFor, IsDelivered, CertifiesTold, CompilesTold, CompletesTold, FailsTold, GeneratesJob, GradesTold, KeepsFiles, PassesTold, ScansTold, UngradedTold, seen};
 ghost use Rattle.dft_top.specs.Saves.{CountsSaves, SavesApart, savings};
 
 use crate::certifying::outcome_of_certify;
 use crate::compiling::outcome_of_compile;
 use crate::generating::outcome_of_generate;
+use crate::grading::outcome_of_grade;
 use crate::replaying::outcome_of_replay;
 use crate::saving::save_outcome;
 use crate::scanning::outcome_of_scan;
@@ -28,15 +29,16 @@ use std::alloc::Global;
 /// scanned netlist and a report. `compile --netlist FILE --config FILE --cubes FILE --out-netlist FILE --out-patterns FILE
 /// --out-report FILE` inserts them behind compression hardware, and saves the scanned netlist, patterns that load the test
 /// cubes, and a report. `certify --netlist FILE --config FILE --cubes FILE --report FILE` tests whether the sums that a report
-/// prints for cubes show that no channel bits load them. All these take `--library FILE` for the cells. `generate --seed N
-/// --size N` makes a job of its own, compiles it and replays what comes of it; it loads and saves nothing. Files are loaded
-/// in their turn, and each passes its checks before the next is loaded; all texts are made before the first is saved; and one
-/// line is printed, of a generated job two.
+/// prints for cubes show that no channel bits load them. `grade --netlist FILE --patterns FILE --out FILE` replays the patterns
+/// and, where they pass, saves a report of all single stuck-at faults of the netlist, each with its grade. All these take
+/// `--library FILE` for the cells. `generate --seed N --size N` makes a job of its own, compiles it and replays what comes of it; it
+/// loads and saves nothing. Files are loaded in their turn, and each passes its checks before the next is loaded; all texts are made
+/// before the first is saved; and one line is printed, of a generated job two.
 ///
 /// A run ends in one of five ways. It answers what the words and the files come to, all is saved, and its line is put:
 /// Done, NotPassed, Refused with the first check that fails, or Usage. Or a load of a file whose turn came failed
 /// (ReadFault). Or a save failed, and nothing is printed; or the line could not be put whole (WriteFault). Or memory ran
-/// out. Only a scan or a compilation that passes all checks changes files.
+/// out. Only a scan, a compilation or a grading that passes all checks changes files.
 ///
 /// Where a replay answers Done and the files are told, every run of the netlist over the patterns, whatever the starting
 /// bits, the order of clock edges and the free bits, shows each compared bit as printed; where it answers NotPassed and tells a
@@ -44,10 +46,12 @@ use std::alloc::Global;
 /// and behaves as it while scan is off, and its chains shift in every run. Where a compilation does, so does the netlist that is
 /// saved; the patterns that are saved pass on it, and every run over them loads each cube that is reported encoded; and a cube
 /// is reported unsolvable exactly where no channel bits load it in any run. Where a test of certificates does, no channel bits
-/// load a cube that the report calls unsolvable, in any run of the scanned netlist.
+/// load a cube that the report calls unsolvable, in any run of the scanned netlist. Where a grading does, the patterns pass, the
+/// report that is saved has every fault in order with its grade, and a fault that is detected fails in every run of the netlist with
+/// it: the strobe that is named shows the opposite of the printed bit.
 ///
 /// Where files are told that pass all checks of a command, and no call of the outside fails, the command answers Done, and a
-/// replay Done exactly where the verdict is Pass. A generated job, which needs no files, is Done where its lines can be put; one
+/// replay or a grading Done exactly where the verdict is Pass. A generated job, which needs no files, is Done where its lines can be put; one
 /// of more than 16,240 cells may be refused. Want of memory is the one exception.
 pub fn run<F: Files, O: Sink>(alloc: Global, words: &[String], files: &mut F, out: &mut O) -> Answer
     ensures ends { Ends (map string_bytes words.entry.now)
@@ -61,6 +65,8 @@ pub fn run<F: Files, O: Sink>(alloc: Global, words: &[String], files: &mut F, ou
     ensures scans { ScansTold (map string_bytes words.entry.now) (F.held files.old) (F.held files.new) result }
     ensures compiles { CompilesTold (map string_bytes words.entry.now) (F.held files.old) (F.held files.new) result }
     ensures certifies { CertifiesTold (map string_bytes words.entry.now) (F.held files.old) result }
+    ensures grades { GradesTold (map string_bytes words.entry.now) (F.held files.old) (F.held files.new) result }
+    ensures ungraded { UngradedTold (map string_bytes words.entry.now) (F.held files.old) result }
     ensures generates { GeneratesJob (map string_bytes words.entry.now) (O.faults out.old) (O.faults out.new) result }
     ensures completes { CompletesTold (map string_bytes words.entry.now)
         (seen (F.held files.old) (F.failed files.old) (F.read_faults files.old) (F.write_faults files.old) (O.told out.old) (O.faults out.old))
@@ -118,6 +124,7 @@ fn outcome_of<F: Files>(
         Some(Command::Compile(names)) => outcome_of_compile(alloc, names, files),
         Some(Command::Certify(names)) => outcome_of_certify(alloc, names, files),
         Some(Command::Generate(numbers)) => outcome_of_generate(alloc, numbers),
+        Some(Command::Grade(names)) => outcome_of_grade(alloc, names, files),
     }
 }
 

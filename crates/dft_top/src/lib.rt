@@ -6,6 +6,7 @@ mod command;
 mod compiling;
 mod generating;
 mod given;
+mod grading;
 mod laws;
 mod limits;
 mod loading;

@@ -28,7 +28,7 @@ impl<'a> Saving<'a> {
 }
 
 /// Saves what a command saves of its outcome, in order: of a scan the scanned netlist, and then the report; of a compilation the scanned
-/// netlist, the patterns, and then the report.
+/// netlist, the patterns, and then the report; of a grading the report.
 pub fn save_outcome<F: Files>(
     alloc: Global,
     command: Option<Command<'_>>,
@@ -73,6 +73,10 @@ pub fn save_outcome<F: Files>(
             let patterns = Saving::of(names.out_patterns, patterns.as_slice());
             let report = Saving::of(names.out_report, report.as_slice());
             save_all(alloc, &[netlist, patterns, report], files)
+        }
+        (Some(Command::Grade(names)), Outcome::Finished(Work::Graded { report, .. })) => {
+            let report = Saving::of(names.out, report.as_slice());
+            save_all(alloc, &[report], files)
         }
         _ => Ok(()),
     }

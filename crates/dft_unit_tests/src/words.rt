@@ -99,12 +99,13 @@ fn the_first_fault_of_words_is_told(rt: HostRuntime) -> Result<(), Fail> {
 }
 
 // Lines of words that are commands.
-static COMMANDS: [&str; 5] = [
+static COMMANDS: [&str; 6] = [
     "replay --netlist a --patterns=b --library c",
     "scan --netlist a --config b --out c --report=d --library e",
     "compile --netlist a --config=b --cubes c --out-netlist d --out-patterns e --out-report f --library=g",
     "certify --netlist a --config b --cubes c --report d --library e",
     "generate --seed 1 --size 16",
+    "grade --netlist a --patterns=b --out c --library d",
 ];
 
 // What stands in place of a word that is bent.
@@ -213,12 +214,13 @@ fn a_fault_is_told_where_words_are_no_command(rt: HostRuntime) -> Result<(), Fai
 }
 
 // Lines of words that are commands with the options that they need, and no others.
-static NEEDED: [&str; 5] = [
+static NEEDED: [&str; 6] = [
     "replay --netlist=a --patterns=b",
     "scan --netlist=a --config=b --out=c --report=d",
     "compile --netlist=a --config=b --cubes=c --out-netlist=d --out-patterns=e --out-report=f",
     "certify --netlist=a --config=b --cubes=c --report=d",
     "generate --seed=1 --size=16",
+    "grade --netlist=a --patterns=b --out=c",
 ];
 
 // The options of all commands, and one that none has.
@@ -307,7 +309,7 @@ static ASKED: [(&str, Option<Request>); 8] = [
     ("--help", Some(Request::Help)),
     ("--version", Some(Request::Version)),
     ("scan --help", Some(Request::HelpOf(Topic::Scan))),
-    ("generate --help", Some(Request::HelpOf(Topic::Generate))),
+    ("grade --help", Some(Request::HelpOf(Topic::Grade))),
     ("scan --help x", None),
     ("help", None),
     ("-h", None),

@@ -3,9 +3,9 @@ use Rattle.std.proofs.Common.{◌≡◌, ◌∙◌, Bool, true, false, List, [],
 use Rattle.std.specs.Prelude.{if◌then◌else◌}
 use Rattle.std.specs.Str.{bytes_eq}
 use Rattle.dft_base.proofs.TextLemmas.{bytes_eq-self, differ, same_text}
-use Rattle.dft_command_line.specs.Words.{Command, CertifyFiles, CompileFiles, IsCertify, IsCompile, IsFor, IsGenerate, IsReplay, IsScan, JobNumbers, OutputsDiffer, ReplayFiles, ScanFiles, Replay, Scan, Compile, Certify, Generate, certify_options, compile_options, generate_options, list_of, replay_options, scan_options}
-use Rattle.dft_explain.specs.Faults.{Fault, OneFile, Form, Text, certify_form, compile_form, fault_of_command, fault_of_first, fault_of_number, fault_of_options, fault_of_right_options, first_fault, generate_form, missing, no_number, one_file, or_else, replay_form, scan_form, seed, size, wrong_option}
-use Rattle.dft_explain.specs.Options.{compile_saves, is_text, scan_saves, value_of}
+use Rattle.dft_command_line.specs.Words.{Command, CertifyFiles, CompileFiles, GradeFiles, IsCertify, IsCompile, IsFor, IsGenerate, IsGrade, IsReplay, IsScan, JobNumbers, OutputsDiffer, ReplayFiles, ScanFiles, Replay, Scan, Compile, Certify, Generate, Grade, certify_options, compile_options, generate_options, grade_options, list_of, replay_options, scan_options}
+use Rattle.dft_explain.specs.Faults.{Fault, OneFile, Form, Text, certify_form, compile_form, fault_of_command, fault_of_first, fault_of_number, fault_of_options, fault_of_right_options, first_fault, generate_form, grade_form, missing, no_number, one_file, or_else, replay_form, scan_form, seed, size, wrong_option}
+use Rattle.dft_explain.specs.Options.{compile_saves, grade_saves, is_text, scan_saves, value_of}
 use Rattle.dft_usage_laws.proofs.Forms.{Backed, all_there, backed, none_missing, plain_of, whole}
 use Rattle.dft_usage_laws.proofs.Numbers.{Number, number_seed, number_size, seed_number, size_number}
 use Rattle.dft_usage_laws.proofs.Taking.{IsPlain, or_both, or_none}
@@ -169,6 +169,59 @@ generate_is (name ∷ words) job is =
     subst (λ (n : Text). first_fault (n ∷ words) ≡ None) (sym (same_first _ _ _ _ is.written.are.written))
     (generate_backed words job is.seed is.size (record { number = job.seed; is = is.seed_is; low = omega arith; high = omega (arith, is.seed_is.below) }) (record { number = job.size; is = is.size_is; low = is.least; high = is.most })
     (backed generate_form generate_plain (generate_options is.seed is.size) refl (refl, (refl, tt)) words is.written.given (same_others _ _ _ _ is.written.are.written) is.written.are.values is.written.are.known is.written.each))
+
+-- ---- grade
+
+grade_plain : IsPlain grade_form
+grade_plain = plain_of grade_form ((refl, omega arith), ((refl, omega arith), ((refl, omega arith), ((refl, omega arith), tt))))
+
+grade_words : (words : List Text) → fault_of_options grade_form words ≡ None → (files : GradeFiles) × IsGrade (codes "grade" ∷ words) files
+grade_words words e =
+    let p = parts_of grade_form words e in
+    let w = whole grade_form grade_plain words p.right in
+    let m = none_missing (codes "netlist" ∷ codes "patterns" ∷ codes "out" ∷ []) words p.there in (
+      record { library = value_of (codes "library") words; netlist = m.0.0; patterns = m.1.0.0; out = m.1.1.0.0 },
+      record {
+        given = w.given;
+        are = w.are;
+        each = (
+          w.each (codes "netlist") refl ∙ ap list_of m.0.1,
+          (w.each (codes "patterns") refl ∙ ap list_of m.1.0.1, (w.each (codes "out") refl ∙ ap list_of m.1.1.0.1, (w.each (codes "library") refl, tt))),
+        );
+      },
+    )
+
+-- the fault of one output, by its value
+abbrev grade_by : (out : Option Text) → (file : Option Text) → Option Fault
+grade_by out None = None
+grade_by out (Some file) = fault_of_first (if is_text file out then Some (codes "out") else None) (codes "out") file
+
+abbrev grade_output : (out : Option Text) → Option Fault
+grade_output out = or_else (grade_by out out) None
+
+-- the same, by whether the name is equal to itself
+abbrev grade_told : (same : Bool) → (out : Text) → Option Fault
+grade_told same out = or_else (fault_of_first (if same then Some (codes "out") else None) (codes "out") out) None
+
+-- one output is no fault
+grade_apart : (words : List Text) (out : Text) → value_of (codes "out") words ≡ Some out → one_file grade_saves words grade_saves ≡ None
+grade_apart words out a =
+    let values : one_file grade_saves words grade_saves ≡ grade_output (Some out) = ap grade_output a in
+    values ∙ ap (λ s. grade_told s out) (bytes_eq-self out)
+
+grade_backed : (words : List Text) (files : GradeFiles) → Backed grade_form (grade_options files) words → fault_of_options grade_form words ≡ None
+grade_backed words files b = no_parts grade_form words (record {
+  right = b.right;
+  there = all_there (codes "netlist" ∷ codes "patterns" ∷ codes "out" ∷ []) words ((files.netlist, b.values.0), ((files.patterns, b.values.1.0), ((files.out, b.values.1.1.0), tt)));
+  numbers = no_numbers words (b.others (codes "seed") refl refl) (b.others (codes "size") refl refl);
+  files = grade_apart words files.out b.values.1.1.0;
+})
+
+grade_is : (words : List Text) (files : GradeFiles) → IsGrade words files → first_fault words ≡ None
+grade_is [] files is = absurd (no_word _ _ is.are.written)
+grade_is (name ∷ words) files is =
+    subst (λ (n : Text). first_fault (n ∷ words) ≡ None) (sym (same_first _ _ _ _ is.are.written))
+    (grade_backed words files (backed grade_form grade_plain (grade_options files) refl (refl, (refl, (refl, (refl, tt)))) words is.given (same_others _ _ _ _ is.are.written) is.are.values is.are.known is.each))
 
 -- ---- scan
 
@@ -366,20 +419,25 @@ usage words (Scan files) is = scan_is words files is
 usage words (Compile files) is = compile_is words files is
 usage words (Certify files) is = certify_is words files is
 usage words (Generate job) is = generate_is words job is
+usage words (Grade files) is = grade_is words files is
 
-by_name : (name : Text) (words : List Text) (a b c d e : Bool) → bytes_eq name (codes "replay") ≡ a → bytes_eq name (codes "scan") ≡ b → bytes_eq name (codes "compile") ≡ c → bytes_eq name (codes "certify") ≡ d → bytes_eq name (codes "generate") ≡ e
-    → fault_of_command name (if a then Some replay_form else (if b then Some scan_form else (if c then Some compile_form else (if d then Some certify_form else (if e then Some generate_form else None))))) words ≡ None → IsCommandLine (name ∷ words)
-by_name name words true b c d e i j k l m f = let r = replay_words words f in (Replay r.0, subst (λ (n : Text). IsReplay (n ∷ words) r.0) (sym (same_text name (codes "replay") i)) r.1)
-by_name name words false true c d e i j k l m f = let r = scan_words words f in (Scan r.0, subst (λ (n : Text). IsScan (n ∷ words) r.0) (sym (same_text name (codes "scan") j)) r.1)
-by_name name words false false true d e i j k l m f = let r = compile_words words f in (Compile r.0, subst (λ (n : Text). IsCompile (n ∷ words) r.0) (sym (same_text name (codes "compile") k)) r.1)
-by_name name words false false false true e i j k l m f = let r = certify_words words f in (Certify r.0, subst (λ (n : Text). IsCertify (n ∷ words) r.0) (sym (same_text name (codes "certify") l)) r.1)
-by_name name words false false false false true i j k l m f = let r = generate_words words f in (Generate r.0, subst (λ (n : Text). IsGenerate (n ∷ words) r.0) (sym (same_text name (codes "generate") m)) r.1)
-by_name name words false false false false false i j k l m f = absurd cc
+by_name : (name : Text) (words : List Text) (a b c d e h : Bool) → bytes_eq name (codes "replay") ≡ a → bytes_eq name (codes "scan") ≡ b → bytes_eq name (codes "compile") ≡ c → bytes_eq name (codes "certify") ≡ d → bytes_eq name (codes "generate") ≡ e
+    → bytes_eq name (codes "grade") ≡ h
+    → fault_of_command name (if a then Some replay_form else (if b then Some scan_form else (if c then Some compile_form else (if d then Some certify_form else (if e then Some generate_form else (if h then Some grade_form else None)))))) words ≡ None
+    → IsCommandLine (name ∷ words)
+by_name name words true b c d e h i j k l m n f = let r = replay_words words f in (Replay r.0, subst (λ (t : Text). IsReplay (t ∷ words) r.0) (sym (same_text name (codes "replay") i)) r.1)
+by_name name words false true c d e h i j k l m n f = let r = scan_words words f in (Scan r.0, subst (λ (t : Text). IsScan (t ∷ words) r.0) (sym (same_text name (codes "scan") j)) r.1)
+by_name name words false false true d e h i j k l m n f = let r = compile_words words f in (Compile r.0, subst (λ (t : Text). IsCompile (t ∷ words) r.0) (sym (same_text name (codes "compile") k)) r.1)
+by_name name words false false false true e h i j k l m n f = let r = certify_words words f in (Certify r.0, subst (λ (t : Text). IsCertify (t ∷ words) r.0) (sym (same_text name (codes "certify") l)) r.1)
+by_name name words false false false false true h i j k l m n f = let r = generate_words words f in (Generate r.0, subst (λ (t : Text). IsGenerate (t ∷ words) r.0) (sym (same_text name (codes "generate") m)) r.1)
+by_name name words false false false false false true i j k l m n f = let r = grade_words words f in (Grade r.0, subst (λ (t : Text). IsGrade (t ∷ words) r.0) (sym (same_text name (codes "grade") n)) r.1)
+by_name name words false false false false false false i j k l m n f = absurd cc
 
 command : (words : List Text) → first_fault words ≡ None → IsCommandLine words
 command [] e = absurd cc
 command (name ∷ words) e =
-    by_name name words (bytes_eq name (codes "replay")) (bytes_eq name (codes "scan")) (bytes_eq name (codes "compile")) (bytes_eq name (codes "certify")) (bytes_eq name (codes "generate")) refl refl refl refl refl e
+    by_name name words (bytes_eq name (codes "replay")) (bytes_eq name (codes "scan")) (bytes_eq name (codes "compile")) (bytes_eq name (codes "certify")) (bytes_eq name (codes "generate")) (bytes_eq name (codes "grade"))
+    refl refl refl refl refl refl e
 
 -- words have no fault exactly where they are a command
 pub faults_are_usage : FaultsAreUsage

@@ -35,6 +35,11 @@ clearing config = added_inputs config false true true no_bits no_bits
 abbrev pub waiting : Config → List Act
 waiting config = added_inputs config false false false no_bits no_bits
 
+-- a capture vector: the last one of a pattern clears, those before it wait
+abbrev pub capturing : (last : Bool) → Config → List Act
+capturing true = clearing
+capturing false = waiting
+
 -- a shift vector: scan_enable is 1, edt_clock pulses, edt_update is 0, and the channels and the mask ports have these bits
 abbrev pub shifting : Config → (channels masks : ℕ → Bool) → List Act
 shifting config channels masks = added_inputs config true true false channels masks

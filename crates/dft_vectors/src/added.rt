@@ -130,20 +130,15 @@ fn push_low(acts: &mut Vec<Act>, ports: u8) -> Result<(), AllocError>
     Ok(())
 }
 
-// Adds what a clearing vector does at the added inputs.
-pub(crate) fn push_clearing(acts: &mut Vec<Act>, config: &Config) -> Result<(), AllocError>
-    ensures { OnOk result (acts.new.items ≡ acts.old.items ++ spec.clearing config.now) }
+// Adds what a capture vector does at the added inputs, the last one of a pattern or one before it.
+pub(crate) fn push_capturing(
+    acts: &mut Vec<Act>,
+    config: &Config,
+    last: bool,
+) -> Result<(), AllocError>
+    ensures { OnOk result (acts.new.items ≡ acts.old.items ++ spec.capturing last config.now) }
 {
-    push_controls(acts, false, true, true)?;
-    push_low(acts, config.ring().channels)?;
-    push_low(acts, config.compactor().mask_inputs)
-}
-
-// Adds what a waiting vector does at the added inputs.
-pub(crate) fn push_waiting(acts: &mut Vec<Act>, config: &Config) -> Result<(), AllocError>
-    ensures { OnOk result (acts.new.items ≡ acts.old.items ++ spec.waiting config.now) }
-{
-    push_controls(acts, false, false, false)?;
+    push_controls(acts, false, last, last)?;
     push_low(acts, config.ring().channels)?;
     push_low(acts, config.compactor().mask_inputs)
 }

@@ -2,13 +2,13 @@
 
 ghost use Rattle.std.specs.Prelude.{◌≡◌, ◌++◌, length, IfOk, OnOk};
 ghost use Rattle.dft_cubes.specs.declared.cube.Merged.{Merged as AMerged};
-ghost use Rattle.dft_vectors.specs.AddedPorts.{clearing, waiting};
+ghost use Rattle.dft_vectors.specs.AddedPorts.{capturing};
 ghost use Rattle.dft_vectors.specs.OwnPorts as own;
 ghost use Rattle.dft_vectors.specs.Shown.{IsLayout};
 ghost use Rattle.dft_vectors.specs.VectorList as spec;
 
 use crate::acts::{push_compared, push_ignored};
-use crate::added::{Segment, push_clearing, push_waiting, segments};
+use crate::added::{Segment, push_capturing, segments};
 use crate::own::{OwnPorts, own_ports, push_captured, push_quiet};
 use dft_base::Tri;
 use dft_cubes::Merged;
@@ -59,42 +59,27 @@ impl<'a> Layout<'a> {
         ensures { OnOk result (acts.new.items ≡ acts.old.items ++ spec.set_up_acts self.now.planned.now.design self.now.planned.now.config) }
     {
         push_quiet(acts, &self.own.inputs)?;
-        push_clearing(acts, self.planned.config())?;
+        push_capturing(acts, self.planned.config(), true)?;
         push_ignored(acts, self.own.outputs)?;
         self.push_unseen(acts)?;
         Ok(())
     }
 
-    // Adds the acts of the last capture vector of a pattern, in which a domain's clock pulses, and outputs have these values.
-    pub(crate) fn push_last_capture(
+    // Adds the acts of a capture vector of a pattern, its last one or one before it: a domain's clock pulses, and outputs
+    // have these values.
+    pub(crate) fn push_capture(
         &self,
         acts: &mut Vec<Act>,
         merged: &Merged,
         domain: u8,
+        last: bool,
         outputs: &[Tri],
     ) -> Result<(), AllocError>
         requires { IsLayout self.now }
-        ensures { OnOk result (acts.new.items ≡ acts.old.items ++ spec.capture_with self.now.planned.now.design self.now.planned.now.config merged.now domain (clearing self.now.planned.now.config) outputs.now) }
+        ensures { OnOk result (acts.new.items ≡ acts.old.items ++ spec.capture_with self.now.planned.now.design self.now.planned.now.config merged.now domain (capturing last self.now.planned.now.config) outputs.now) }
     {
         push_captured(self.alloc, acts, &self.own, merged, domain)?;
-        push_clearing(acts, self.planned.config())?;
-        push_compared(acts, outputs)?;
-        self.push_unseen(acts)
-    }
-
-    // Adds the acts of a capture vector of a pattern before its last one.
-    pub(crate) fn push_first_capture(
-        &self,
-        acts: &mut Vec<Act>,
-        merged: &Merged,
-        domain: u8,
-        outputs: &[Tri],
-    ) -> Result<(), AllocError>
-        requires { IsLayout self.now }
-        ensures { OnOk result (acts.new.items ≡ acts.old.items ++ spec.capture_with self.now.planned.now.design self.now.planned.now.config merged.now domain (waiting self.now.planned.now.config) outputs.now) }
-    {
-        push_captured(self.alloc, acts, &self.own, merged, domain)?;
-        push_waiting(acts, self.planned.config())?;
+        push_capturing(acts, self.planned.config(), last)?;
         push_compared(acts, outputs)?;
         self.push_unseen(acts)
     }

@@ -2,7 +2,7 @@
 
 ghost use Rattle.std.specs.Prelude.{◌≡◌, ◌+◌, ◌<◌, ◌≤◌, ◌++◌, ◌∷◌, [], List, None, length, replicate, IfSome, IfOk, OnOk};
 ghost use Rattle.dft_cubes.specs.Domains.{captures_of};
-ghost use Rattle.dft_vectors.specs.AddedPorts.{clearing, waiting};
+ghost use Rattle.dft_vectors.specs.AddedPorts.{capturing};
 ghost use Rattle.dft_vectors.specs.Listing.{Lists};
 ghost use Rattle.dft_vectors.specs.ListSteps.{begun_by, ended_by};
 ghost use Rattle.dft_base.specs.Packed.{packed_bit};
@@ -90,21 +90,22 @@ impl<'a> VectorList<'a> {
         Ok(())
     }
 
-    // Adds the last capture vector of a pattern.
-    fn last_capture(
+    // Adds a capture vector of a pattern, its last one or one before it.
+    fn one_capture(
         &mut self,
         merged: &Merged,
         domain: u8,
+        last: bool,
         outputs: &[Tri],
     ) -> Result<(), AllocError>
         ensures { OnOk result (self.new ≡ record self.old {
           vectors = self.old.vectors
-              ++ spec.capture_with self.old.design self.old.config merged.now domain (clearing self.old.config) outputs.now ∷ [];
+              ++ spec.capture_with self.old.design self.old.config merged.now domain (capturing last self.old.config) outputs.now ∷ [];
         }) }
     {
         let mut acts = Vec::new(self.layout.alloc);
         self.layout
-            .push_last_capture(&mut acts, merged, domain, outputs)?;
+            .push_capture(&mut acts, merged, domain, last, outputs)?;
         self.vectors.push(Acts::copied(self.layout.alloc, &acts)?)?;
         Ok(())
     }
@@ -120,27 +121,8 @@ impl<'a> VectorList<'a> {
         let domains = pattern.merged.domains;
         match domains.second {
             Some(second) => self.two_captures(pattern.merged, domains.first, second, outputs),
-            None => self.last_capture(pattern.merged, domains.first, outputs),
+            None => self.one_capture(pattern.merged, domains.first, true, outputs),
         }
-    }
-
-    // Adds a capture vector of a pattern before its last one.
-    fn first_capture(
-        &mut self,
-        merged: &Merged,
-        domain: u8,
-        outputs: &[Tri],
-    ) -> Result<(), AllocError>
-        ensures { OnOk result (self.new ≡ record self.old {
-          vectors = self.old.vectors
-              ++ spec.capture_with self.old.design self.old.config merged.now domain (waiting self.old.config) outputs.now ∷ [];
-        }) }
-    {
-        let mut acts = Vec::new(self.layout.alloc);
-        self.layout
-            .push_first_capture(&mut acts, merged, domain, outputs)?;
-        self.vectors.push(Acts::copied(self.layout.alloc, &acts)?)?;
-        Ok(())
     }
 
     // Adds both capture vectors of a pattern.
@@ -156,8 +138,8 @@ impl<'a> VectorList<'a> {
         }) }
     {
         let own = self.layout.own.outputs.min(outputs.len());
-        self.first_capture(merged, first, &outputs[..own])?;
-        self.last_capture(merged, second, &outputs[own..])?;
+        self.one_capture(merged, first, false, &outputs[..own])?;
+        self.one_capture(merged, second, true, &outputs[own..])?;
         Ok(())
     }
 

@@ -24,8 +24,8 @@ texts-requires c =
     record {
       joined = subst (λ (p : Planned). GatesAreJoined p.design) (sym c.loads-loads.ensures) c.requires.joined;
       scanned = c.scanned.ensures ∙ ap (λ (p : Planned). scanned Edt p.design p.config) (sym c.loads-loads.ensures);
-      merger = ap (λ (m : Merging). m.loads) same ∙ ap (λ (m : Merging). m.loads) new;
-      few = omega (arith, c.in_ok-placed.ensures.few, none, c.requires.cubes);
+      merger = ap (λ (m : Merging). m.loads) c.close-merged.ensures ∙ ap (λ (m : Merging). m.loads) same ∙ ap (λ (m : Merging). m.loads) new;
+      few = omega (arith, ap (λ (m : Merging). length m.patterns) c.close-merged.ensures, c.in_ok-placed.ensures.few, none, c.requires.cubes);
       cubes = c.requires.cubes;
       placed = ap length c.deref.ensures.value
           ∙ placed_count (columns_in c.in_ok-merger.merger) (rows_in c.in_ok-merger.merger) c.in_ok-merger.merger.window c.in_ok-merger.merger.patterns c.place_all.new.merger.patterns c.args.cubes.now c.in_ok-placed.placed.items c.in_ok-placed.ensures.placed;
@@ -41,7 +41,7 @@ returns-clause-compile c =
     let p = placed_by l c.args.cubes.now c.in_ok-merger.merger c.in_ok-placed.placed.items c.deref.result.now c.place_all.new.merger.patterns known.planned known.equations c.in_ok-merger.ensures c.deref.ensures.value c.in_ok-placed.ensures.placed in
     subst (λ (q : Planned). IfOk c.texts.result (IsCompileOf q.design q.config c.args.cubes.now)) c.loads-loads.ensures
     (IfOk-weaker c.texts.result (AreTextsOf l.design l.config c.args.cubes.now l.rows c.deref.result.now c.place_all.new.merger.patterns) (IsCompileOf l.design l.config c.args.cubes.now)
-    (λ t h. compiled_of l.design l.config c.args.cubes.now l.rows c.deref.result.now c.place_all.new.merger.patterns t p told h) c.texts.ensures.texts)
+    (λ t h. compiled_of l.design l.config c.args.cubes.now l.rows c.deref.result.now c.place_all.new.merger.patterns t p told h) (rw c.close-merged.ensures at c.texts.ensures.texts))
 
 pub returns-clause-reads : goal.returns-clause-reads
 returns-clause-reads c =
@@ -54,4 +54,4 @@ returns-clause-refused c =
     let p = placed_by l c.args.cubes.now c.in_ok-merger.merger c.in_ok-placed.placed.items c.deref.result.now c.place_all.new.merger.patterns known.planned known.equations c.in_ok-merger.ensures c.deref.ensures.value c.in_ok-placed.ensures.placed in
     subst (λ (q : Planned). IfErr c.texts.result (IsLate q.design q.config c.args.cubes.now)) c.loads-loads.ensures
     (IfErr-weaker c.texts.result (IsRefusal (late_refusal l.design l.config c.args.cubes.now l.rows c.deref.result.now c.place_all.new.merger.patterns)) (IsLate l.design l.config c.args.cubes.now)
-    (λ e h. refused_of l.design l.config c.args.cubes.now l.rows c.deref.result.now c.place_all.new.merger.patterns e p h) c.texts.ensures.refused)
+    (λ e h. refused_of l.design l.config c.args.cubes.now l.rows c.deref.result.now c.place_all.new.merger.patterns e p h) (rw c.close-merged.ensures at c.texts.ensures.refused))

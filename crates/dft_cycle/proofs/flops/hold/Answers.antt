@@ -1,5 +1,5 @@
 -- One lock-up more has its value.
-use Rattle.std.proofs.Common.{ℕ, List, Option, None, ◌≡◌, ◌<◌, ◌∙◌, refl, ap, sym, length, get_or, arith}
+use Rattle.std.proofs.Common.{ℕ, Option, None, ◌≡◌, ◌<◌, ◌∙◌, refl, ap, sym, length, get_or, arith}
 use Rattle.std.proofs.lemmas.List.{get_or_read, get_or_default}
 use Rattle.dft_base.specs.declared.tri.Tri.{Tri}
 use Rattle.dft_base.specs.declared.tri.Tri.TheVariants.{Zero, Unknown}
@@ -18,7 +18,7 @@ pub index-requires : goal.index-requires
 index-requires c =
     let x = c.args.circuit.now in
     let xs = c.list_of-latch-items.result.now in
-    let named : xs ≡ list_at x.holders.items c.args.domain.0 = c.list_of-latch-items.ensures ∙ ap (λ (t : List (List ℕ)). list_at t c.args.domain.0) c.deref.ensures.value in
+    let named : xs ≡ list_at x.holders c.args.domain.0 = c.list_of-latch-items.ensures in
     let own = holder_listed x c.args.domain.0 (get_or xs c.loop-latch.latch-index 0) xs c.requires.circuit named (has_item xs c.loop-latch.latch-index 0 c.loop-latch-test.true) in
     let less = own.0 in
     let e = x.latches.ok.0 in
@@ -28,7 +28,7 @@ pub bounds-held-place : goal.bounds-held-place
 bounds-held-place c =
     let x = c.args.circuit.now in
     let xs = c.list_of-latch-items.result.now in
-    let named : xs ≡ list_at x.holders.items c.args.domain.0 = c.list_of-latch-items.ensures ∙ ap (λ (t : List (List ℕ)). list_at t c.args.domain.0) c.deref.ensures.value in
+    let named : xs ≡ list_at x.holders c.args.domain.0 = c.list_of-latch-items.ensures in
     let own = holder_listed x c.args.domain.0 (get_or xs c.loop-latch.latch-index 0) xs c.requires.circuit named (has_item xs c.loop-latch.latch-index 0 c.loop-latch-test.true) in
     let less = own.0 in
     let e = c.loop-latch.auto.held ∙ c.requires.held in
@@ -41,7 +41,7 @@ loop-latch-preserved c =
     let place : ℕ = get_or xs c.loop-latch.latch-index 0 in
     let d : ℕ = c.args.domain.0 in
     let values : ℕ → Tri = value_at c.args.values.now in
-    let named : xs ≡ list_at x.holders.items d = c.list_of-latch-items.ensures ∙ ap (λ (t : List (List ℕ)). list_at t d) c.deref.ensures.value in
+    let named : xs ≡ list_at x.holders d = c.list_of-latch-items.ensures in
     let own = holder_listed x d place xs c.requires.circuit named (has_item xs c.loop-latch.latch-index 0 c.loop-latch-test.true) in
     let less : place < length x.latches.items = own.0 in
     let live : place < length c.loop-latch.held = (let e = c.loop-latch.auto.held ∙ c.requires.held in omega arith) in

@@ -1,5 +1,5 @@
 -- One flip-flop more has its value.
-use Rattle.std.proofs.Common.{ℕ, List, ◌≡◌, ◌<◌, ◌∙◌, refl, ap, length, map, get_or, arith}
+use Rattle.std.proofs.Common.{ℕ, ◌≡◌, ◌<◌, ◌∙◌, refl, ap, length, map, get_or, arith}
 use Rattle.std.proofs.lemmas.List.{get_or_read}
 use Rattle.dft_base.specs.declared.tri.Tri.{Tri}
 use Rattle.dft_netlist.specs.Logic.{Cell}
@@ -17,7 +17,7 @@ pub index-requires : goal.index-requires
 index-requires c =
     let x = c.args.circuit.now in
     let xs = c.list_of-cell-items.result.now in
-    let named : xs ≡ list_at x.cells.items c.args.domain.0 = c.list_of-cell-items.ensures ∙ ap (λ (t : List (List ℕ)). list_at t c.args.domain.0) c.deref.ensures.value in
+    let named : xs ≡ list_at x.cells c.args.domain.0 = c.list_of-cell-items.ensures in
     let own = cell_listed x c.args.domain.0 (get_or xs c.loop-cell.cell-index 0) xs c.requires.circuit named (has_item xs c.loop-cell.cell-index 0 c.loop-cell-test.true) in
     let less = own.0 in
     let e = x.flops.ok.0 in
@@ -27,7 +27,7 @@ pub bounds-next-place : goal.bounds-next-place
 bounds-next-place c =
     let x = c.args.circuit.now in
     let xs = c.list_of-cell-items.result.now in
-    let named : xs ≡ list_at x.cells.items c.args.domain.0 = c.list_of-cell-items.ensures ∙ ap (λ (t : List (List ℕ)). list_at t c.args.domain.0) c.deref.ensures.value in
+    let named : xs ≡ list_at x.cells c.args.domain.0 = c.list_of-cell-items.ensures in
     let own = cell_listed x c.args.domain.0 (get_or xs c.loop-cell.cell-index 0) xs c.requires.circuit named (has_item xs c.loop-cell.cell-index 0 c.loop-cell-test.true) in
     let less = own.0 in
     let e = c.loop-cell.auto.next ∙ c.requires.next in
@@ -41,7 +41,7 @@ loop-cell-preserved c =
     let d : ℕ = c.args.domain.0 in
     let ports : ℕ → Tri = value_at c.args.ports.now in
     let values : ℕ → Tri = value_at c.args.values.now in
-    let named : xs ≡ list_at x.cells.items d = c.list_of-cell-items.ensures ∙ ap (λ (t : List (List ℕ)). list_at t d) c.deref.ensures.value in
+    let named : xs ≡ list_at x.cells d = c.list_of-cell-items.ensures in
     let own = cell_listed x d place xs c.requires.circuit named (has_item xs c.loop-cell.cell-index 0 c.loop-cell-test.true) in
     let less : place < length x.flops.items = own.0 in
     let live : place < length c.loop-cell.next = (let e = c.loop-cell.auto.next ∙ c.requires.next in omega arith) in

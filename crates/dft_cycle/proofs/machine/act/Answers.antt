@@ -16,7 +16,7 @@ pub index-requires : goal.index-requires
 index-requires c =
     let x = c.args.circuit.now in
     let xs = c.list_of-cell-items.result.now in
-    let named : xs ≡ list_at x.followers.items c.args.net.0 = c.list_of-cell-items.ensures ∙ ap (λ (t : List (List ℕ)). list_at t c.args.net.0) c.deref.ensures.value in
+    let named : xs ≡ list_at x.followers c.args.net.0 = c.list_of-cell-items.ensures in
     let less = follower_listed x c.args.net.0 (get_or xs c.loop-cell.cell-index 0) xs c.requires.circuit named (has_item xs c.loop-cell.cell-index 0 c.loop-cell-test.true) in
     let e = x.flops.ok.0 in
     omega arith
@@ -25,7 +25,7 @@ pub set-requires : goal.set-requires
 set-requires c =
     let x = c.args.circuit.now in
     let xs = c.list_of-cell-items.result.now in
-    let named : xs ≡ list_at x.followers.items c.args.net.0 = c.list_of-cell-items.ensures ∙ ap (λ (t : List (List ℕ)). list_at t c.args.net.0) c.deref.ensures.value in
+    let named : xs ≡ list_at x.followers c.args.net.0 = c.list_of-cell-items.ensures in
     let less = follower_listed x c.args.net.0 (get_or xs c.loop-cell.cell-index 0) xs c.requires.circuit named (has_item xs c.loop-cell.cell-index 0 c.loop-cell-test.true) in
     omega (arith, c.loop-cell.invariant.1.1, c.requires.cells, less)
 
@@ -36,7 +36,7 @@ loop-cell-preserved c =
     let place : ℕ = get_or xs c.loop-cell.cell-index 0 in
     let net : ℕ = c.args.net.0 in
     let old : List Tri = c.loop-cell.cells.values in
-    let named : xs ≡ list_at x.followers.items net = c.list_of-cell-items.ensures ∙ ap (λ (t : List (List ℕ)). list_at t net) c.deref.ensures.value in
+    let named : xs ≡ list_at x.followers net = c.list_of-cell-items.ensures in
     let less : place < length x.flops.items = follower_listed x net place xs c.requires.circuit named (has_item xs c.loop-cell.cell-index 0 c.loop-cell-test.true) in
     let live : place < length old = omega (arith, c.loop-cell.invariant.1.1, c.requires.cells, less) in
     let force : ℕ → Option Force = λ k. (cell_at (map cell_of x.flops.items) k).force in

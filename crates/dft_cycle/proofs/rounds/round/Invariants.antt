@@ -11,7 +11,7 @@ abbrev pub invariant-loop-clock : goal.invariant-loop-clock
 invariant-loop-clock l = record {
   rises : Rises l.phase.circuit.now (pulse_at l.phase.pulse) (value_at l.poss) l.phase.clocks.now l.initial.held l.held l.clock-index;
   same : l.changed ≡ false → l.held ≡ l.initial.held;
-  near : (k : ℕ) → Has (list_at l.phase.circuit.now.leaves.items l.last.0) k ⊎ GivenIn l.phase.circuit.now (pulse_at l.phase.pulse) l.poss l.held l.last.0 l.values k;
+  near : (k : ℕ) → Has (list_at l.phase.circuit.now.leaves l.last.0) k ⊎ GivenIn l.phase.circuit.now (pulse_at l.phase.pulse) l.poss l.held l.last.0 l.values k;
   ready : IsReady l.phase.circuit.now l.values;
   clear : (k : ℕ) → flag_at l.marked k ≡ false;
   live : 0 < length l.phase.circuit.now.ops.items → l.last.0 < length l.phase.circuit.now.ops.items;

@@ -1,7 +1,5 @@
 -- Each net that is not marked has its driver's value.
-use Rattle.std.proofs.Common.{ℕ, List, ◌∙◌, ap}
 use Rattle.dft_logic.specs.Circuit.{IsGiven}
-use Rattle.dft_logic.specs.Tables.{list_at}
 use Rattle.dft_cycle.proofs.Sweepings.{both_refreshed}
 use Rattle.dft_cycle.proofs.sweeping.change_view.Goals as goal
 
@@ -11,7 +9,7 @@ sweep-requires-clause-given c =
     let v = c.args.view.now in
     both_refreshed c.args.marked.now c.refresh-left.new.marked c.refresh-entered.new.marked c.list_of.result.now c.list_of-2.result.now _ _
     (IsGiven x v c.args.values.now) (IsGiven x v c.refresh-left.new.values) (IsGiven x v c.refresh-entered.new.values)
-    (c.list_of.ensures ∙ ap (λ (t : List (List ℕ)). list_at t c.args.last.0) c.deref.ensures.value) (c.list_of-2.ensures ∙ ap (λ (t : List (List ℕ)). list_at t v.domain.0) c.deref-2.ensures.value)
+    c.list_of.ensures c.list_of-2.ensures
     c.requires.near c.refresh-left.ensures.given c.refresh-entered.ensures.given
 
 pub returns-else-entered-clause-given : goal.returns-else-entered-clause-given
@@ -20,6 +18,6 @@ returns-else-entered-clause-given c = λ k.
     let v = c.args.view.now in
     both_refreshed c.args.marked.now c.refresh-left.new.marked c.refresh-entered.new.marked c.list_of.result.now c.list_of-2.result.now _ _
     (IsGiven x v c.args.values.now) (IsGiven x v c.refresh-left.new.values) (IsGiven x v c.refresh-entered.new.values)
-    (c.list_of.ensures ∙ ap (λ (t : List (List ℕ)). list_at t c.args.last.0) c.deref.ensures.value) (c.list_of-2.ensures ∙ ap (λ (t : List (List ℕ)). list_at t v.domain.0) c.deref-2.ensures.value)
+    c.list_of.ensures c.list_of-2.ensures
     c.requires.near c.refresh-left.ensures.given c.refresh-entered.ensures.given k
     (c.refresh-entered.ensures.none c.if-entered.false k (c.refresh-left.ensures.none c.if-left.false k (c.requires.clear k))))

@@ -1,5 +1,5 @@
 -- Nets that do not read it keep their drivers' values.
-use Rattle.std.proofs.Common.{ℕ, List, map, ◌≡◌, ◌<◌, ◌∙◌, ap, length, arith}
+use Rattle.std.proofs.Common.{ℕ, map, ◌≡◌, ◌<◌, ◌∙◌, ap, length, arith}
 use Rattle.std.proofs.lemmas.List.{get_or_read}
 use Rattle.dft_base.specs.declared.tri.Tri.{Tri}
 use Rattle.dft_logic.specs.declared.circuit.Op.{Op}
@@ -16,7 +16,7 @@ returns-clause-given c = λ k down before.
     (let x = c.args.circuit.now in
     let net : ℕ = c.args.net.0 in
     let live : net < length c.args.values.now = (let less = c.requires.live in let e = c.requires.values in omega arith) in
-    let readers : c.list_of-readers.result.now ≡ list_at x.readers.items net = c.list_of-readers.ensures ∙ ap (λ (t : List (List ℕ)). list_at t net) c.deref-2.ensures.value in
+    let readers : c.list_of-readers.result.now ≡ list_at x.readers net = c.list_of-readers.ensures in
     let base : Supply = view_base (map cell_of x.flops.items) c.args.view.now in
     let given : Op → Tri = λ o. value_given (leaves_from base (value_at c.args.values.now)) (value_at c.args.values.now) net (meaning o) in
     let value : c.op_value-value.result ≡ given c.index.result.now = rw c.deref.ensures.value at c.op_value-value.ensures in

@@ -1,5 +1,5 @@
 -- What is read is the state of the channel's response, and the chain's stages.
-use Rattle.std.proofs.Common.{ℕ, arith, ap, length, ◌≡◌, ◌∙◌, suc, ◌<◌, ◌/◌}
+use Rattle.std.proofs.Common.{ℕ, arith, ap, length, ◌≡◌, ◌∙◌, suc, ◌/◌}
 use Rattle.dft_config.specs.declared.config.RingConfig.{RingConfig}
 use Rattle.dft_config.proofs.Linearity.{delay_small}
 use Rattle.dft_equations.proofs.LoadLemmas.{IsRead, cycle_less, response_length, read_within, read_bit}

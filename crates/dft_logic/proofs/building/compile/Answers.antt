@@ -17,16 +17,16 @@ returns c =
     let O : List NetId → Type 0 = λ l. IsOrder c.args.design.now (numbers_of l) in
     circuit_of c.args.design.now (ports_by c.args.flags.now) (record { order = c.in_ok-order.order; ops = c.in_ok-ops.ops; flops = c.in_ok-flops.flops; latches = c.in_ok-latches.latches; readers = c.in_ok-readers.readers; sources = c.in_ok-sources.sources; leaves = c.in_ok-leaves.leaves; cells = c.in_ok-cells.cells; holders = c.in_ok-holders.holders; followers = c.in_ok-followers.followers })
     c.soundness.ensures.netlist (subst O (sym c.in_ok-order.ensures.items) c.order.ensures) c.in_ok-ops.ensures.count c.in_ok-ops.ensures.each c.in_ok-flops.ensures c.in_ok-latches.ensures
-    (let o : List Op → Type 0 = λ l. IsTable (length l) (length l) (λ k. reads (meaning (op_at l k))) c.in_ok-readers.readers.items in
-    let s : List Op → Type 0 = λ l. IsTable 1 (length l) (λ k. source_places (meaning (op_at l k))) c.in_ok-sources.sources.items in
-    let a : List Op → Type 0 = λ l. IsTable (length l) (length l) (λ k. leaf_domains (map cell_of c.deref-6.result.now) k (meaning (op_at l k))) c.in_ok-leaves.leaves.items in
-    let b : List FlipFlop → Type 0 = λ l. IsTable (length c.in_ok-ops.ops.items) (length c.in_ok-ops.ops.items) (λ k. leaf_domains (map cell_of l) k (meaning (op_at c.in_ok-ops.ops.items k))) c.in_ok-leaves.leaves.items in
-    let f : List FlipFlop → Type 0 = λ l. IsTable c.len-nets.result (length l) (λ k. (cell_at (map cell_of l) k).domain ∷ []) c.in_ok-cells.cells.items in
-    let g : ℕ → Type 0 = λ n. IsTable n (length c.in_ok-flops.flops.items) (λ k. (cell_at (map cell_of c.in_ok-flops.flops.items) k).domain ∷ []) c.in_ok-cells.cells.items in
-    let h : List (Option Latch) → Type 0 = λ l. IsTable c.len-nets.result (length l) (λ k. latch_domains (latch_at l k)) c.in_ok-holders.holders.items in
-    let i : ℕ → Type 0 = λ n. IsTable n (length c.in_ok-latches.latches.items) (λ k. latch_domains (latch_at c.in_ok-latches.latches.items k)) c.in_ok-holders.holders.items in
-    let k : List FlipFlop → Type 0 = λ l. IsTable c.len-nets.result (length l) (λ k. force_nets (cell_at (map cell_of l) k).force) c.in_ok-followers.followers.items in
-    let m : ℕ → Type 0 = λ n. IsTable n (length c.in_ok-flops.flops.items) (λ k. force_nets (cell_at (map cell_of c.in_ok-flops.flops.items) k).force) c.in_ok-followers.followers.items in
+    (let o : List Op → Type 0 = λ l. IsTable (length l) (length l) (λ k. reads (meaning (op_at l k))) c.in_ok-readers.readers in
+    let s : List Op → Type 0 = λ l. IsTable 1 (length l) (λ k. source_places (meaning (op_at l k))) c.in_ok-sources.sources in
+    let a : List Op → Type 0 = λ l. IsTable (length l) (length l) (λ k. leaf_domains (map cell_of c.deref-6.result.now) k (meaning (op_at l k))) c.in_ok-leaves.leaves in
+    let b : List FlipFlop → Type 0 = λ l. IsTable (length c.in_ok-ops.ops.items) (length c.in_ok-ops.ops.items) (λ k. leaf_domains (map cell_of l) k (meaning (op_at c.in_ok-ops.ops.items k))) c.in_ok-leaves.leaves in
+    let f : List FlipFlop → Type 0 = λ l. IsTable c.len-nets.result (length l) (λ k. (cell_at (map cell_of l) k).domain ∷ []) c.in_ok-cells.cells in
+    let g : ℕ → Type 0 = λ n. IsTable n (length c.in_ok-flops.flops.items) (λ k. (cell_at (map cell_of c.in_ok-flops.flops.items) k).domain ∷ []) c.in_ok-cells.cells in
+    let h : List (Option Latch) → Type 0 = λ l. IsTable c.len-nets.result (length l) (λ k. latch_domains (latch_at l k)) c.in_ok-holders.holders in
+    let i : ℕ → Type 0 = λ n. IsTable n (length c.in_ok-latches.latches.items) (λ k. latch_domains (latch_at c.in_ok-latches.latches.items k)) c.in_ok-holders.holders in
+    let k : List FlipFlop → Type 0 = λ l. IsTable c.len-nets.result (length l) (λ k. force_nets (cell_at (map cell_of l) k).force) c.in_ok-followers.followers in
+    let m : ℕ → Type 0 = λ n. IsTable n (length c.in_ok-flops.flops.items) (λ k. force_nets (cell_at (map cell_of c.in_ok-flops.flops.items) k).force) c.in_ok-followers.followers in
     let nets : c.len-nets.result ≡ length c.in_ok-ops.ops.items = c.len-nets.ensures ∙ c.in_ok-ops.ops.ok.0 in
     record {
       readers = subst o c.deref-3.ensures.value c.in_ok-readers.ensures;

@@ -4,7 +4,7 @@ use Rattle.std.proofs.lemmas.List.{get_or_default}
 use Rattle.dft_logic.specs.declared.circuit.Op.{Op}
 use Rattle.dft_logic.specs.declared.circuit.Op.TheVariants.{Free}
 use Rattle.dft_logic.specs.Circuit.{meaning, op_at, source_places}
-use Rattle.dft_logic.proofs.TableLemmas.{table_start, table_more, table_all}
+use Rattle.dft_logic.proofs.TableLemmas.{table_start, table_more, table_packed}
 use Rattle.dft_logic.proofs.tables.sources.Goals as goal
 
 pub loop-net-init : goal.loop-net-init
@@ -16,4 +16,4 @@ loop-net-preserved c =
     (c.source_place.ensures ∙ ap (λ (o : Op). source_places (meaning o)) (c.index-ops-net.is ∙ get_or_default c.args.ops.now c.loop-net.net _ Free c.loop-net-test.true)) c.in_ok-add_at.ensures
 
 pub returns : goal.returns
-returns c = table_all _ _ c.loop-net.net _ _ c.loop-net-test.false c.loop-net.auto.net-end c.loop-net.invariant
+returns c = table_packed _ _ c.loop-net.net _ _ _ _ c.in_ok-packed.ensures c.deref.ensures.value c.loop-net-test.false c.loop-net.auto.net-end c.loop-net.invariant

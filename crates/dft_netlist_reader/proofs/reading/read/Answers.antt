@@ -1,16 +1,11 @@
-use Rattle.std.proofs.Common.{List, subst, sym}
-use Rattle.dft_modules.specs.Modules.{Module}
-use Rattle.dft_hier.specs.Hierarchy.{HaveOwnNames}
-use Rattle.dft_hier.specs.Refusals.{IsFlat}
 use Rattle.dft_hier.proofs.NewNames.{own_names}
 use Rattle.dft_verilog.proofs.KeptModuleLemmas.{said_are_modules}
 use Rattle.dft_netlist_reader.proofs.JoinedDesigns.{flat_joined}
 use Rattle.dft_netlist_reader.proofs.reading.read.Goals as goal
 
 pub flatten-requires-clause-names : goal.flatten-requires-clause-names
-flatten-requires-clause-names c = subst HaveOwnNames (sym c.deref.ensures.value) (own_names _ _ (said_are_modules _ _ _ c.in_ok-modules.ensures.modules).1)
+flatten-requires-clause-names c = own_names _ _ (said_are_modules _ _ _ c.in_ok-modules.ensures.modules).1
 
 pub returns-clause-joined : goal.returns-clause-joined
 returns-clause-joined c =
-    let flat = subst (λ (ms : List Module). IsFlat ms c.args.library c.in_ok-design.design) c.deref.ensures.value c.in_ok-design.ensures.flat in
-    flat_joined c.args.library c.args.bytes.now c.in_ok-design.design (record { modules = c.in_ok-modules.modules.items; said = c.in_ok-modules.ensures.modules; flat = flat })
+    flat_joined c.args.library c.args.bytes.now c.in_ok-design.design (record { modules = c.in_ok-modules.modules.items; said = c.in_ok-modules.ensures.modules; flat = c.in_ok-design.ensures.flat })

@@ -29,9 +29,9 @@ returns-clause-played c =
     let pulsed : c.deref-3.result.now ≡ c.mark.new.pulsed = c.deref-3.ensures.value ∙ with_items_is c.args.room.now.pulsed c.mark.new.pulsed (search rules) in
     let P : List Bool → Type 0 = λ flags. IsPulsed (logic set) set flags c.pulse.new.self in
     let M : Machine → Type 0 = λ m. IsPulsed (logic m) m c.deref-3.result.now c.pulse.new.self in
-    played c.args.machine.now set c.pulse.new.self c.args.nets.now c.args.clocks.now c.mark.new.pulsed c.args.acts.now c.args.vector c.list_compared.new.wanted.items c.list_compared.new.asked.items c.compare-decision.result
+    played c.args.unknowns c.args.machine.now set c.pulse.new.self c.args.nets.now c.args.clocks.now c.mark.new.pulsed c.args.acts.now c.args.vector c.list_compared.new.wanted.items c.list_compared.new.asked.items c.compare-decision.result
     c.requires.ordered c.requires.nets.differ c.requires.acts c.requires.clocks c.set_inputs.ensures.stands c.set_inputs.ensures.inputs c.list_compared.ensures.nets c.list_compared.ensures.printed
-    (λ values strobe. c.compare-decision.ensures.first values strobe ∙ (λ t. decided_seen c.args.vector (c.deref-2.ensures.value t) (map (λ (net : NetId). values net.0) (c.deref.ensures.value t))))
+    (λ values strobe. c.compare-decision.ensures.first values strobe ∙ (λ t. decided_seen c.args.unknowns c.args.vector (c.deref-2.ensures.value t) (map (λ (net : NetId). values net.0) (c.deref.ensures.value t))))
     c.mark.ensures (subst P pulsed (subst M c.compare-decision.ensures.same c.pulse.ensures))
 
 pub returns-clause-placed : goal.returns-clause-placed

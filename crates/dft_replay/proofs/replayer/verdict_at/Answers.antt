@@ -37,7 +37,7 @@ loop-vector-init c =
       clocks = start.clocks ∙ are;
       forced = (start_forced n c.deref-2.result.now m start).0;
       room = search rules;
-      rest = λ verdict h. starts (logic_of n (ports_in (numbers_of nets) vectors)) n c.deref-2.result.now m (numbers_of nets) vectors verdict start h;
+      rest = λ verdict h. starts c.args.unknowns (logic_of n (ports_in (numbers_of nets) vectors)) n c.deref-2.result.now m (numbers_of nets) vectors verdict start h;
       few = omega arith;
     }
 
@@ -64,7 +64,7 @@ returns-in-Some-clause-verdict c =
     let here : get_or vectors v [] ≡ acts = read_at vectors v c.index-vectors-vector.result acts less c.index-vectors-vector.is c.as_slice-acts.ensures in
     let means : logic m ≡ logic_of n (ports_in (numbers_of nets) vectors) = machine_means n m nets vectors c.loop-vector.invariant.netlist c.loop-vector.invariant.clocks c.requires.nets.differ c.requires.acts in
     c.loop-vector.invariant.rest c.in-Some.verdict
-    (ends (logic_of n (ports_in (numbers_of nets) vectors)) (numbers_of nets) vectors v c.loop-vector.compared acts m c.play-decision.new.machine c.play-decision.result c.in-Some.verdict means less here c.play-decision.ensures.played c.in-Some.is)
+    (ends c.args.unknowns (logic_of n (ports_in (numbers_of nets) vectors)) (numbers_of nets) vectors v c.loop-vector.compared acts m c.play-decision.new.machine c.play-decision.result c.in-Some.verdict means less here c.play-decision.ensures.played c.in-Some.is)
 
 pub loop-vector-preserved : goal.loop-vector-preserved
 loop-vector-preserved c =
@@ -86,7 +86,7 @@ loop-vector-preserved c =
       forced = played.forced;
       room = search rules;
       rest = λ verdict later. c.loop-vector.invariant.rest verdict
-          (goes_on (logic_of n (ports_in (numbers_of nets) vectors)) (numbers_of nets) vectors v c.loop-vector.compared c.len-in-loop-vector.result acts m c.play-decision.new.machine c.play-decision.result verdict means less here (same ∙ sym (length-map nets (λ (k : NetId). k.0))) counted played c.in_default.is later);
+          (goes_on c.args.unknowns (logic_of n (ports_in (numbers_of nets) vectors)) (numbers_of nets) vectors v c.loop-vector.compared c.len-in-loop-vector.result acts m c.play-decision.new.machine c.play-decision.result verdict means less here (same ∙ sym (length-map nets (λ (k : NetId). k.0))) counted played c.in_default.is later);
       few = few_counted c.loop-vector.compared v (length nets) c.len-in-loop-vector.result acts c.loop-vector.invariant.few counted same;
     }
 
@@ -109,4 +109,4 @@ returns-clause-verdict c =
     let vectors : List (List Act) = c.args.vectors.now in
     let m : Machine = c.loop-vector.machine in
     c.loop-vector.invariant.rest (Pass c.loop-vector.compared)
-    (none_left (logic_of n (ports_in (numbers_of nets) vectors)) (value_at m.cells) (value_at m.inputs) c.loop-vector.vector c.loop-vector.compared (numbers_of nets) vectors c.loop-vector-test.false)
+    (none_left c.args.unknowns (logic_of n (ports_in (numbers_of nets) vectors)) (value_at m.cells) (value_at m.inputs) c.loop-vector.vector c.loop-vector.compared (numbers_of nets) vectors c.loop-vector-test.false)

@@ -9,7 +9,7 @@ use Rattle.dft_replay.specs.declared.verdict.Verdict.{Verdict}
 use Rattle.dft_replay.specs.Looks.{HasRoom}
 use Rattle.dft_replay.specs.Rows.{rows_from, ports_in}
 use Rattle.dft_replay.specs.Vectors.{net_at, clocks_of}
-use Rattle.dft_replay.specs.Verdicts.{HasVerdictFrom}
+use Rattle.dft_replay.specs.Verdicts.{EndsFrom}
 use Rattle.dft_replay.proofs.replayer.verdict_at.Given as goal
 
 abbrev pub invariant-loop-vector : goal.invariant-loop-vector
@@ -18,7 +18,7 @@ invariant-loop-vector l = record {
   clocks : l.machine.clocks ≡ map (net_at l.nets) (clocks_of (length l.nets) l.vectors);
   forced : IsForced l.machine;
   room : HasRoom (length l.clocks.items) (length l.nets) l.room;
-  rest : (verdict : Verdict) → HasVerdictFrom (logic_of l.design (ports_in (numbers_of l.nets) l.vectors)) (value_at l.machine.cells) l.vector l.compared (rows_from (numbers_of l.nets) (value_at l.machine.inputs) (drop l.vector l.vectors)) verdict
-      → HasVerdictFrom (logic_of l.design (ports_in (numbers_of l.nets) l.vectors)) all_unknown 0 0 (rows_from (numbers_of l.nets) all_unknown l.vectors) verdict;
+  rest : (verdict : Verdict) → EndsFrom l.unknowns (logic_of l.design (ports_in (numbers_of l.nets) l.vectors)) (value_at l.machine.cells) l.vector l.compared (rows_from (numbers_of l.nets) (value_at l.machine.inputs) (drop l.vector l.vectors)) verdict
+      → EndsFrom l.unknowns (logic_of l.design (ports_in (numbers_of l.nets) l.vectors)) all_unknown 0 0 (rows_from (numbers_of l.nets) all_unknown l.vectors) verdict;
   few : l.compared ≤ l.vector * length l.nets;
 }

@@ -1,10 +1,10 @@
 use Rattle.dft_top.proofs.Completed.{completes_for}
-use Rattle.dft_top.proofs.Failing.{fails_for}
+use Rattle.dft_top.proofs.Failing.{fails_for, ungraded_for}
 use Rattle.dft_top.proofs.JobEnds.{generates_for}
 use Rattle.dft_top.proofs.JobFits.{jobs_fit}
 use Rattle.dft_top.proofs.JobReplays.{jobs_pass}
 use Rattle.dft_top.proofs.Kept.{kept_for}
-use Rattle.dft_top.proofs.Promised.{certifies_for, compiles_for, passes_for, scans_for}
+use Rattle.dft_top.proofs.Promised.{certifies_for, compiles_for, grades_for, passes_for, scans_for}
 use Rattle.dft_top.proofs.command.run.Goals as goal
 
 pub returns-in-Ok-clause-passes : goal.returns-in-Ok-clause-passes
@@ -30,3 +30,9 @@ returns-in-Ok-clause-certifies g c = certifies_for c.reports_are_certified.ensur
 
 pub returns-in-Ok-clause-completes : goal.returns-in-Ok-clause-completes
 returns-in-Ok-clause-completes g c = completes_for (jobs_pass c.compilations_hold.ensures) _ _ _ _ _ c.in-Ok.ensures c.run_command.ensures
+
+pub returns-in-Ok-clause-grades : goal.returns-in-Ok-clause-grades
+returns-in-Ok-clause-grades g c = grades_for _ _ _ _ _ c.in-Ok.ensures c.run_command.ensures
+
+pub returns-in-Ok-clause-ungraded : goal.returns-in-Ok-clause-ungraded
+returns-in-Ok-clause-ungraded g c = ungraded_for _ _ _ _ _ c.in-Ok.ensures c.run_command.ensures

@@ -1,4 +1,4 @@
-use Rattle.dft_top.proofs.PassingFiles.{passing_certified, passing_compiled, passing_replayed, passing_scanned}
+use Rattle.dft_top.proofs.PassingFiles.{passing_certified, passing_compiled, passing_graded, passing_replayed, passing_scanned}
 use Rattle.dft_top.proofs.laws.passing_files_are_answered.Goals as goal
 
 pub returns-clause-replayed : goal.returns-clause-replayed
@@ -12,3 +12,6 @@ returns-clause-compiled c = passing_compiled
 
 pub returns-clause-certified : goal.returns-clause-certified
 returns-clause-certified c = passing_certified
+
+pub returns-clause-graded : goal.returns-clause-graded
+returns-clause-graded c = passing_graded

@@ -50,5 +50,5 @@ returns-clause-seen c =
     let read : c.deref-2.result.now ≡ c.settle_again.new.values = c.deref-2.ensures.value ∙ filled d.values c.settle_again.new.values c.deref_mut.result.now c.settle_again.auto.values c.deref_mut.ensures.value in
     subst P c.self.view_is
     (looked (machine_of d) d.circuit c.deref.result.now d.cells.values v.poss.now v.held.now c.settle_again.new.values c.read_list.new.row v.domain.0 c.args.nets.now c.self.invariant.circuit c.self.invariant.compiled
-    c.deref.ensures.value refl (subst V c.strobe_view.ensures c.settle_again.ensures.given)
+    c.deref.ensures.value refl (subst V c.strobe_view.ensures.pulse c.settle_again.ensures.given)
     (c.read_list.ensures ∙ ap (λ (l : List Tri). map (λ (net : NetId). value_at l net.0) c.args.nets.now) read))

@@ -51,5 +51,5 @@ returns c =
     c.copy_from_slice.ensures.after ∙ c.deref-2.ensures.value ∙ filled d.values c.settle_again.new.values c.deref_mut.result.now c.settle_again.auto.values c.deref_mut.ensures.value in
     subst P c.self.view_is
     (strobed (machine_of d) after d.circuit c.deref.result.now d.cells.values v.poss.now v.held.now c.settle_again.new.values v.domain.0 c.self.invariant.compiled refl refl refl refl
-    c.deref.ensures.value refl (subst V c.strobe_view.ensures c.settle_again.ensures.given)
+    c.deref.ensures.value refl (subst V c.strobe_view.ensures.pulse c.settle_again.ensures.given)
     (filled d.shown c.copy_from_slice.new.self c.as_mut_slice.result.now c.copy_from_slice.ensures.len c.as_mut_slice.ensures.value ∙ copied))

@@ -1,7 +1,5 @@
-use Rattle.std.proofs.Common.{◌≡◌, ◌∙◌, List, Bool, Some, ap, subst}
-use Rattle.dft_netlist.specs.declared.ids.InstanceId.{InstanceId}
-use Rattle.dft_stitch.specs.Plans.{Plan, cell_at}
-use Rattle.dft_equations.specs.LoadRows.{LoadRows, row_of}
+use Rattle.std.proofs.Common.{◌∙◌, List, Bool, Some, ap}
+use Rattle.dft_equations.specs.LoadRows.{row_of}
 use Rattle.dft_merge.proofs.PlaceLemmas.{row_bits, row_found, row_nowhere, row_packed}
 use Rattle.dft_merge.proofs.loads.Loads.row.Goals as goal
 

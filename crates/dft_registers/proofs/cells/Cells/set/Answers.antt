@@ -1,23 +1,44 @@
--- The value is written at its place.
-use Rattle.std.proofs.Common.{ℕ, List, [], ◌≡◌, ◌<◌, ◌∙◌, sym, ap, subst, length, map, slice_set, arith}
-use Rattle.std.proofs.lemmas.List.{length-map, get_or_default}
+-- The value is written where the cell has it.
+use Rattle.std.proofs.Common.{ℕ, List, [], ◌≡◌, ◌<◌, ◌≢◌, ◌∙◌, sym, ap, subst, length, slice_set, arith}
+use Rattle.std.proofs.lemmas.List.{get_or_default}
 use Rattle.dft_base.specs.declared.tri.Tri.{Tri}
 use Rattle.dft_registers.specs.declared.layout.Place.{Place}
 use Rattle.dft_registers.specs.Layout.{place_at}
-use Rattle.dft_registers.specs.Cells.{Contents, value_in, row_at}
-use Rattle.dft_registers.proofs.CellLemmas.{written}
+use Rattle.dft_registers.specs.Cells.{Contents, values_in, row_at}
+use Rattle.dft_registers.proofs.CellLemmas.{placed, written, written_resting}
 use Rattle.dft_registers.proofs.cells.Cells.set.Goals as goal
 
-pub returns-clause-values : goal.returns-clause-values
-returns-clause-values c =
+pub place-place-requires : goal.place-place-requires
+place-place-requires c = placed c.self.inside c.args.self.now c.args.cell c.self.invariant c.self.view_is c.requires
+
+pub index_mut-requires : goal.index_mut-requires
+index_mut-requires c =
+    let d = c.self.inside in
+    let live = placed d c.args.self.now c.args.cell c.self.invariant c.self.view_is c.requires in
+    omega (arith, d.resting.ok.0, c.self.invariant.resting, live)
+
+pub returns-then-place-eq0-clause-values : goal.returns-then-place-eq0-clause-values
+returns-then-place-eq0-clause-values c =
+    let d = c.self.inside in
+    let cell : ℕ = c.args.cell in
+    let live = placed d c.args.self.now cell c.self.invariant c.self.view_is c.requires in
+    let rests : (place_at d.layout.places cell).register ≡ 0 = ap (λ (p : Place). p.register) (sym c.place-place.ensures) ∙ c.if-place-eq0.true in
+    written_resting d.rows.items d.layout.places d.resting.items cell c.args.value c.self.invariant.resting live rests ∙ ap (λ (k : Contents). slice_set k.values cell c.args.value) c.self.view_is
+
+pub returns-else-place-eq0-clause-values : goal.returns-else-place-eq0-clause-values
+returns-else-place-eq0-clause-values c =
     let d = c.self.inside in
     let i = c.self.invariant in
     let cell : ℕ = c.args.cell in
-    let live : cell < length d.layout.places = (let less = subst (λ (k : Contents). cell < length k.values) (sym c.self.view_is) c.requires in omega (arith, length-map d.layout.places (value_in d.rows.items), less)) in
-    let at : c.place-place.result ≡ place_at d.layout.places cell = c.place-place.ensures.at ∙ ap (λ (k : Contents). place_at k.layout.places cell) (sym c.self.view_is) in
-    let less : c.place-place.result.register < length d.rows.items = (let was = i.laid.register cell live in omega (arith, i.count, ap (λ (p : Place). p.register) at, was)) in
-    let row : c.index_mut-row.result.now ≡ _ = c.index_mut-row.ensures.value ∙ get_or_default d.rows.items c.place-place.result.register _ [] less ∙ ap (λ (p : Place). row_at d.rows.items p.register) at in
-    ap (λ (x : List Tri). map (value_in (slice_set d.rows.items c.place-place.result.register x)) d.layout.places) c.set.ensures
-    ∙ ap (λ (p : Place). map (value_in (slice_set d.rows.items p.register (slice_set c.index_mut-row.result.now p.index c.args.value))) d.layout.places) at
-    ∙ written d.layout d.rows.items cell c.args.value c.index_mut-row.result.now i.laid i.count i.rows live row
+    let own : List Tri = d.resting.items in
+    let p : Place = c.place-place.result in
+    let live : cell < length d.layout.places = placed d c.args.self.now cell i c.self.view_is c.requires in
+    let at : p ≡ place_at d.layout.places cell = c.place-place.ensures in
+    let ne : p.register ≢ 0 = c.if-place-eq0.false in
+    let above : 0 < (place_at d.layout.places cell).register = subst (λ (q : Place). 0 < q.register) at (omega (arith, ne)) in
+    let less : p.register < length d.rows.items = (let was = i.laid.register cell live in omega (arith, i.count, ap (λ (q : Place). q.register) at, was)) in
+    let row : c.index_mut-row.result.now ≡ _ = c.index_mut-row.ensures.value ∙ get_or_default d.rows.items p.register _ [] less ∙ ap (λ (q : Place). row_at d.rows.items q.register) at in
+    ap (λ (x : List Tri). values_in (slice_set d.rows.items p.register x) d.layout.places own) c.set.ensures
+    ∙ ap (λ (q : Place). values_in (slice_set d.rows.items q.register (slice_set c.index_mut-row.result.now q.index c.args.value)) d.layout.places own) at
+    ∙ written d.layout d.rows.items own cell c.args.value c.index_mut-row.result.now i.laid i.resting i.count i.rows live above row
     ∙ ap (λ (k : Contents). slice_set k.values cell c.args.value) c.self.view_is

@@ -12,6 +12,6 @@ returns c =
     let own = c.min-own.result in
     let left = length outputs - own in
     let rest : take left (drop own outputs) ≡ drop own outputs = take_all left (drop own outputs) (omega (arith, length-drop own outputs)) in
-    two_steps c.args.self.now c.first_capture.new.self c.last_capture.new.self c.args.merged.now c.args.first c.args.second c.self.inside.layout.own.outputs outputs (take own outputs) (take left (drop own outputs))
+    two_steps c.args.self.now c.one_capture.new.self c.one_capture-2.new.self c.args.merged.now c.args.first c.args.second c.self.inside.layout.own.outputs outputs (take own outputs) (take left (drop own outputs))
     (c.self.invariant.layout.own.outputs ∙ ap (λ (l : Listing). length (output_bits l.design.ports)) c.self.view_is) (ap (λ (k : ℕ). take k outputs) c.min-own.ensures) (rest ∙ ap (λ (k : ℕ). drop k outputs) c.min-own.ensures)
-    c.in_ok-first_capture.ensures c.in_ok-last_capture.ensures
+    c.in_ok-one_capture.ensures c.in_ok-one_capture-2.ensures

@@ -1,0 +1,5 @@
+use Rattle.dft_faults.proofs.Endings.{memory_alone}
+use Rattle.dft_faults.proofs.stuck.finish.Goals as goal
+
+pub memory-requires : goal.memory-requires
+memory-requires c = memory_alone c.args.builder c.in-Err.error c.requires c.in-Err.ensures.refused

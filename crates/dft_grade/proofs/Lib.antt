@@ -1,0 +1,4 @@
+pub mod Soundness
+pub mod Fits
+pub mod Listed
+pub mod AllOfThem

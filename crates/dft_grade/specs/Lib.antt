@@ -1,0 +1,3 @@
+pub mod Grades
+pub mod Laws
+pub mod AllGrades

@@ -1,0 +1,5 @@
+use Rattle.std.proofs.Common.{append_assoc}
+use Rattle.dft_grade_report.proofs.lines.add_detected.Goals as goal
+
+pub returns : goal.returns
+returns c = rw (c.in_ok-extend_from_slice-4.ensures.items, c.in_ok-extend_from_slice-3.ensures.items, c.in_ok-extend_from_slice-2.ensures.items, c.in_ok-add_number.ensures, c.in_ok-extend_from_slice.ensures.items) (simp append_assoc)
