@@ -7,4 +7,5 @@ pub mod MachineLemmas
 pub mod MachineRounds
 pub mod AloneLemmas
 pub mod DomainLemmas
+pub mod StepLemmas
 pub mod PassLemmas

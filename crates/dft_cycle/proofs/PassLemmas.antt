@@ -1,5 +1,5 @@
 -- A plan that is made passes every pulse that has its key.
-use Rattle.std.proofs.Common.{ℕ, zero, suc, Bool, true, false, List, [], ◌∷◌, ◌≡◌, ◌<◌, ◌≤◌, inl, inr, Option, None, Some, length, map, take, drop, refl, sym, ap, ◌∙◌, subst, get_or, arith, not, ◌&&◌}
+use Rattle.std.proofs.Common.{ℕ, zero, suc, Bool, true, false, List, [], ◌∷◌, ◌≡◌, ◌<◌, ◌≤◌, inl, inr, Option, None, Some, All, length, map, drop, refl, sym, ap, ◌∙◌, subst, get_or, arith, not, ◌&&◌}
 use Rattle.std.specs.Vec.{vec_capacity}
 use Rattle.std.specs.Global.{Vec}
 use Rattle.std.proofs.lemmas.Bool.Decides.{leb_tells}
@@ -33,6 +33,8 @@ use Rattle.dft_cycle.specs.declared.plans.Plan.{Plan}
 use Rattle.dft_cycle.specs.declared.plans.Stage.TheVariants.{Noted, Made, Barred}
 use Rattle.dft_cycle.specs.declared.looks.Look.{Look}
 use Rattle.dft_cycle.specs.Views.{Among}
+use Rattle.dft_cycle.specs.declared.steps.Step.{Step}
+use Rattle.dft_cycle.specs.Steps.{IsStep, step_nets}
 use Rattle.dft_cycle.specs.Looks.{IsListed}
 use Rattle.dft_logic.proofs.LookLemmas.{look_of_marked}
 use Rattle.dft_logic.specs.ShownTables.{edges_of}
@@ -108,7 +110,7 @@ by_takings cells q v table count moved takings row old new are same loose found 
 pub passed : (x : Circuit) (clocks : List NetId) (l : Layout) (pins : Pins) (plan : Plan) (q : Pulse) (values row old new : List Tri) → (is : IsCircuit x) → (pinned : IsPins x pins) → IsMade x clocks l pins plan →
     (among : ((e : ℕ) → q.pulsed e ≡ true → Among clocks (length clocks) e)) → (past : ((k : ℕ) → length x.ops.items ≤ k → q.ports k ≡ Unknown)) → (olds : ((c : ℕ) → q.old c ≡ value_at old c)) → (loose : LooseAreUnknown x (value_at old)) → (len : length values ≡ length x.ops.items) →
     (edge : plan.rising ≡ q.rising) → (flagged : plan.pulsed.items ≡ flags_of q.pulsed clocks) → (ports : plan.ports.items ≡ row_of q.ports pins.ports.items) → (enables : plan.enables.items ≡ row_of (value_at values) pins.enables.items) →
-    (settled : ((k : ℕ) → Has (numbers_of (take plan.count plan.list.items)) k → value_at values k ≡ value_given (before_from q (value_at values)) (value_at values) k (meaning (op_at x.ops.items k)))) →
+    (settled : ((k : ℕ) → Has (numbers_of (step_nets plan.steps.items)) k → value_at values k ≡ value_given (before_from q (value_at values)) (value_at values) k (meaning (op_at x.ops.items k)))) →
     (found : ((j : ℕ) → j < length plan.takings.items → value_at row j ≡ taken_by (cell_at (map cell_of x.flops.items)) q (value_at values) (taking_at plan.takings.items j))) → (size : length old ≡ length x.flops.items) →
     (put : ArePut plan.takings.items (length plan.takings.items) (value_at row) (course l plan.moves.items) old new) → IsPassed x q new
 unfolding logic_at
@@ -142,19 +144,18 @@ pub plan_made : (x : Circuit) (clocks : List NetId) (l : Layout) (pins : Pins) (
     (among : ((e : ℕ) → p.pulsed e ≡ true → Among clocks (length clocks) e)) → (origins : AreOrigins (logic_at x) (level_before p) origin) → (shows : IsShownOn (logic_at x) (edges_of p.rising p.pulsed) (λ net. true) shown) →
     (entries : ((c : ℕ) → c < length x.flops.items → entry_for (cell_at (map cell_of x.flops.items) c) p origin shown (value_at values) ≡ Some (table c))) → IsPlan x clocks l pins new
 plan_made x clocks l pins p values origin shown table old mid new was f n size past among origins shows entries =
-    let lists : length new.list.items ≡ length mid.list.items = ap (λ (v : Vec NetId). length v.items) n.list in
+    let stepped : vec_capacity new.steps ≡ vec_capacity mid.steps = ap (λ (v : Vec Step). vec_capacity v) n.steps in
     let taken : vec_capacity new.takings ≡ vec_capacity mid.takings = ap (λ (v : Vec Taking). vec_capacity v) n.takings in
-    let front : take new.count new.list.items ≡ take mid.count mid.list.items = ap (λ (k : ℕ). take k new.list.items) n.count ∙ ap (λ (v : Vec NetId). take mid.count v.items) n.list in
-    let L : List NetId → Type 0 = λ nets. IsNeedList x f.marked nets in
+    let L : Vec Step → Type 0 = λ v. IsNeedList x f.marked (step_nets v.items) in
+    let A : Vec Step → Type 0 = λ v. All (IsStep x) v.items in
     let T : List Bool → List Taking → Type 0 = λ moves takings. AreTakings (cell_at (map cell_of x.flops.items)) table (length x.flops.items) (course l moves) takings in
-    let fits : mid.count ≤ length mid.list.items = f.count in
+    let kept : length x.ops.items ≤ vec_capacity old.steps = was.steps in
     let room : length x.flops.items ≤ vec_capacity old.takings = was.room in
     record {
       pulsed = ap length n.pulsed ∙ length-map clocks _;
       ports = ap length n.ports ∙ length-map pins.ports.items _;
       enables = ap length n.enables ∙ length-map pins.enables.items _;
-      list = lists ∙ f.size ∙ was.list;
-      count = omega (arith, n.count, lists, fits);
+      steps = omega (arith, stepped, f.listed, kept);
       room = omega (arith, taken, f.room, room);
       made = λ is. record {
         pulse = p;
@@ -170,7 +171,8 @@ plan_made x clocks l pins p values origin shown table old mid new was f n size p
         shows = shows;
         entries = entries;
         needed = f.needed;
-        list = subst L (sym front) f.list;
+        steps = subst A (sym n.steps) f.steps;
+        list = subst L (sym n.steps) f.list;
         rest = ap (λ (v : Vec Bool). flag_at v.items 0) n.moves ∙ f.rest;
         takings = subst (λ (v : Vec Bool). T v.items new.takings.items) (sym n.moves) (subst (T mid.moves.items) (sym (ap (λ (v : Vec Taking). v.items) n.takings)) f.takings);
       };
@@ -179,20 +181,19 @@ plan_made x clocks l pins p values origin shown table old mid new was f n size p
 pub plan_barred : (x : Circuit) (clocks : List NetId) (l : Layout) (pins : Pins) (old new : Plan) → IsPlan x clocks l pins old → new ≡ (record old { stage = Barred }) → IsPlan x clocks l pins new
 plan_barred x clocks l pins old new was is =
     let P : Plan → Type 0 = λ plan. IsPlan x clocks l pins plan in
-    subst P (sym is) (record { pulsed = was.pulsed; ports = was.ports; enables = was.enables; list = was.list; count = was.count; room = was.room; made = λ made. absurd cc })
+    subst P (sym is) (record { pulsed = was.pulsed; ports = was.ports; enables = was.enables; steps = was.steps; room = was.room; made = λ made. absurd cc })
 
 pub plan_noted : (x : Circuit) (clocks : List NetId) (l : Layout) (pins : Pins) (p : Pulse) (values : ℕ → Tri) (old new : Plan) → IsPlan x clocks l pins old → IsNoted clocks pins p values Noted old new → IsPlan x clocks l pins new
 plan_noted x clocks l pins p values old new was n =
-    let lists : length new.list.items ≡ length old.list.items = ap (λ (v : Vec NetId). length v.items) n.list in
+    let stepped : vec_capacity new.steps ≡ vec_capacity old.steps = ap (λ (v : Vec Step). vec_capacity v) n.steps in
     let taken : vec_capacity new.takings ≡ vec_capacity old.takings = ap (λ (v : Vec Taking). vec_capacity v) n.takings in
-    let fits : old.count ≤ length old.list.items = was.count in
+    let kept : length x.ops.items ≤ vec_capacity old.steps = was.steps in
     let room : length x.flops.items ≤ vec_capacity old.takings = was.room in
     record {
       pulsed = ap length n.pulsed ∙ length-map clocks _;
       ports = ap length n.ports ∙ length-map pins.ports.items _;
       enables = ap length n.enables ∙ length-map pins.enables.items _;
-      list = lists ∙ was.list;
-      count = omega (arith, n.count, lists, fits);
+      steps = omega (arith, stepped, kept);
       room = omega (arith, taken, room);
       made = λ is. (let none : Noted ≡ Made = sym n.stage ∙ is in absurd cc);
     }
@@ -200,7 +201,7 @@ plan_noted x clocks l pins p values old new was n =
 -- ---- looks
 
 pub look_read : (x : Circuit) (look : Look) (ports flops : ℕ → Tri) (values row : List Tri) → IsCircuit x → IsListed x look → length values ≡ length x.ops.items →
-    ((k : ℕ) → Has (numbers_of (take look.count look.list.items)) k → value_at values k ≡ value_given (strobe_from ports flops (value_at values)) (value_at values) k (meaning (op_at x.ops.items k))) →
+    ((k : ℕ) → Has (numbers_of (step_nets look.steps.items)) k → value_at values k ≡ value_given (strobe_from ports flops (value_at values)) (value_at values) k (meaning (op_at x.ops.items k))) →
     row ≡ map (λ net. value_at values net.0) look.nets.items → AreSeen (logic_at x) ports flops look.nets.items row
 unfolding logic_at
 look_read x look ports flops values row is listed len settled read =

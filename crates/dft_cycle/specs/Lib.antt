@@ -1,4 +1,5 @@
 pub mod Machine
+pub mod Steps
 pub mod Plans
 pub mod Looks
 pub mod Views

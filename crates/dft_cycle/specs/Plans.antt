@@ -25,6 +25,7 @@ use Rattle.dft_cycle.specs.declared.plans.Stage.{Stage}
 use Rattle.dft_cycle.specs.declared.plans.Stage.TheVariants.{Made}
 use Rattle.dft_cycle.specs.declared.planning.Plans.{Plans}
 use Rattle.dft_cycle.specs.Views.{Among}
+use Rattle.dft_cycle.specs.Steps.{IsStep, step_nets}
 
 -- the values of nets, in their order
 abbrev pub row_of : (values : ℕ → Tri) → List NetId → List Tri
@@ -70,7 +71,8 @@ pub record IsMade (x : Circuit) (clocks : List NetId) (l : Layout) (pins : Pins)
   pub shows : IsShownOn (logic_at x) (edges_of pulse.rising pulse.pulsed) (λ net. true) shown
   pub entries : (c : ℕ) → c < length x.flops.items → entry_for (cell_at (map cell_of x.flops.items) c) pulse origin shown (value_at values) ≡ Some (table c)
   pub needed : (c : ℕ) → c < length x.flops.items → (k : ℕ) → k < length x.ops.items → Has (entry_needs (cell_at (map cell_of x.flops.items) c) (table c)) k → flag_at marked k ≡ true
-  pub list : IsNeedList x marked (take plan.count plan.list.items)
+  pub steps : All (IsStep x) plan.steps.items
+  pub list : IsNeedList x marked (step_nets plan.steps.items)
   pub rest : flag_at plan.moves.items 0 ≡ false
   pub takings : AreTakings (cell_at (map cell_of x.flops.items)) table (length x.flops.items) (course l plan.moves.items) plan.takings.items
 
@@ -79,8 +81,7 @@ pub record IsPlan (x : Circuit) (clocks : List NetId) (l : Layout) (pins : Pins)
   pub pulsed : length plan.pulsed.items ≡ length clocks
   pub ports : length plan.ports.items ≡ length pins.ports.items
   pub enables : length plan.enables.items ≡ length pins.enables.items
-  pub list : length plan.list.items ≡ length x.ops.items
-  pub count : plan.count ≤ length plan.list.items
+  pub steps : length x.ops.items ≤ vec_capacity plan.steps
   pub room : length x.flops.items ≤ vec_capacity plan.takings
   pub made : plan.stage ≡ Made → IsMade x clocks l pins plan
 
@@ -93,8 +94,7 @@ pub record IsNoted (clocks : List NetId) (pins : Pins) (p : Pulse) (values : ℕ
   pub pulsed : new.pulsed.items ≡ flags_of p.pulsed clocks
   pub ports : new.ports.items ≡ row_of p.ports pins.ports.items
   pub enables : new.enables.items ≡ row_of values pins.enables.items
-  pub list : new.list ≡ old.list
-  pub count : new.count ≡ old.count
+  pub steps : new.steps ≡ old.steps
   pub moves : new.moves ≡ old.moves
   pub takings : new.takings ≡ old.takings
 
@@ -106,9 +106,9 @@ pub record IsFilled (x : Circuit) (l : Layout) (table : ℕ → Entry) (old new 
   pub pulsed : new.pulsed ≡ old.pulsed
   pub ports : new.ports ≡ old.ports
   pub enables : new.enables ≡ old.enables
-  pub size : length new.list.items ≡ length old.list.items
-  pub count : new.count ≤ length new.list.items
-  pub list : IsNeedList x marked (take new.count new.list.items)
+  pub listed : vec_capacity new.steps ≡ vec_capacity old.steps
+  pub steps : All (IsStep x) new.steps.items
+  pub list : IsNeedList x marked (step_nets new.steps.items)
   pub needed : (c : ℕ) → c < length x.flops.items → (k : ℕ) → k < length x.ops.items → Has (entry_needs (cell_at (map cell_of x.flops.items) c) (table c)) k → flag_at marked k ≡ true
   pub rest : flag_at new.moves.items 0 ≡ false
   pub takings : AreTakings (cell_at (map cell_of x.flops.items)) table (length x.flops.items) (course l new.moves.items) new.takings.items
@@ -132,6 +132,7 @@ pub record IsSketch (x : Circuit) (room : Sketch) : Type 0 where
 pub record ArePlans (x : Circuit) (clocks : List NetId) (l : Layout) (p : Plans) : Type 0 where
   pub pins : IsPins x p.pins
   pub sketch : IsSketch x p.sketch
+  pub list : length p.list.items ≡ length x.ops.items
   pub plans : All (IsPlan x clocks l p.pins) p.plans.items
   pub some : 0 < length p.plans.items
 

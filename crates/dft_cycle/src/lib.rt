@@ -7,11 +7,13 @@ mod laying;
 mod looking;
 mod looks;
 mod machine;
+mod pairs;
 mod phases;
 mod planning;
 mod plans;
 mod preparing;
 mod rounds;
+mod steps;
 mod sweeping;
 
 pub use laws::calls_are_round;

@@ -13,11 +13,12 @@ use dft_base::Tri;
 use dft_logic::Circuit;
 use dft_netlist::NetId;
 
-// The looks at the last nets that were asked for. Then the places of the look that was noted last and of the one that
+// The looks at the last nets that were asked for, and room for a list that one is made from. Then the places of the look that was noted last and of the one that
 // was taken last.
 #[derive(Drop)]
 pub(crate) struct Looks {
     pub looks: Vec<Look>,
+    pub list: Vec<NetId>,
     pub noted: usize,
     pub taken: usize,
 }
@@ -55,7 +56,7 @@ impl Looks {
         match find_look(&self.looks, strobe.nets) {
             Some(place) => {
                 self.taken = place;
-                self.looks[place].see(strobe, values, marked, row);
+                self.looks[place].see(strobe, values, marked, &mut self.list, row);
                 true
             }
             None => {

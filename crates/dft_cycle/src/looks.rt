@@ -10,17 +10,17 @@ ghost use Rattle.dft_cycle.specs.Plans.{IsNeedList};
 ghost use Rattle.dft_cycle.specs.Looks.{IsLook, IsListed, IsAt};
 
 use crate::phases::Strobe;
+use crate::steps::{Step, list_steps, strobe_steps};
 use dft_base::Tri;
-use dft_logic::{Circuit, list_marked, lower, mark_needed, mark_nets, read_list, settle_strobe};
+use dft_logic::{Circuit, list_marked, lower, mark_needed, mark_nets, read_list};
 use dft_netlist::NetId;
 
-// The nets that are asked for; and once they were asked for again, what they are settled from, at the front of a list.
+// The nets that are asked for; and once they were asked for again, how what they are settled from gets its values.
 #[derive(Drop)]
 pub(crate) struct Look {
     pub made: bool,
     pub nets: Vec<NetId>,
-    pub list: Vec<NetId>,
-    pub count: usize,
+    pub steps: Vec<Step>,
 }
 
 // Whether these are the same nets.
@@ -82,23 +82,25 @@ impl Look {
         requires look { IsLook circuit.now self.old }
         ensures look { IsLook circuit.now self.new }
     {
-        if nets.len() <= self.list.len() {
+        if nets.len() <= circuit.ops.len() {
             self.made = false;
             copy_nets(nets, &mut self.nets);
         }
     }
 
     // Lists what its nets are settled from.
-    fn make(&mut self, circuit: &Circuit, marked: &mut [bool])
+    fn make(&mut self, circuit: &Circuit, marked: &mut [bool], list: &mut [NetId])
         requires circuit { IsCircuit circuit.now }
         requires marked { length marked.old ≡ length circuit.now.ops.items }
         requires look { IsLook circuit.now self.old }
+        requires list { length list.old ≡ length circuit.now.ops.items }
         ensures look { IsLook circuit.now self.new }
         ensures made { IsListed circuit.now self.new }
         ensures nets { self.new.nets ≡ self.old.nets }
         ensures clear { (k : ℕ) → is_up marked.new k ≡ false }
     {
-        self.count = list_sources(circuit, &self.nets, marked, &mut self.list);
+        let count = list_sources(circuit, &self.nets, marked, list);
+        list_steps(circuit, &list[..count], &mut self.steps);
         self.made = true;
         lower(marked);
     }
@@ -112,8 +114,13 @@ impl Look {
         requires row { length row.old ≡ length self.now.nets.items }
         ensures { AreSeen (logic_at strobe.entry.circuit.now) (spec.value_at strobe.entry.ports.now) (spec.value_at strobe.entry.cells.now.values) self.now.nets.items row.new }
     {
-        let list = &self.list[..self.count];
-        settle_strobe(strobe.circuit, strobe.ports, strobe.cells, list, values);
+        strobe_steps(
+            strobe.circuit,
+            strobe.ports,
+            strobe.cells,
+            &self.steps,
+            values,
+        );
         read_list(&self.nets, values, row);
     }
 
@@ -123,10 +130,12 @@ impl Look {
         strobe: Strobe<'_>,
         values: &mut [Tri],
         marked: &mut [bool],
+        list: &mut [NetId],
         row: &mut [Tri],
     )
         requires circuit { IsCircuit strobe.circuit.now }
         requires look { IsLook strobe.circuit.now self.old }
+        requires list { length list.old ≡ length strobe.circuit.now.ops.items }
         requires values { length values.old ≡ length strobe.circuit.now.ops.items }
         requires marked { length marked.old ≡ length strobe.circuit.now.ops.items }
         requires clear { (k : ℕ) → is_up marked.old k ≡ false }
@@ -136,7 +145,7 @@ impl Look {
         ensures seen { AreSeen (logic_at strobe.entry.circuit.now) (spec.value_at strobe.entry.ports.now) (spec.value_at strobe.entry.cells.now.values) self.old.nets.items row.new }
     {
         if !self.made {
-            self.make(strobe.circuit, marked);
+            self.make(strobe.circuit, marked, list);
         }
         self.read(strobe, values, row);
     }

@@ -12,12 +12,13 @@ use dft_base::Tri;
 use dft_logic::{Pulse, settle_list};
 use dft_netlist::NetId;
 
-// The plans of the last phases that came again, and what they are made from. Then the places of the plan that was noted
+// The plans of the last phases that came again, and what they are made from, with room for a list. Then the places of the plan that was noted
 // last and of the one that was taken last.
 #[derive(Drop)]
 pub(crate) struct Plans {
     pub pins: Pins,
     pub sketch: Sketch,
+    pub list: Vec<NetId>,
     pub plans: Vec<Plan>,
     pub noted: usize,
     pub taken: usize,
@@ -90,7 +91,13 @@ impl Plans {
     {
         let plan = &mut self.plans[place];
         if draw(phase, &mut self.sketch, values) {
-            plan.fill(phase.circuit, phase.pulse.old, &self.sketch.entries, marked);
+            plan.fill(
+                phase.circuit,
+                phase.pulse.old,
+                &self.sketch.entries,
+                marked,
+                &mut self.list,
+            );
             plan.note(phase, &self.pins, values, Stage::Made);
         } else {
             plan.stage = Stage::Barred;

@@ -15,6 +15,7 @@ ghost use Rattle.dft_cycle.specs.Views.{PulsesAmong};
 ghost use Rattle.dft_cycle.specs.Plans.{row_of, flags_of, IsPins, IsSketch, IsNeedList, IsPlan, IsNoted, IsFilled, LooseAreUnknown, IsFound};
 
 use crate::phases::Phase;
+use crate::steps::{Step, list_steps, settle_steps};
 use dft_base::Tri;
 use dft_logic::{
     Circuit, Entry, Pulse, Shown, Sights, Taking, find_entries, find_moves, find_origins,
@@ -45,7 +46,7 @@ pub(crate) struct Pins {
 }
 
 // A phase that is found in one pass: whether its clocks rise, those that pulse, and the values of ports and of scan enables, in the order
-// of the pins; then the nets to settle, at the front of a list, the registers that move, and what other flip-flops take.
+// of the pins; then how the nets to settle get their values, the registers that move, and what other flip-flops take.
 #[derive(Drop)]
 pub(crate) struct Plan {
     pub stage: Stage,
@@ -53,8 +54,7 @@ pub(crate) struct Plan {
     pub pulsed: Vec<bool>,
     pub ports: Vec<Tri>,
     pub enables: Vec<Tri>,
-    pub list: Vec<NetId>,
-    pub count: usize,
+    pub steps: Vec<Step>,
     pub moves: Vec<bool>,
     pub takings: Vec<Taking>,
 }
@@ -211,17 +211,20 @@ impl Plan {
         cells: &Cells,
         entries: &[Entry],
         marked: &mut [bool],
+        list: &mut [NetId],
     )
         requires circuit { IsCircuit circuit.now }
         requires cells { length cells.now.values ≡ length circuit.now.flops.items }
         requires entries { length entries.now ≡ length circuit.now.flops.items }
         requires marked { length marked.old ≡ length circuit.now.ops.items }
-        requires list { length self.old.list.items ≡ length circuit.now.ops.items }
+        requires list { length list.old ≡ length circuit.now.ops.items }
+        requires steps { length circuit.now.ops.items ≤ vec_capacity self.old.steps }
         requires room { length circuit.now.flops.items ≤ vec_capacity self.old.takings }
         ensures filled { IsFilled circuit.now cells.now.layout (entry_at entries.now) self.old self.new }
         ensures clear { (k : ℕ) → is_up marked.new k ≡ false }
     {
-        self.count = list_needs(circuit, entries, marked, &mut self.list);
+        let count = list_needs(circuit, entries, marked, list);
+        list_steps(circuit, &list[..count], &mut self.steps);
         find_moves(cells, entries, &mut self.moves);
         list_takings(
             &circuit.flops,
@@ -256,8 +259,7 @@ impl Plan {
         if !self.is_made() {
             return false;
         }
-        let list = &self.list[..self.count];
-        settle_list(phase.circuit, phase.pulse, list, values);
+        settle_steps(phase.circuit, phase.pulse, &self.steps, values);
         if !self.fits(phase.clocks, pins, phase.pulse, values) {
             return false;
         }

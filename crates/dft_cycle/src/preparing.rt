@@ -103,7 +103,7 @@ fn plan(
     let pulsed = vec![in alloc; false; clocks.len()]?;
     let ports = vec![in alloc; Tri::Unknown; pins.ports.len()]?;
     let enables = vec![in alloc; Tri::Unknown; pins.enables.len()]?;
-    let list = vec![in alloc; NetId(0); circuit.ops.len()]?;
+    let steps = Vec::with_capacity(alloc, circuit.ops.len())?;
     let moves = vec![in alloc; false; registers]?;
     let takings = Vec::with_capacity(alloc, circuit.flops.len())?;
     Ok(Plan {
@@ -112,8 +112,7 @@ fn plan(
         pulsed,
         ports,
         enables,
-        list,
-        count: 0,
+        steps,
         moves,
         takings,
     })
@@ -155,6 +154,7 @@ impl Plans {
         let shown = vec![in alloc; Shown::Nothing; circuit.ops.len()]?;
         let entries = vec![in alloc; Entry::Keeps; circuit.flops.len()]?;
         let pins = pins(alloc, circuit, &entries, marked)?;
+        let list = vec![in alloc; NetId(0); circuit.ops.len()]?;
         let plans = plans(alloc, circuit, clocks, registers, &pins)?;
         let sketch = Sketch {
             origins,
@@ -164,6 +164,7 @@ impl Plans {
         Ok(Plans {
             pins,
             sketch,
+            list,
             plans,
             noted: 0,
             taken: 0,
@@ -176,12 +177,11 @@ fn look(alloc: Global, circuit: &Circuit) -> Result<Look, AllocError>
     ensures { IfOk result (IsLook circuit.now) }
 {
     let nets = Vec::with_capacity(alloc, circuit.ops.len())?;
-    let list = vec![in alloc; NetId(0); circuit.ops.len()]?;
+    let steps = Vec::with_capacity(alloc, circuit.ops.len())?;
     Ok(Look {
         made: false,
         nets,
-        list,
-        count: 0,
+        steps,
     })
 }
 
@@ -190,12 +190,14 @@ impl Looks {
     pub(crate) fn prepare(alloc: Global, circuit: &Circuit) -> Result<Looks, AllocError>
         ensures { IfOk result (AreLooks circuit.now) }
     {
+        let list = vec![in alloc; NetId(0); circuit.ops.len()]?;
         let mut looks = Vec::new(alloc);
         for _place in 0..LOOKS {
             looks.push(look(alloc, circuit)?)?;
         }
         Ok(Looks {
             looks,
+            list,
             noted: 0,
             taken: 0,
         })

@@ -6,5 +6,5 @@ use Rattle.dft_cycle.proofs.looks.Look.read.Goals as goal
 
 pub returns : goal.returns
 returns c =
-    look_read c.args.strobe.circuit.now c.args.self.now (value_at c.args.strobe.ports.now) (value_at c.args.strobe.cells.now.values) c.settle_strobe.new.values c.read_list.new.row c.requires.circuit c.requires.listed
-    (c.settle_strobe.auto.values ∙ c.requires.values) (rw c.deref.ensures.value at c.settle_strobe.ensures) (rw c.deref-2.ensures.value at c.read_list.ensures)
+    look_read c.args.strobe.circuit.now c.args.self.now (value_at c.args.strobe.ports.now) (value_at c.args.strobe.cells.now.values) c.strobe_steps.new.values c.read_list.new.row c.requires.circuit c.requires.listed
+    (c.strobe_steps.auto.values ∙ c.requires.values) (rw c.deref.ensures.value at c.strobe_steps.ensures) (rw c.deref-2.ensures.value at c.read_list.ensures)

@@ -10,6 +10,7 @@ returns-clause-plans c = λ l. record {
     shown = sym c.in_ok-shown.shown.ok.0 ∙ c.in_ok-shown.ensures.len ∙ c.len-2.ensures ∙ c.args.circuit.now.ops.ok.0;
     entries = sym c.in_ok-entries.entries.ok.0 ∙ c.in_ok-entries.ensures.len ∙ c.len-3.ensures ∙ c.args.circuit.now.flops.ok.0;
   };
+  list = sym c.in_ok-list.list.ok.0 ∙ c.in_ok-list.ensures.len ∙ c.len-4.ensures ∙ c.args.circuit.now.ops.ok.0;
   plans = c.in_ok-plans.ensures.all l;
   some = subst (λ (n : ℕ). 0 < n) (sym c.in_ok-plans.ensures.count) (omega arith);
 }

@@ -13,9 +13,9 @@ returns c = λ yes.
       few = made.takings.few;
       live = made.takings.live;
       passed = λ new put.
-          passed c.args.phase.circuit.now c.args.phase.clocks.now c.args.phase.pulse.old.now.layout c.args.pins.now c.args.self.now _ c.settle_list.new.values c.find_values.new.row c.args.phase.pulse.old.now.values new c.requires.circuit c.requires.pins
+          passed c.args.phase.circuit.now c.args.phase.clocks.now c.args.phase.pulse.old.now.layout c.args.pins.now c.args.self.now _ c.settle_steps.new.values c.find_values.new.row c.args.phase.pulse.old.now.values new c.requires.circuit c.requires.pins
           made c.requires.among (λ k far. get_or_past c.args.phase.pulse.ports.now k Unknown (omega (arith, c.requires.ports, far))) (λ k. refl) c.requires.loose
-          (c.settle_list.auto.values ∙ c.requires.values)
+          (c.settle_steps.auto.values ∙ c.requires.values)
           (c.fits.ensures.edge c.if-not-fits.false) (c.fits.ensures.pulsed c.if-not-fits.false) (c.fits.ensures.ports c.if-not-fits.false) (c.fits.ensures.enables c.if-not-fits.false)
-          (rw c.deref.ensures.value at c.settle_list.ensures) (rw c.deref-2.ensures.value at (rw c.deref-3.ensures.value at c.find_values.ensures)) c.requires.cells put;
+          (rw c.deref.ensures.value at c.settle_steps.ensures) (rw c.deref-2.ensures.value at (rw c.deref-3.ensures.value at c.find_values.ensures)) c.requires.cells put;
     })

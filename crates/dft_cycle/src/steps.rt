@@ -1,0 +1,324 @@
+//! Steps: what the nets of a list take their values from, packed for lists that are settled again and again.
+
+ghost use Rattle.std.specs.Prelude.{◌≡◌, ℕ, ◌≤◌, [], ◌∷◌, All, length, map};
+ghost use Rattle.std.specs.Vec.{vec_capacity};
+ghost use Rattle.dft_netlist.specs.Drivers as drivers;
+ghost use Rattle.dft_netlist.specs.Logic as meanings;
+ghost use Rattle.dft_netlist.specs.Orders.{Has, numbers_of};
+ghost use Rattle.dft_netlist.specs.Settled.{value_given, is_wire as is_wire_at};
+ghost use Rattle.dft_abstract.specs.Cycle.{level_before};
+ghost use Rattle.dft_logic.specs.Needs.{before_from, strobe_from};
+ghost use Rattle.dft_logic.specs.Values as spec;
+ghost use Rattle.dft_logic.specs.Circuit.{AreOrdered, Fits, IsCircuit, meaning, op_at, pulse_at, source_at};
+ghost use Rattle.dft_cycle.specs.Steps.{told, told_by, step_nets, IsStep};
+
+use crate::pairs::{and, mux, not, or, xor};
+use dft_base::Tri;
+use dft_cells::Kind;
+use dft_logic::{Circuit, FlipFlop, Op, Operand, Pulse, flag_at, op_value, strobe_view, value_at};
+use dft_netlist::NetId;
+use dft_registers::Cells;
+
+// What a step's net takes its value from.
+#[derive(Clone, Copy)]
+pub(crate) enum What {
+    // A gate whose inputs are nets.
+    Buf,
+    Inv,
+    And,
+    Nand,
+    Or,
+    Nor,
+    Xor,
+    Xnor,
+    Mux2,
+    // Another net.
+    Joined,
+    // The flip-flop of an instance, or its inverse.
+    Flop,
+    Inverse,
+    // A lock-up that is a wire while its clock is low, or high: a net, its instance, and the net of its clock.
+    Low,
+    High,
+    // What the circuit says of the net.
+    Other,
+}
+
+// How a net gets its value: by up to three numbers, of nets and instances.
+#[derive(Clone, Copy)]
+pub(crate) struct Step {
+    pub net: NetId,
+    pub what: What,
+    pub first: u32,
+    pub second: u32,
+    pub third: u32,
+}
+
+// ---- making steps
+
+// A gate of this kind with one input.
+fn gate_of_one(kind: Kind) -> What
+    ensures { (a b c : ℕ) → meanings.Gate kind (drivers.Net a ∷ []) ≡ told result a b c (meanings.Gate kind (drivers.Net a ∷ [])) }
+{
+    match kind {
+        Kind::Buf => What::Buf,
+        Kind::Inv => What::Inv,
+        _ => What::Other,
+    }
+}
+
+// A gate of this kind with two inputs.
+fn gate_of_two(kind: Kind) -> What
+    ensures { (a b c : ℕ) → meanings.Gate kind (drivers.Net a ∷ drivers.Net b ∷ []) ≡ told result a b c (meanings.Gate kind (drivers.Net a ∷ drivers.Net b ∷ [])) }
+{
+    match kind {
+        Kind::And => What::And,
+        Kind::Nand => What::Nand,
+        Kind::Or => What::Or,
+        Kind::Nor => What::Nor,
+        Kind::Xor => What::Xor,
+        Kind::Xnor => What::Xnor,
+        _ => What::Other,
+    }
+}
+
+// A gate of this kind with three inputs.
+fn gate_of_three(kind: Kind) -> What
+    ensures { (a b c : ℕ) → meanings.Gate kind (drivers.Net a ∷ drivers.Net b ∷ drivers.Net c ∷ []) ≡ told result a b c (meanings.Gate kind (drivers.Net a ∷ drivers.Net b ∷ drivers.Net c ∷ [])) }
+{
+    match kind {
+        Kind::Mux2 => What::Mux2,
+        _ => What::Other,
+    }
+}
+
+// The step of a net that a gate drives.
+fn step_of_gate(net: NetId, kind: Kind, inputs: &[Operand]) -> Step
+    ensures net { result.net ≡ net }
+    ensures told { meanings.Gate kind (map source_at inputs.now) ≡ told_by result (meanings.Gate kind (map source_at inputs.now)) }
+{
+    match inputs {
+        [Operand::Net(one)] => Step {
+            net,
+            what: gate_of_one(kind),
+            first: one.0,
+            second: 0,
+            third: 0,
+        },
+        [Operand::Net(one), Operand::Net(two)] => Step {
+            net,
+            what: gate_of_two(kind),
+            first: one.0,
+            second: two.0,
+            third: 0,
+        },
+        [Operand::Net(one), Operand::Net(two), Operand::Net(three)] => Step {
+            net,
+            what: gate_of_three(kind),
+            first: one.0,
+            second: two.0,
+            third: three.0,
+        },
+        _ => other(net),
+    }
+}
+
+// The step of a net that the circuit is asked for.
+fn other(net: NetId) -> Step
+    ensures { result ≡ record { net = net; what = What.Other; first = 0; second = 0; third = 0 } }
+{
+    Step {
+        net,
+        what: What::Other,
+        first: 0,
+        second: 0,
+        third: 0,
+    }
+}
+
+// The step of a net that takes its value so.
+fn step_of(net: NetId, op: &Op) -> Step
+    ensures net { result.net ≡ net }
+    ensures told { meaning op.now ≡ told_by result (meaning op.now) }
+{
+    match op {
+        Op::Gate(kind, inputs) => step_of_gate(net, *kind, inputs.as_slice()),
+        Op::Joined(Operand::Net(source)) => Step {
+            net,
+            what: What::Joined,
+            first: source.0,
+            second: 0,
+            third: 0,
+        },
+        Op::Flop(instance, inverse) => Step {
+            net,
+            what: if *inverse { What::Inverse } else { What::Flop },
+            first: instance.0,
+            second: 0,
+            third: 0,
+        },
+        Op::Lockup(instance, clock, high, Operand::Net(source)) => Step {
+            net,
+            what: if *high { What::High } else { What::Low },
+            first: source.0,
+            second: instance.0,
+            third: clock.0,
+        },
+        _ => other(net),
+    }
+}
+
+// The step of a net of a circuit.
+fn step_at(circuit: &Circuit, net: NetId) -> Step
+    ensures net { result.net ≡ net }
+    ensures step { IsStep circuit.now result }
+{
+    match circuit.ops.get(net.0 as usize) {
+        Some(op) => step_of(net, op),
+        None => other(net),
+    }
+}
+
+// Lists the steps of nets, in their order.
+pub(crate) fn list_steps(circuit: &Circuit, nets: &[NetId], steps: &mut Vec<Step>)
+    requires { length nets.now ≤ vec_capacity steps.old }
+    ensures nets { step_nets steps.new.items ≡ nets.now }
+    ensures steps { All (IsStep circuit.now) steps.new.items }
+    ensures room { vec_capacity steps.new ≡ vec_capacity steps.old }
+{
+    steps.clear();
+    for net in nets {
+        steps.push_reserved(step_at(circuit, *net));
+    }
+}
+
+// ---- settling by steps
+
+// The level of a clock before the edges of a phase.
+fn level(pulse: Pulse<'_>, clock: u32) -> bool
+    ensures { result ≡ level_before (pulse_at pulse.entry) clock }
+{
+    flag_at(pulse.pulsed, clock) && !pulse.rising
+}
+
+// Whether a lock-up is a wire while its clock has this level.
+fn is_wire(high: bool, level: bool) -> bool
+    ensures { result ≡ is_wire_at high level }
+{
+    if high { level } else { !level }
+}
+
+// The value that a net's driver gives it before the edges of a phase.
+fn op_before(op: &Op, flops: &[FlipFlop], net: NetId, pulse: Pulse<'_>, values: &[Tri]) -> Tri
+    requires { Fits op.now }
+    ensures { result ≡ value_given (before_from (pulse_at pulse.entry) (spec.value_at values.now)) (spec.value_at values.now) net.0 (meaning op.now) }
+{
+    match op {
+        Op::Input => value_at(pulse.ports, net.0),
+        Op::Clock => if level(pulse, net.0) {
+            Tri::One
+        } else {
+            Tri::Zero
+        },
+        Op::Flop(instance, inverse) => {
+            let value = pulse.old.at(instance.0 as usize);
+            if *inverse { not(value) } else { value }
+        }
+        Op::Lockup(instance, clock, high, source) => if is_wire(*high, level(pulse, clock.0)) {
+            source.value(values)
+        } else {
+            pulse.old.at(instance.0 as usize)
+        },
+        _ => op_value(op, net, flops, &strobe_view(pulse), values),
+    }
+}
+
+// The same by the circuit.
+#[inline(never)]
+fn net_before(circuit: &Circuit, net: NetId, pulse: Pulse<'_>, values: &[Tri]) -> Tri
+    requires { IsCircuit circuit.now }
+    ensures { result ≡ value_given (before_from (pulse_at pulse.entry) (spec.value_at values.now)) (spec.value_at values.now) net.0 (meaning (op_at circuit.now.ops.items net.0)) }
+{
+    match circuit.ops.get(net.0 as usize) {
+        Some(op) => op_before(op, &circuit.flops, net, pulse, values),
+        None => Tri::Unknown,
+    }
+}
+
+impl Step {
+    // What a lock-up shows.
+    fn shown(&self, high: bool, pulse: Pulse<'_>, values: &[Tri]) -> Tri
+        ensures { result ≡ value_given (before_from (pulse_at pulse.entry) (spec.value_at values.now)) (spec.value_at values.now) self.now.net.0 (meanings.Lockup self.now.second self.now.third high (drivers.Net self.now.first)) }
+    {
+        if is_wire(high, level(pulse, self.third)) {
+            value_at(values, self.first)
+        } else {
+            pulse.old.at(self.second as usize)
+        }
+    }
+
+    // The value that it gives its net before the edges of a phase.
+    fn value(&self, circuit: &Circuit, pulse: Pulse<'_>, values: &[Tri]) -> Tri
+        requires { IsCircuit circuit.now }
+        ensures { result ≡ value_given (before_from (pulse_at pulse.entry) (spec.value_at values.now)) (spec.value_at values.now) self.now.net.0 (told_by self.now (meaning (op_at circuit.now.ops.items self.now.net.0))) }
+    {
+        match self.what {
+            What::Buf => value_at(values, self.first),
+            What::Inv => not(value_at(values, self.first)),
+            What::And => and(value_at(values, self.first), value_at(values, self.second)),
+            What::Nand => not(and(value_at(values, self.first), value_at(values, self.second))),
+            What::Or => or(value_at(values, self.first), value_at(values, self.second)),
+            What::Nor => not(or(value_at(values, self.first), value_at(values, self.second))),
+            What::Xor => xor(value_at(values, self.first), value_at(values, self.second)),
+            What::Xnor => not(xor(value_at(values, self.first), value_at(values, self.second))),
+            What::Mux2 => mux(
+                value_at(values, self.first),
+                value_at(values, self.second),
+                value_at(values, self.third),
+            ),
+            What::Joined => value_at(values, self.first),
+            What::Flop => pulse.old.at(self.first as usize),
+            What::Inverse => not(pulse.old.at(self.first as usize)),
+            What::Low => self.shown(false, pulse, values),
+            What::High => self.shown(true, pulse, values),
+            What::Other => net_before(circuit, self.net, pulse, values),
+        }
+    }
+}
+
+// Settles the nets of steps before the edges of a phase, whatever the values before.
+pub(crate) fn settle_steps(circuit: &Circuit, pulse: Pulse<'_>, steps: &[Step], values: &mut [Tri])
+    requires circuit { IsCircuit circuit.now }
+    requires values { length values.old ≡ length circuit.now.ops.items }
+    requires steps { All (IsStep circuit.now) steps.now }
+    requires ordered { AreOrdered circuit.now.ops.items [] (numbers_of (step_nets steps.now)) }
+    ensures { (k : ℕ) → Has (numbers_of (step_nets steps.now)) k → spec.value_at values.new k ≡ value_given (before_from (pulse_at pulse.entry) (spec.value_at values.new)) (spec.value_at values.new) k (meaning (op_at circuit.now.ops.items k)) }
+{
+    for step in steps {
+        let value = step.value(circuit, pulse, values);
+        values[step.net.0 as usize] = value;
+    }
+}
+
+// Settles them for a strobe.
+pub(crate) fn strobe_steps(
+    circuit: &Circuit,
+    ports: &[Tri],
+    cells: &Cells,
+    steps: &[Step],
+    values: &mut [Tri],
+)
+    requires circuit { IsCircuit circuit.now }
+    requires values { length values.old ≡ length circuit.now.ops.items }
+    requires steps { All (IsStep circuit.now) steps.now }
+    requires ordered { AreOrdered circuit.now.ops.items [] (numbers_of (step_nets steps.now)) }
+    ensures { (k : ℕ) → Has (numbers_of (step_nets steps.now)) k → spec.value_at values.new k ≡ value_given (strobe_from (spec.value_at ports.now) (spec.value_at cells.now.values) (spec.value_at values.new)) (spec.value_at values.new) k (meaning (op_at circuit.now.ops.items k)) }
+{
+    let pulse = Pulse {
+        rising: true,
+        ports,
+        pulsed: &[],
+        old: cells,
+    };
+    settle_steps(circuit, pulse, steps, values);
+}
