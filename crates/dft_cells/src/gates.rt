@@ -125,7 +125,8 @@ pub fn tri_of(kind: Kind, inputs: &[Tri]) -> Tri
     }
 }
 
-fn not(value: Tri) -> Tri
+/// The inverse.
+pub fn not(value: Tri) -> Tri
     ensures { result ≡ pairs.not_tri value }
 {
     match value {
@@ -135,7 +136,8 @@ fn not(value: Tri) -> Tri
     }
 }
 
-fn and(a: Tri, b: Tri) -> Tri
+/// 0 where one is 0, 1 where both are 1 (IEEE 1364, gate tables).
+pub fn and(a: Tri, b: Tri) -> Tri
     ensures { result ≡ pairs.and_tri a b }
 {
     match (a, b) {
@@ -145,7 +147,8 @@ fn and(a: Tri, b: Tri) -> Tri
     }
 }
 
-fn or(a: Tri, b: Tri) -> Tri
+/// 1 where one is 1, 0 where both are 0.
+pub fn or(a: Tri, b: Tri) -> Tri
     ensures { result ≡ pairs.or_tri a b }
 {
     match (a, b) {
@@ -155,7 +158,8 @@ fn or(a: Tri, b: Tri) -> Tri
     }
 }
 
-fn xor(a: Tri, b: Tri) -> Tri
+/// Whether they differ.
+pub fn xor(a: Tri, b: Tri) -> Tri
     ensures { result ≡ pairs.xor_tri a b }
 {
     match (a, b) {
@@ -165,7 +169,8 @@ fn xor(a: Tri, b: Tri) -> Tri
     }
 }
 
-fn mux(first: Tri, second: Tri, select: Tri) -> Tri
+/// The second where the select is 1, the first where it is 0, and what both share where it is unknown.
+pub fn mux(first: Tri, second: Tri, select: Tri) -> Tri
     ensures { result ≡ pairs.mux_tri first second select }
 {
     match select {

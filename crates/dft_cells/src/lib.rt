@@ -14,7 +14,7 @@ mod scans;
 mod standard;
 
 pub use cell::{Cell, CellId, Pin, Pins};
-pub use gates::{bit_of, tri_of};
+pub use gates::{and, bit_of, mux, not, or, tri_of, xor};
 pub use kind::{Kind, Role};
 pub use laws::{completions_are_above, next_values_are_above};
 pub use library::{Library, MAX_CELLS};

@@ -1,5 +1,5 @@
 -- Steps of nets are listed and settled in their order.
-use Rattle.std.proofs.Common.{ℕ, zero, suc, List, [], ◌∷◌, ◌++◌, All, ◌≡◌, ◌<◌, ◌+◌, length, map, take, refl, sym, ap, ◌∙◌, get_or, slice_set, add-one, arith}
+use Rattle.std.proofs.Common.{ℕ, zero, suc, List, [], ◌∷◌, ◌++◌, All, ◌≡◌, ◌<◌, ◌+◌, length, map, take, refl, sym, ap, ◌∙◌, subst, get_or, slice_set, add-one, arith}
 use Rattle.std.proofs.lemmas.List.{map-append, get_or-map, get_or_default, length-map}
 use Rattle.dft_base.specs.declared.tri.Tri.{Tri}
 use Rattle.dft_netlist.specs.declared.ids.NetId.{NetId}
@@ -9,7 +9,7 @@ use Rattle.dft_logic.specs.Values.{value_at}
 use Rattle.dft_logic.specs.Circuit.{meaning, op_at, Supply, leaves_from}
 use Rattle.dft_logic.proofs.Listings.{Listed, net_live, one_more}
 use Rattle.dft_cycle.specs.declared.steps.Step.{Step}
-use Rattle.dft_cycle.specs.Steps.{told_by, step_nets, IsStep}
+use Rattle.dft_cycle.specs.Steps.{told_by, step_nets, IsWithin, IsStep}
 
 take_one : {X : Type 0} (xs : List X) (i : ℕ) (d : X) → i < length xs → take i xs ++ get_or xs i d ∷ [] ≡ take (suc i) xs
 take_one [] i d less = absurd (omega arith)
@@ -43,4 +43,10 @@ pub step_settled : (x : Circuit) (base : Supply) (steps : List Step) (values : L
     Listed x.ops.items base (step_nets steps) (slice_set values (get_or steps j d).net.0 t) (j + 1)
 step_settled x base steps values j d t less len all s given =
     one_more x.ops.items base (step_nets steps) values j (get_or steps j d).net t (here steps j d less) (net_here steps j d less) len s
-    (given ∙ ap (value_given (leaves_from base (value_at values)) (value_at values) (get_or steps j d).net.0) (sym (all j d less)))
+    (given ∙ ap (value_given (leaves_from base (value_at values)) (value_at values) (get_or steps j d).net.0) (sym (all j d less).told))
+
+pub step_within : (x : Circuit) (steps : List Step) (values : List Tri) (j : ℕ) (d : Step) → j < length steps → length values ≡ length x.ops.items → All (IsStep x) steps →
+    IsWithin (get_or steps j d).what (get_or steps j d).first (get_or steps j d).second (get_or steps j d).third (length values)
+step_within x steps values j d less len all =
+    let step : Step = get_or steps j d in
+    subst (λ (n : ℕ). IsWithin step.what step.first step.second step.third n) (sym len) (all j d less).within

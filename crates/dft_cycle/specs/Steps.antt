@@ -1,5 +1,5 @@
 -- Steps: what the nets of a list take their values from, packed.
-use Rattle.std.specs.Prelude.{ℕ, true, false, ◌≡◌, List, [], ◌∷◌, map}
+use Rattle.std.specs.Prelude.{ℕ, true, false, ◌≡◌, ◌<◌, List, [], ◌∷◌, map, length}
 use Rattle.dft_cells.specs.declared.kind.Kind.TheVariants as kind
 use Rattle.dft_netlist.specs.declared.ids.NetId.{NetId}
 use Rattle.dft_netlist.specs.Drivers.{Net}
@@ -32,9 +32,28 @@ told Other a b c m = m
 abbrev pub told_by : Step → Meaning → Meaning
 told_by step m = told step.what step.first step.second step.third m
 
--- the step's net takes its value from what the step tells
-abbrev pub IsStep : Circuit → Step → Type 0
-IsStep x step = meaning (op_at x.ops.items step.net.0) ≡ told_by step (meaning (op_at x.ops.items step.net.0))
+-- the nets that such a step reads are below this number
+abbrev pub IsWithin : What → (a b c count : ℕ) → Type 0
+IsWithin Buf a b c count = a < count
+IsWithin Inv a b c count = a < count
+IsWithin And a b c count = (a < count) × (b < count)
+IsWithin Nand a b c count = (a < count) × (b < count)
+IsWithin Or a b c count = (a < count) × (b < count)
+IsWithin Nor a b c count = (a < count) × (b < count)
+IsWithin Xor a b c count = (a < count) × (b < count)
+IsWithin Xnor a b c count = (a < count) × (b < count)
+IsWithin Mux2 a b c count = (a < count) × (b < count) × (c < count)
+IsWithin Joined a b c count = a < count
+IsWithin Flop a b c count = Unit {0}
+IsWithin Inverse a b c count = Unit {0}
+IsWithin Low a b c count = a < count
+IsWithin High a b c count = a < count
+IsWithin Other a b c count = Unit {0}
+
+-- the step's net takes its value from what the step tells, which is there
+pub record IsStep (x : Circuit) (step : Step) : Type 0 where
+  pub told : meaning (op_at x.ops.items step.net.0) ≡ told_by step (meaning (op_at x.ops.items step.net.0))
+  pub within : IsWithin step.what step.first step.second step.third (length x.ops.items)
 
 -- the nets of steps
 abbrev pub step_nets : List Step → List NetId

@@ -7,7 +7,6 @@ mod laying;
 mod looking;
 mod looks;
 mod machine;
-mod pairs;
 mod phases;
 mod planning;
 mod plans;

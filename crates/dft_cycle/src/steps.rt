@@ -1,21 +1,20 @@
 //! Steps: what the nets of a list take their values from, packed for lists that are settled again and again.
 
-ghost use Rattle.std.specs.Prelude.{◌≡◌, ℕ, ◌≤◌, [], ◌∷◌, All, length, map};
+ghost use Rattle.std.specs.Prelude.{◌≡◌, ℕ, ◌<◌, ◌≤◌, true, [], ◌∷◌, All, length, map};
 ghost use Rattle.std.specs.Vec.{vec_capacity};
 ghost use Rattle.dft_netlist.specs.Drivers as drivers;
 ghost use Rattle.dft_netlist.specs.Logic as meanings;
 ghost use Rattle.dft_netlist.specs.Orders.{Has, numbers_of};
-ghost use Rattle.dft_netlist.specs.Settled.{value_given, is_wire as is_wire_at};
+ghost use Rattle.dft_netlist.specs.Settled.{value_given};
 ghost use Rattle.dft_abstract.specs.Cycle.{level_before};
 ghost use Rattle.dft_logic.specs.Needs.{before_from, strobe_from};
 ghost use Rattle.dft_logic.specs.Values as spec;
 ghost use Rattle.dft_logic.specs.Circuit.{AreOrdered, Fits, IsCircuit, meaning, op_at, pulse_at, source_at};
-ghost use Rattle.dft_cycle.specs.Steps.{told, told_by, step_nets, IsStep};
+ghost use Rattle.dft_cycle.specs.Steps.{told, told_by, step_nets, IsWithin, IsStep};
 
-use crate::pairs::{and, mux, not, or, xor};
 use dft_base::Tri;
-use dft_cells::Kind;
-use dft_logic::{Circuit, FlipFlop, Op, Operand, Pulse, flag_at, op_value, strobe_view, value_at};
+use dft_cells::{Kind, and, mux, not, or, xor};
+use dft_logic::{Circuit, Op, Operand, Pulse, flag_at, inverted, is_wire, op_before, value_at};
 use dft_netlist::NetId;
 use dft_registers::Cells;
 
@@ -168,13 +167,34 @@ fn step_of(net: NetId, op: &Op) -> Step
     }
 }
 
+// Whether the nets that a step reads are below this number.
+fn is_within(step: &Step, count: usize) -> bool
+    ensures { result ≡ true → IsWithin step.now.what step.now.first step.now.second step.now.third count }
+{
+    match step.what {
+        What::Flop | What::Inverse | What::Other => true,
+        _ => {
+            let first = (step.first as usize) < count;
+            let second = (step.second as usize) < count;
+            first && second && (step.third as usize) < count
+        }
+    }
+}
+
 // The step of a net of a circuit.
 fn step_at(circuit: &Circuit, net: NetId) -> Step
     ensures net { result.net ≡ net }
     ensures step { IsStep circuit.now result }
 {
     match circuit.ops.get(net.0 as usize) {
-        Some(op) => step_of(net, op),
+        Some(op) => {
+            let step = step_of(net, op);
+            if is_within(&step, circuit.ops.len()) {
+                step
+            } else {
+                other(net)
+            }
+        }
         None => other(net),
     }
 }
@@ -201,57 +221,34 @@ fn level(pulse: Pulse<'_>, clock: u32) -> bool
     flag_at(pulse.pulsed, clock) && !pulse.rising
 }
 
-// Whether a lock-up is a wire while its clock has this level.
-fn is_wire(high: bool, level: bool) -> bool
-    ensures { result ≡ is_wire_at high level }
-{
-    if high { level } else { !level }
-}
-
-// The value that a net's driver gives it before the edges of a phase.
-fn op_before(op: &Op, flops: &[FlipFlop], net: NetId, pulse: Pulse<'_>, values: &[Tri]) -> Tri
-    requires { Fits op.now }
-    ensures { result ≡ value_given (before_from (pulse_at pulse.entry) (spec.value_at values.now)) (spec.value_at values.now) net.0 (meaning op.now) }
-{
-    match op {
-        Op::Input => value_at(pulse.ports, net.0),
-        Op::Clock => if level(pulse, net.0) {
-            Tri::One
-        } else {
-            Tri::Zero
-        },
-        Op::Flop(instance, inverse) => {
-            let value = pulse.old.at(instance.0 as usize);
-            if *inverse { not(value) } else { value }
-        }
-        Op::Lockup(instance, clock, high, source) => if is_wire(*high, level(pulse, clock.0)) {
-            source.value(values)
-        } else {
-            pulse.old.at(instance.0 as usize)
-        },
-        _ => op_value(op, net, flops, &strobe_view(pulse), values),
-    }
-}
-
-// The same by the circuit.
+// The value that the circuit gives a net before the edges of a phase.
 #[inline(never)]
 fn net_before(circuit: &Circuit, net: NetId, pulse: Pulse<'_>, values: &[Tri]) -> Tri
     requires { IsCircuit circuit.now }
     ensures { result ≡ value_given (before_from (pulse_at pulse.entry) (spec.value_at values.now)) (spec.value_at values.now) net.0 (meaning (op_at circuit.now.ops.items net.0)) }
 {
     match circuit.ops.get(net.0 as usize) {
-        Some(op) => op_before(op, &circuit.flops, net, pulse, values),
+        Some(op) => op_before(op, net, pulse, values),
         None => Tri::Unknown,
     }
+}
+
+// The value of a net that is there.
+fn at(values: &[Tri], net: u32) -> Tri
+    requires { net < length values.now }
+    ensures { result ≡ spec.value_at values.now net }
+{
+    values[net as usize]
 }
 
 impl Step {
     // What a lock-up shows.
     fn shown(&self, high: bool, pulse: Pulse<'_>, values: &[Tri]) -> Tri
+        requires { self.now.first < length values.now }
         ensures { result ≡ value_given (before_from (pulse_at pulse.entry) (spec.value_at values.now)) (spec.value_at values.now) self.now.net.0 (meanings.Lockup self.now.second self.now.third high (drivers.Net self.now.first)) }
     {
         if is_wire(high, level(pulse, self.third)) {
-            value_at(values, self.first)
+            at(values, self.first)
         } else {
             pulse.old.at(self.second as usize)
         }
@@ -259,26 +256,27 @@ impl Step {
 
     // The value that it gives its net before the edges of a phase.
     fn value(&self, circuit: &Circuit, pulse: Pulse<'_>, values: &[Tri]) -> Tri
-        requires { IsCircuit circuit.now }
+        requires circuit { IsCircuit circuit.now }
+        requires within { IsWithin self.now.what self.now.first self.now.second self.now.third (length values.now) }
         ensures { result ≡ value_given (before_from (pulse_at pulse.entry) (spec.value_at values.now)) (spec.value_at values.now) self.now.net.0 (told_by self.now (meaning (op_at circuit.now.ops.items self.now.net.0))) }
     {
         match self.what {
-            What::Buf => value_at(values, self.first),
-            What::Inv => not(value_at(values, self.first)),
-            What::And => and(value_at(values, self.first), value_at(values, self.second)),
-            What::Nand => not(and(value_at(values, self.first), value_at(values, self.second))),
-            What::Or => or(value_at(values, self.first), value_at(values, self.second)),
-            What::Nor => not(or(value_at(values, self.first), value_at(values, self.second))),
-            What::Xor => xor(value_at(values, self.first), value_at(values, self.second)),
-            What::Xnor => not(xor(value_at(values, self.first), value_at(values, self.second))),
+            What::Buf => at(values, self.first),
+            What::Inv => not(at(values, self.first)),
+            What::And => and(at(values, self.first), at(values, self.second)),
+            What::Nand => not(and(at(values, self.first), at(values, self.second))),
+            What::Or => or(at(values, self.first), at(values, self.second)),
+            What::Nor => not(or(at(values, self.first), at(values, self.second))),
+            What::Xor => xor(at(values, self.first), at(values, self.second)),
+            What::Xnor => not(xor(at(values, self.first), at(values, self.second))),
             What::Mux2 => mux(
-                value_at(values, self.first),
-                value_at(values, self.second),
-                value_at(values, self.third),
+                at(values, self.first),
+                at(values, self.second),
+                at(values, self.third),
             ),
-            What::Joined => value_at(values, self.first),
+            What::Joined => at(values, self.first),
             What::Flop => pulse.old.at(self.first as usize),
-            What::Inverse => not(pulse.old.at(self.first as usize)),
+            What::Inverse => inverted(pulse.old.at(self.first as usize), true),
             What::Low => self.shown(false, pulse, values),
             What::High => self.shown(true, pulse, values),
             What::Other => net_before(circuit, self.net, pulse, values),

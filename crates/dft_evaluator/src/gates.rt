@@ -15,8 +15,8 @@ use dft_lanes::{Wide, wide_and, wide_mux, wide_not, wide_or, wide_xor};
 use dft_logic::{Op, Operand};
 use dft_netlist::NetId;
 
-// What an operand can be.
-fn operand(operand: &Operand, wides: &[Wide]) -> Wide
+/// What an operand can be.
+pub fn operand(operand: &Operand, wides: &[Wide]) -> Wide
     requires { AreWides wides.now }
     ensures { IsWide result (λ p. value_from (values_in wides.now p) (source_at operand.now)) }
 {
@@ -115,8 +115,8 @@ fn gate(kind: Kind, inputs: &[Operand], wides: &[Wide]) -> Wide
     }
 }
 
-// What a net can be: the output of its gate or join, and a source what it is.
-pub(crate) fn op_wide(op: &Op, net: NetId, wides: &[Wide]) -> Wide
+/// What a net can be: the output of its gate or join, and a source what it is.
+pub fn op_wide(op: &Op, net: NetId, wides: &[Wide]) -> Wide
     requires fits { Fits op.now }
     requires wides { AreWides wides.now }
     ensures { IsWide result (λ p. value_set (values_in wides.now p) (values_in wides.now p) net.0 (meaning op.now)) }

@@ -40,8 +40,8 @@ pub fn all(value: Tri) -> Wide
     }
 }
 
-// What the net of a number can be, and past the end either.
-pub(crate) fn wide_at(wides: &[Wide], net: u32) -> Wide
+/// What the net of a number can be, and past the end either.
+pub fn wide_at(wides: &[Wide], net: u32) -> Wide
     ensures { result ≡ spec.wide_at wides.now net }
 {
     match wides.get(net as usize) {
@@ -50,8 +50,8 @@ pub(crate) fn wide_at(wides: &[Wide], net: u32) -> Wide
     }
 }
 
-// The value in a pattern.
-pub(crate) fn value_in(wide: &Wide, pattern: u16) -> Tri
+/// The value in a pattern.
+pub fn value_in(wide: &Wide, pattern: u16) -> Tri
     requires { pattern < 512 }
     ensures { result ≡ value_in wide.now pattern }
 {

@@ -99,7 +99,7 @@ usage: dft grade --netlist FILE --patterns FILE --out FILE [--library FILE]
 
 --netlist FILE   the netlist, structural Verilog
 --patterns FILE  the patterns, STIL; they must pass on it
---out FILE       where each single stuck-at fault is told with its grade
+--out FILE       where both stuck-at faults of each net are told, each with its grade
 --library FILE   the cells of the netlist, TOML; without it the standard cells
 
 prints

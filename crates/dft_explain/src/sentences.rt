@@ -280,7 +280,7 @@ static SENTENCES: [Said; 68] = [
     Said {
         code: "K6",
         sentence: "the report would be longer than a file may be",
-        advice: "fewer cubes at a time, or cut the design",
+        advice: "cut the design; of a compilation, fewer cubes at a time",
     },
     Said {
         code: "Q1",

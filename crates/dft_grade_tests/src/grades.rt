@@ -4,7 +4,7 @@ ghost use Rattle.dft_patterns.specs.Patterns.{IsWellFormed};
 
 use crate::ONE_FLIP_FLOP;
 use dft_cells::Library;
-use dft_grade::{Grade, grades};
+use dft_grade::{Grade, Graded, grades};
 use dft_netlist::Design;
 use dft_patterns::PatternSet;
 use dft_replay::ReplayError;
@@ -65,12 +65,33 @@ fn push_grade(
     }
 }
 
-// The grades of all faults, in order.
-fn grades_of(alloc: Global, design: &Design, patterns: &PatternSet) -> Result<String, ReplayError>
+// The grades of all faults: by lanes, and a replay of each fault that is left, or by a replay of each.
+fn grades_by(
+    alloc: Global,
+    lanes: bool,
+    design: &Design,
+    patterns: &PatternSet,
+) -> Result<Vec<Graded>, ReplayError>
+    requires { IsWellFormed patterns.now }
+{
+    if lanes {
+        dft_fault_lanes::grades(alloc, design, patterns)
+    } else {
+        grades(alloc, design, patterns)
+    }
+}
+
+// The same as a text, in order.
+fn grades_of(
+    alloc: Global,
+    lanes: bool,
+    design: &Design,
+    patterns: &PatternSet,
+) -> Result<String, ReplayError>
     requires { IsWellFormed patterns.now }
 {
     let mut text = String::new(alloc);
-    for graded in &grades(alloc, design, patterns)? {
+    for graded in &grades_by(alloc, lanes, design, patterns)? {
         let fault = graded.fault;
         push_grade(alloc, &mut text, fault.net.0, fault.value, graded.grade)?;
     }
@@ -78,28 +99,35 @@ fn grades_of(alloc: Global, design: &Design, patterns: &PatternSet) -> Result<St
 }
 
 // The grades of all faults of a design under a pattern text.
-fn grades_under(alloc: Global, design: &Design, text: &str) -> Result<String, Fail> {
+fn grades_under(alloc: Global, lanes: bool, design: &Design, text: &str) -> Result<String, Fail> {
     if text.len() > dft_stil::MAX_TEXT {
         return Ok(String::from_str(alloc, "too long")?);
     }
     let patterns = dft_stil::read(alloc, text.as_bytes())?;
-    Ok(grades_of(alloc, design, &patterns)?)
+    Ok(grades_of(alloc, lanes, design, &patterns)?)
 }
 
 // The grades of all faults of a netlist text under a pattern text.
-fn grades_in(alloc: Global, netlist: &str, text: &str) -> Result<String, Fail> {
+pub(crate) fn grades_in(
+    alloc: Global,
+    lanes: bool,
+    netlist: &str,
+    text: &str,
+) -> Result<String, Fail> {
     if netlist.len() > dft_verilog::MAX_TEXT {
         return Ok(String::from_str(alloc, "too long")?);
     }
     let design = dft_verilog::read(alloc, netlist.as_bytes(), Library::standard(alloc)?)?;
-    grades_under(alloc, &design, text)
+    grades_under(alloc, lanes, &design, text)
 }
 
 #[test]
 fn faults_are_graded(rt: HostRuntime) -> Result<(), Fail> {
     for (netlist, patterns, wanted) in &GRADES {
-        let grades = grades_in(rt.alloc(), *netlist, *patterns)?;
-        assert_eq!(rt; grades.as_str(), *wanted);
+        let alone = grades_in(rt.alloc(), false, *netlist, *patterns)?;
+        assert_eq!(rt; alone.as_str(), *wanted);
+        let lanes = grades_in(rt.alloc(), true, *netlist, *patterns)?;
+        assert_eq!(rt; lanes.as_str(), *wanted);
     }
     Ok(())
 }

@@ -26,12 +26,15 @@ pub use laws::{
     entries_tell, lists_settle, lockup_shows_input, needed_is_settled, next_at_strobe,
     one_assignment, still_has_one_pass, views_rise,
 };
-pub use lists::{has_row, read_list, settle_list, settle_strobe};
+pub use lists::{has_row, read_list, settle_list};
 pub use marks::{lower, mark_entries, mark_forces, mark_nets};
 pub use needs::{list_marked, mark_needed};
 pub use origins::find_origins;
 pub use packed::Table;
-pub use settling::{Pulse, View, differ, flag_at, op_value, settle, strobe_view, takes, value_at};
+pub use settling::{
+    Pulse, View, differ, flag_at, inverted, is_wire, op_before, op_value, settle, strobe_view,
+    takes, value_at,
+};
 pub use shown::{Shown, show_all};
 pub use tables::list_of;
 pub use takings::{Taking, find_moves, find_values, list_takings, put_all};

@@ -3,7 +3,7 @@
 ghost use Rattle.std.specs.Prelude.{◌≡◌, ℕ, [], length, map, true};
 ghost use Rattle.dft_netlist.specs.Orders.{Has, numbers_of};
 ghost use Rattle.dft_netlist.specs.Settled.{value_given};
-ghost use Rattle.dft_logic.specs.Needs.{before_from, strobe_from};
+ghost use Rattle.dft_logic.specs.Needs.{before_from};
 ghost use Rattle.dft_logic.specs.Values as spec;
 ghost use Rattle.dft_logic.specs.Circuit.{AreOrdered, IsCircuit, meaning, op_at, pulse_at};
 
@@ -11,7 +11,6 @@ use crate::circuit::Circuit;
 use crate::settling::{Pulse, differ, op_before, value_at};
 use dft_base::Tri;
 use dft_netlist::NetId;
-use dft_registers::Cells;
 
 /// Settles these nets before the edges of a phase, whatever the values before.
 pub fn settle_list(circuit: &Circuit, pulse: Pulse<'_>, nets: &[NetId], values: &mut [Tri])
@@ -24,28 +23,6 @@ pub fn settle_list(circuit: &Circuit, pulse: Pulse<'_>, nets: &[NetId], values: 
         let value = op_before(&circuit.ops[net.0 as usize], *net, pulse, values);
         values[net.0 as usize] = value;
     }
-}
-
-/// Settles these nets for a strobe, whatever the values before.
-pub fn settle_strobe(
-    circuit: &Circuit,
-    ports: &[Tri],
-    cells: &Cells,
-    nets: &[NetId],
-    values: &mut [Tri],
-)
-    requires circuit { IsCircuit circuit.now }
-    requires values { length values.old ≡ length circuit.now.ops.items }
-    requires ordered { AreOrdered circuit.now.ops.items [] (numbers_of nets.now) }
-    ensures { (k : ℕ) → Has (numbers_of nets.now) k → spec.value_at values.new k ≡ value_given (strobe_from (spec.value_at ports.now) (spec.value_at cells.now.values) (spec.value_at values.new)) (spec.value_at values.new) k (meaning (op_at circuit.now.ops.items k)) }
-{
-    let pulse = Pulse {
-        rising: true,
-        ports,
-        pulsed: &[],
-        old: cells,
-    };
-    settle_list(circuit, pulse, nets, values);
 }
 
 /// Reads the values of nets, in their order.

@@ -191,8 +191,8 @@ impl Pulse<'_> {
     }
 }
 
-// Whether a lock-up is a wire while its clock has this level.
-pub(crate) fn is_wire(high: bool, level: bool) -> bool
+/// Whether a lock-up is a wire while its clock has this level.
+pub fn is_wire(high: bool, level: bool) -> bool
     ensures { result ≡ settled.is_wire high level }
 {
     if high { level } else { !level }
@@ -233,8 +233,8 @@ fn gather(inputs: &[Operand], values: &[Tri], row: &mut [Tri])
     }
 }
 
-// The inverse where asked for.
-fn inverted(value: Tri, inverse: bool) -> Tri
+/// The inverse where asked for.
+pub fn inverted(value: Tri, inverse: bool) -> Tri
     ensures { result ≡ (if inverse then settled.inverse value else value) }
 {
     match (inverse, value) {
@@ -293,8 +293,8 @@ pub fn op_value(
     }
 }
 
-// The value that a net's driver gives it before the edges of a phase.
-pub(crate) fn op_before(op: &Op, net: NetId, pulse: Pulse<'_>, values: &[Tri]) -> Tri
+/// The value that a net's driver gives it before the edges of a phase.
+pub fn op_before(op: &Op, net: NetId, pulse: Pulse<'_>, values: &[Tri]) -> Tri
     requires { Fits op.now }
     ensures { result ≡ value_given (leaves_from (before_base (circuits.pulse_at pulse.entry)) (spec.value_at values.now)) (spec.value_at values.now) net.0 (meaning op.now) }
 {

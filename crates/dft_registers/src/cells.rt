@@ -1,6 +1,6 @@
 //! The values of cells.
 
-ghost use Rattle.std.specs.Prelude.{◌≡◌, ℕ, ◌<◌, [], length, replicate, false, IfOk, slice_set, slice_index_or};
+ghost use Rattle.std.specs.Prelude.{◌≡◌, ℕ, ◌<◌, [], length, replicate, true, false, IfOk, slice_set, slice_index_or};
 ghost use Rattle.dft_registers.specs.Layout.{place_at, cells_at, cell_at};
 ghost use Rattle.dft_registers.specs.Cells as spec;
 
@@ -89,15 +89,24 @@ impl Cells {
         self.layout.count()
     }
 
+    // Whether a cell rests. Where there is no register but the first one, all do.
+    fn rests(&self, cell: usize) -> bool
+        requires { cell < length self.now.values }
+        ensures rests { result ≡ true → (place_at self.now.layout.places cell).register ≡ 0 }
+        ensures lies { result ≡ false → 0 < (place_at self.now.layout.places cell).register }
+    {
+        self.rows.len() < 2 || self.layout.place(cell).register == 0
+    }
+
     /// The value of a cell, and `Unknown` past the end.
     pub fn at(&self, cell: usize) -> Tri
         ensures { result ≡ spec.value_at self.now.values cell }
     {
         if cell < self.resting.len() {
-            let place = self.layout.place(cell);
-            if place.register == 0 {
+            if self.rests(cell) {
                 self.resting[cell]
             } else {
+                let place = self.layout.place(cell);
                 let row = &self.rows[place.register as usize];
                 row.at(place.index as usize)
             }
@@ -112,10 +121,10 @@ impl Cells {
         ensures layout { self.new.layout ≡ self.old.layout }
         ensures values { self.new.values ≡ slice_set self.old.values cell value }
     {
-        let place = self.layout.place(cell);
-        if place.register == 0 {
+        if self.rests(cell) {
             self.resting[cell] = value;
         } else {
+            let place = self.layout.place(cell);
             let row = &mut self.rows[place.register as usize];
             row.set(place.index as usize, value);
         }

@@ -67,8 +67,8 @@ fn net_of(design: &Design, dirs: &[Dir], signal: &StilSignal) -> Option<NetId>
     }
 }
 
-// The net of each signal. P7 tells the first signal that is no bit of a port with its direction.
-pub(crate) fn nets_of(
+/// The net of each signal. P7 tells the first signal that is no bit of a port with its direction.
+pub fn nets_of(
     alloc: Global,
     design: &Design,
     signals: &[StilSignal],

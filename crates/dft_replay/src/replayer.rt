@@ -4,7 +4,7 @@ ghost use Rattle.std.specs.Prelude.{◌≡◌, ◌<◌, ◌^◌, ℕ, List, All,
 ghost use Rattle.dft_netlist.specs.Logic.{logic_of};
 ghost use Rattle.dft_netlist.specs.Orders.{numbers_of};
 ghost use Rattle.dft_abstract.specs.Cycle.{all_unknown};
-ghost use Rattle.dft_cycle.specs.Machine.{is_one_of};
+ghost use Rattle.dft_cycle.specs.Machine.{AreNets, is_one_of};
 ghost use Rattle.dft_patterns.specs.Patterns.{IsWellFormed};
 ghost use Rattle.dft_replay.specs.Fits.{first_misfit, TellsMisfit};
 ghost use Rattle.dft_replay.specs.Laws.{HoldsInRuns};
@@ -116,6 +116,7 @@ pub fn clocks(
     requires { IsWellFormed patterns.now }
     ensures fit { IfOk result (λ clocks. first_misfit design.now patterns.now.signals ≡ None) }
     ensures clocks { IfOk result (λ clocks. (net : ℕ) → is_one_of clocks.items net ≡ (ports_of design.now patterns.now).is_clock net) }
+    ensures live { IfOk result (λ clocks. AreNets (length design.now.nets) clocks.items) }
     ensures misfit { IfErr result (TellsMisfit design.now patterns.now.signals) }
 {
     let nets = nets_of(alloc, design, patterns.signals())?;

@@ -62,13 +62,13 @@ pin_or : {A : Type 0} (f : Signal → A) (g : Source → A) (t : Bool) (i : ℕ)
 pin_or f g true i c rest more e h = ap Some e
 pin_or f g false i c rest more e h = h
 
-same_pin : {A : Type 0} (f : Signal → A) (g : Source → A) → ((i p : ℕ) (s : Signal) → f s ≡ g (source_of i p s)) → (r : Role) (i : ℕ) (pins : List Connection) → option_map f (signal_of r pins) ≡ option_map g (pin_of r i pins)
+pub same_pin : {A : Type 0} (f : Signal → A) (g : Source → A) → ((i p : ℕ) (s : Signal) → f s ≡ g (source_of i p s)) → (r : Role) (i : ℕ) (pins : List Connection) → option_map f (signal_of r pins) ≡ option_map g (pin_of r i pins)
 same_pin f g same r i [] = refl
 same_pin f g same r i (c ∷ pins) = pin_or f g (same_role r c.role) i c (find (λ x. same_role r x.role) pins) (pin_of r i pins) (same i c.pin c.to) (same_pin f g same r i pins)
 
 -- ---- clocks
 
-same_then : {A B C : Type 0} (f : A → Option C) (g : B → Option C) (a : Option A) (b : Option B) → option_map f a ≡ option_map g b → option_and_then f a ≡ option_and_then g b
+pub same_then : {A B C : Type 0} (f : A → Option C) (g : B → Option C) (a : Option A) (b : Option B) → option_map f a ≡ option_map g b → option_and_then f a ≡ option_and_then g b
 same_then f g None None e = refl
 same_then f g None (Some y) e = absurd (let h : ⊥ = cc in h)
 same_then f g (Some x) None e = absurd (let h : ⊥ = cc in h)

@@ -19,8 +19,8 @@ pub(crate) fn takes_data(cells: &[Cell], cell: CellRef, pin: usize) -> bool
     }
 }
 
-// Whether the cell names a scan cell.
-pub(crate) fn has_scan_cell(cells: &[Cell], cell: CellRef) -> bool
+/// Whether the cell names a scan cell.
+pub fn has_scan_cell(cells: &[Cell], cell: CellRef) -> bool
     ensures { result ≡ is_some (rules.scan_cell_in cells.now cell) }
 {
     match cell {
@@ -32,8 +32,8 @@ pub(crate) fn has_scan_cell(cells: &[Cell], cell: CellRef) -> bool
     }
 }
 
-// Whether flip-flops of this kind are judged.
-pub(crate) fn may_be_scanned(kind: Kind) -> bool
+/// Whether flip-flops of this kind are judged.
+pub fn may_be_scanned(kind: Kind) -> bool
     ensures { result ≡ rules.may_be_scanned kind }
 {
     matches!(kind, Kind::Dff | Kind::Dffr | Kind::Dffs)

@@ -55,8 +55,8 @@ fn first_clock(domains: &[NetId], clocks: &[Option<ClockRoot>], used: &[bool]) -
     None
 }
 
-// Marks the nets that some instance takes as data.
-fn data_nets(alloc: Global, design: &Design) -> Result<Vec<bool>, AllocError>
+/// Marks the nets that some instance takes as data.
+pub fn data_nets(alloc: Global, design: &Design) -> Result<Vec<bool>, AllocError>
     ensures { IfOk result (λ used. AreUsed design.now.library design.now.instances (length design.now.nets) used.items) }
 {
     let mut used = vec![in alloc; false; design.net_count() as usize]?;

@@ -12,6 +12,8 @@ mod judging;
 mod laws;
 mod verdicts;
 
+pub use cells::{has_scan_cell, may_be_scanned};
+pub use clocks::data_nets;
 pub use dft_base::Rule;
 pub use error::RuleError;
 pub use judged::Judged;

@@ -30,7 +30,7 @@ use std::alloc::Global;
 /// --out-report FILE` inserts them behind compression hardware, and saves the scanned netlist, patterns that load the test
 /// cubes, and a report. `certify --netlist FILE --config FILE --cubes FILE --report FILE` tests whether the sums that a report
 /// prints for cubes show that no channel bits load them. `grade --netlist FILE --patterns FILE --out FILE` replays the patterns
-/// and, where they pass, saves a report of all single stuck-at faults of the netlist, each with its grade. All these take
+/// and, where they pass, saves a report of both stuck-at faults of each driven net that shows no clock, each with its grade. All these take
 /// `--library FILE` for the cells. `generate --seed N --size N` makes a job of its own, compiles it and replays what comes of it; it
 /// loads and saves nothing. Files are loaded in their turn, and each passes its checks before the next is loaded; all texts are made
 /// before the first is saved; and one line is printed, of a generated job two.

@@ -1,7 +1,7 @@
 -- One net more has its driver's value.
 use Rattle.std.proofs.Common.{◌∙◌}
 use Rattle.dft_logic.specs.Circuit.{before_base, pulse_at}
-use Rattle.dft_cycle.proofs.StepLemmas.{step_live, step_settled}
+use Rattle.dft_cycle.proofs.StepLemmas.{step_live, step_settled, step_within}
 use Rattle.dft_cycle.proofs.steps.settle_steps.Goals as goal
 
 pub bounds-values-step : goal.bounds-values-step
@@ -13,3 +13,7 @@ pub loop-step-preserved : goal.loop-step-preserved
 loop-step-preserved c =
     step_settled c.args.circuit.now (before_base (pulse_at c.args.pulse)) c.args.steps.now c.loop-step.values c.loop-step.step-index _ c.value-value.result c.loop-step-test.true
     (c.loop-step.auto.values ∙ c.requires.values) c.requires.steps c.loop-step.invariant c.value-value.ensures
+
+pub value-value-requires-clause-within : goal.value-value-requires-clause-within
+value-value-requires-clause-within c =
+    step_within c.args.circuit.now c.args.steps.now c.loop-step.values c.loop-step.step-index _ c.loop-step-test.true (c.loop-step.auto.values ∙ c.requires.values) c.requires.steps

@@ -1,5 +1,5 @@
 -- The value is written where the cell has it.
-use Rattle.std.proofs.Common.{ℕ, List, [], ◌≡◌, ◌<◌, ◌≢◌, ◌∙◌, sym, ap, subst, length, slice_set, arith}
+use Rattle.std.proofs.Common.{ℕ, List, [], ◌≡◌, ◌<◌, ◌∙◌, sym, ap, subst, length, slice_set, arith}
 use Rattle.std.proofs.lemmas.List.{get_or_default}
 use Rattle.dft_base.specs.declared.tri.Tri.{Tri}
 use Rattle.dft_registers.specs.declared.layout.Place.{Place}
@@ -17,16 +17,16 @@ index_mut-requires c =
     let live = placed d c.args.self.now c.args.cell c.self.invariant c.self.view_is c.requires in
     omega (arith, d.resting.ok.0, c.self.invariant.resting, live)
 
-pub returns-then-place-eq0-clause-values : goal.returns-then-place-eq0-clause-values
-returns-then-place-eq0-clause-values c =
+pub returns-then-rests-clause-values : goal.returns-then-rests-clause-values
+returns-then-rests-clause-values c =
     let d = c.self.inside in
     let cell : ℕ = c.args.cell in
     let live = placed d c.args.self.now cell c.self.invariant c.self.view_is c.requires in
-    let rests : (place_at d.layout.places cell).register ≡ 0 = ap (λ (p : Place). p.register) (sym c.place-place.ensures) ∙ c.if-place-eq0.true in
+    let rests : (place_at d.layout.places cell).register ≡ 0 = ap (λ (k : Contents). (place_at k.layout.places cell).register) c.self.view_is ∙ c.rests.ensures.rests c.if-rests.true in
     written_resting d.rows.items d.layout.places d.resting.items cell c.args.value c.self.invariant.resting live rests ∙ ap (λ (k : Contents). slice_set k.values cell c.args.value) c.self.view_is
 
-pub returns-else-place-eq0-clause-values : goal.returns-else-place-eq0-clause-values
-returns-else-place-eq0-clause-values c =
+pub returns-else-rests-clause-values : goal.returns-else-rests-clause-values
+returns-else-rests-clause-values c =
     let d = c.self.inside in
     let i = c.self.invariant in
     let cell : ℕ = c.args.cell in
@@ -34,8 +34,7 @@ returns-else-place-eq0-clause-values c =
     let p : Place = c.place-place.result in
     let live : cell < length d.layout.places = placed d c.args.self.now cell i c.self.view_is c.requires in
     let at : p ≡ place_at d.layout.places cell = c.place-place.ensures in
-    let ne : p.register ≢ 0 = c.if-place-eq0.false in
-    let above : 0 < (place_at d.layout.places cell).register = subst (λ (q : Place). 0 < q.register) at (omega (arith, ne)) in
+    let above : 0 < (place_at d.layout.places cell).register = subst (λ (k : Contents). 0 < (place_at k.layout.places cell).register) (sym c.self.view_is) (c.rests.ensures.lies c.if-rests.false) in
     let less : p.register < length d.rows.items = (let was = i.laid.register cell live in omega (arith, i.count, ap (λ (q : Place). q.register) at, was)) in
     let row : c.index_mut-row.result.now ≡ _ = c.index_mut-row.ensures.value ∙ get_or_default d.rows.items p.register _ [] less ∙ ap (λ (q : Place). row_at d.rows.items q.register) at in
     ap (λ (x : List Tri). values_in (slice_set d.rows.items p.register x) d.layout.places own) c.set.ensures

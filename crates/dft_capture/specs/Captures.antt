@@ -1,0 +1,79 @@
+-- What the scanned flip-flops of a design capture where one clock pulses once, from any values before it.
+use Rattle.std.specs.Prelude.{ℕ, Bool, true, false, List, Option, None, Some, if◌then◌else◌}
+use Rattle.dft_base.specs.declared.tri.Tri.{Tri}
+use Rattle.dft_base.specs.declared.tri.Tri.TheVariants.{Zero, Unknown}
+use Rattle.dft_cells.specs.declared.kind.Role.TheVariants as role
+use Rattle.dft_cells.specs.FlipFlops.{tri_forced}
+use Rattle.dft_netlist.specs.Netlist.{Netlist}
+use Rattle.dft_netlist.specs.Drivers.{Source, Driver, Connection, pins_of, driver}
+use Rattle.dft_netlist.specs.Drivers as drivers
+use Rattle.dft_netlist.specs.Logic.{Logic, Meaning, Input, Clock, Gate, Joined, Flop, Free, pin_of, or_loose, scan_of, no_cell}
+use Rattle.dft_netlist.specs.Settled.{TriSources, value_from, IsTriSettled}
+use Rattle.dft_abstract.specs.Cycle.{tri_taken_by}
+
+-- ---- the design between pulses
+
+-- which nets are clocks; which flip-flops hold values, and which of these take their next ones at the rise of the pulse and at its fall
+pub record Moving : Type 0 where
+  pub is_clock : ℕ → Bool
+  pub holds : ℕ → Bool
+  pub rises : ℕ → Bool
+  pub falls : ℕ → Bool
+
+-- what a net means: a flip-flop that holds no value is free, and so is a lock-up
+abbrev pub meaning_in : Moving → (net : ℕ) → Driver → Meaning
+meaning_in m net drivers.Input = if m.is_clock net then Clock else Input
+meaning_in m net (drivers.Gate kind inputs) = Gate kind inputs
+meaning_in m net (drivers.Joined source) = Joined source
+meaning_in m net (drivers.Flop i inverted) = if m.holds i then Flop i inverted else Free
+meaning_in m net (drivers.Lockup i) = Free
+meaning_in m net drivers.Free = Free
+
+abbrev pub capture_logic : Netlist → Moving → Logic
+capture_logic n m = record { net = λ net. meaning_in m net (driver n net); cell = λ i. no_cell i }
+
+-- ports and flip-flops have these values, clocks are 0, and all that is free is Unknown
+abbrev pub sources_at : (ports state : ℕ → Tri) → TriSources
+sources_at ports state = record { ports = ports; clocks = λ net. Zero; flops = state; lockups = λ c e high source. Unknown }
+
+-- the three-valued settled values of the nets
+abbrev pub IsSettledFrom : Netlist → Moving → (ports state values : ℕ → Tri) → Type 0
+IsSettledFrom n m ports state values = IsTriSettled (capture_logic n m) (sources_at ports state) values
+
+-- ---- next values
+
+-- a value, or what a reset (value 0) or a set (value 1) leaves by the value at its pin, if the flip-flop has one
+abbrev pub forced_by_pin : (value : Bool) → (pin : Option Source) → (values : ℕ → Tri) → Tri → Tri
+forced_by_pin value None values next = next
+forced_by_pin value (Some pin) values next = tri_forced value (value_from values pin) next
+
+-- the next value of a flip-flop with these pins: by its reset pin, else by its set pin, else from its scan input or its data input
+abbrev pub next_at : (instance : ℕ) → List Connection → (values : ℕ → Tri) → Tri
+next_at i pins values =
+    forced_by_pin false (pin_of role.Reset i pins) values
+    (forced_by_pin true (pin_of role.Preset i pins) values
+    (tri_taken_by (scan_of (pin_of role.ScanEnable i pins) (pin_of role.ScanIn i pins)) (value_from values) (value_from values (or_loose i (pin_of role.Din i pins)))))
+
+-- the next value of a flip-flop by the values at its pins, whatever these trace to
+abbrev pub next_by_pins : Netlist → (values : ℕ → Tri) → (cell : ℕ) → Tri
+next_by_pins n values i = next_at i (pins_of n i) values
+
+-- ---- one pulse
+
+-- what moves takes its next value from these settled values, and all others stay
+abbrev pub after_moves : Netlist → (moves : ℕ → Bool) → (values state : ℕ → Tri) → (cell : ℕ) → Tri
+after_moves n moves values state c = if moves c then next_by_pins n values c else state c
+
+-- the settled values before the pulse rises, and before it falls
+pub record Settled : Type 0 where
+  pub first : ℕ → Tri
+  pub second : ℕ → Tri
+
+-- They are settled from the values before the pulse, and from those in which the rising flip-flops have moved. Clocks are 0 in both.
+pub record AreSettled (n : Netlist) (m : Moving) (ports state : ℕ → Tri) (s : Settled) : Type 0 where
+  pub first : IsSettledFrom n m ports state s.first
+  pub second : IsSettledFrom n m ports (after_moves n m.rises s.first state) s.second
+
+-- the flip-flops' values after the pulse: the rising ones have moved, and then the falling ones
+abbrev pub captured : Netlist → Moving → (state : ℕ → Tri) → Settled → (cell : ℕ) → Tri
+captured n m state s = after_moves n m.falls s.second (after_moves n m.rises s.first state)

@@ -1,0 +1,12 @@
+pub mod Values
+pub mod Checked
+pub mod ReadTable
+pub mod Quoted
+pub mod ListRead
+pub mod ItemRead
+pub mod HeadSkipped
+pub mod TextRead
+pub mod Low
+pub mod Pieces
+pub mod MadeLines
+pub mod MadeGiven

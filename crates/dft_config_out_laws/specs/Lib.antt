@@ -1,0 +1,5 @@
+pub mod Tables
+pub mod Names
+pub mod Lists
+pub mod Comments
+pub mod Texts

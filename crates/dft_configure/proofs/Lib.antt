@@ -1,0 +1,6 @@
+pub mod PairLemmas
+pub mod ChoiceLemmas
+pub mod RootLemmas
+pub mod MostLemmas
+pub mod RangeLemmas
+pub mod GoodLemmas

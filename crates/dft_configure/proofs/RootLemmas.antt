@@ -1,0 +1,111 @@
+-- What is found of nets and instances answers what the definitions ask.
+use Rattle.std.proofs.Common.{◌≡◌, ℕ, zero, suc, ◌+◌, ◌<◌, Bool, true, false, cond, not, ◌&&◌, ◌||◌, List, [], ◌∷◌, length, get_or, Option, None, Some, option_map, option_and_then, slice_get, refl, sym, ◌∙◌, ap, arith}
+use Rattle.std.specs.Prelude.{nat_lt, slice_index_or}
+use Rattle.std.specs.List.{list_any, range_with_len}
+use Rattle.std.proofs.lemmas.List.{length-map}
+use Rattle.std.proofs.lemmas.List.Folds.{list_any-append}
+use Rattle.std.proofs.lemmas.List.FromFn.{get_or-map-range_with_len, length-map-range_with_len}
+use Rattle.dft_base.proofs.BitLemmas.{or_false}
+use Rattle.dft_base.proofs.ListLemmas.{range_last}
+use Rattle.dft_cells.specs.declared.kind.Role.TheVariants.{Clock, Reset, Preset}
+use Rattle.dft_netlist.specs.declared.ids.NetId.{NetId}
+use Rattle.dft_netlist.specs.declared.instance.Instance.{Instance}
+use Rattle.dft_netlist.specs.declared.instance.Signal.{Signal}
+use Rattle.dft_netlist.specs.declared.clock_roots.ClockRoot.{ClockRoot}
+use Rattle.dft_netlist.specs.declared.root.Root as declared
+use Rattle.dft_netlist.specs.Netlist.{Netlist}
+use Rattle.dft_netlist.specs.Connections.{signal_of}
+use Rattle.dft_netlist.specs.Drivers.{Connection, Net, Source, connections_of, source_of}
+use Rattle.dft_netlist.specs.Logic.{pin_of}
+use Rattle.dft_netlist.specs.ClockSteps.{shown_clock}
+use Rattle.dft_netlist.specs.ClockTables.{AreClocks, clock_in}
+use Rattle.dft_netlist.specs.Roots.{shown_root}
+use Rattle.dft_netlist.specs.RootTables.{AreRoots, root_in}
+use Rattle.dft_netlist.specs.Traces.{root_of}
+use Rattle.dft_netlist.proofs.ClockTables.{shown_in as clock_shown_in}
+use Rattle.dft_netlist.proofs.RootTables.{shown_in}
+use Rattle.dft_rules.specs.Findings.{AreUsed}
+use Rattle.dft_rules.proofs.JudgeLemmas.{same_pin, same_then}
+use Rattle.dft_configure.specs.Found.{AreClean, hold_at, marked_only, number, numbers_of, port_at, shown_hold}
+use Rattle.dft_configure.specs.Roots.{clean_clock, clean_only, hold_root, is_clean, is_port, is_tapped, open_clock, open_clocks, port_of_clock, port_shown, root_of_either}
+
+-- ---- clean nets
+
+any_last : (p : ℕ → Bool) (k : ℕ) → list_any p (range_with_len 0 (k + 1)) ≡ (list_any p (range_with_len 0 k) || p k)
+any_last p k = ap (list_any p) (range_last k) ∙ list_any-append p (range_with_len 0 k) (k ∷ []) ∙ ap (λ (b : Bool). list_any p (range_with_len 0 k) || b) (or_false (p k))
+
+neither : (a l t : Bool) → ((a && not l) && not t) ≡ (a && not (l || t))
+neither true true t = refl
+neither true false t = refl
+neither false l t = refl
+
+-- the mark of a port after one net more
+pub clean_more : (n : Netlist) (clocks : List (Option ClockRoot)) (used : List Bool) (net port : ℕ) (clock : Option ClockRoot) (mark before after : Bool) → AreClocks n clocks → AreUsed n.library n.instances (length n.nets) used →
+    net < length n.nets → clock ≡ slice_index_or clocks net None → mark ≡ slice_index_or used net false → before ≡ (nat_lt port (length n.nets) && not (list_any (is_tapped n port) (range_with_len 0 net))) →
+    after ≡ (before && not (is_port port (port_of_clock (shown_clock clock)) && mark)) → after ≡ (nat_lt port (length n.nets) && not (list_any (is_tapped n port) (range_with_len 0 (net + 1))))
+clean_more n clocks used net port clock mark before after shows marks less at marked rest step =
+    let root = ap shown_clock at ∙ shows.each (Net net) in
+    let tapped : (is_port port (port_of_clock (shown_clock clock)) && mark) ≡ is_tapped n port net = (λ i. is_port port (port_of_clock (root i)) && (marked ∙ marks.each net less) i) in
+    step ∙ (λ i. rest i && not (tapped i)) ∙ neither (nat_lt port (length n.nets)) (list_any (is_tapped n port) (range_with_len 0 net)) (is_tapped n port net)
+    ∙ ap (λ (b : Bool). nat_lt port (length n.nets) && not b) (sym (any_last (is_tapped n port) net))
+
+pub clean_all : (n : Netlist) (marks : List Bool) (net : ℕ) → length marks ≡ length n.nets → net ≡ length n.nets →
+    ((port : ℕ) → slice_index_or marks port false ≡ (nat_lt port (length n.nets) && not (list_any (is_tapped n port) (range_with_len 0 net)))) → AreClean n marks
+unfolding is_clean
+clean_all n marks net size all each = record {
+  count = size;
+  each = λ port. (each port ∙ ap (λ (k : ℕ). nat_lt port (length n.nets) && not (list_any (is_tapped n port) (range_with_len 0 k))) all);
+}
+
+-- ---- clocks
+
+port_is : (n : Netlist) (clocks : List (Option ClockRoot)) → AreClocks n clocks → (i : ℕ) (pins : List Connection) → port_at clocks (signal_of Clock pins) ≡ option_and_then (port_shown n) (pin_of Clock i pins)
+port_is n clocks shows i pins =
+    same_then (λ s. port_of_clock (shown_clock (clock_in clocks s))) (port_shown n) (signal_of Clock pins) (pin_of Clock i pins)
+    (same_pin (λ s. port_of_clock (shown_clock (clock_in clocks s))) (port_shown n) (λ j p s. ap port_of_clock (sym (clock_shown_in clocks j p s) ∙ shows.each (source_of j p s))) Clock i pins)
+
+marked_is : (n : Netlist) (marks : List Bool) → AreClean n marks → (port : Option ℕ) → marked_only marks port ≡ clean_only n port
+marked_is n marks clean None = refl
+marked_is n marks clean (Some port) = ap (λ (b : Bool). cond b (Some port) None) (clean.each port)
+
+pub clean_clock_is : (n : Netlist) (clocks : List (Option ClockRoot)) (marks : List Bool) (i : ℕ) (x : Instance) → slice_get n.instances i ≡ Some x → AreClocks n clocks → AreClean n marks →
+    marked_only marks (port_at clocks (signal_of Clock (connections_of n.library x))) ≡ clean_clock n i
+clean_clock_is n clocks marks i x at shows clean =
+    let pins = connections_of n.library x in
+    rw at (ap (marked_only marks) (port_is n clocks shows i pins) ∙ marked_is n marks clean (option_and_then (port_shown n) (pin_of Clock i pins)))
+
+-- ---- resets and sets
+
+hold_by : (n : Netlist) (roots : List declared.Root) (reset preset : Option Signal) (resets presets : Option Source) → option_map (λ s. shown_root (root_in roots s)) reset ≡ option_map (root_of n) resets →
+    option_map (λ s. shown_root (root_in roots s)) preset ≡ option_map (root_of n) presets → shown_hold (hold_at roots reset preset) ≡ root_of_either n resets presets
+hold_by n roots None None None None a b = refl
+hold_by n roots None None None (Some y) a b = absurd (let h : ⊥ = cc in h)
+hold_by n roots None (Some x) None None a b = absurd (let h : ⊥ = cc in h)
+hold_by n roots None (Some x) None (Some y) a b = b
+hold_by n roots None preset (Some y) presets a b = absurd (let h : ⊥ = cc in h)
+hold_by n roots (Some x) preset None presets a b = absurd (let h : ⊥ = cc in h)
+hold_by n roots (Some x) preset (Some y) presets a b = a
+
+hold_is : (n : Netlist) (roots : List declared.Root) → AreRoots n roots → (i : ℕ) (pins : List Connection) → shown_hold (hold_at roots (signal_of Reset pins) (signal_of Preset pins)) ≡ root_of_either n (pin_of Reset i pins) (pin_of Preset i pins)
+hold_is n roots found i pins =
+    let same : (j p : ℕ) (s : Signal) → shown_root (root_in roots s) ≡ root_of n (source_of j p s) = λ j p s. (sym (shown_in roots j p s) ∙ found.each (source_of j p s)) in
+    hold_by n roots (signal_of Reset pins) (signal_of Preset pins) (pin_of Reset i pins) (pin_of Preset i pins) (same_pin (λ s. shown_root (root_in roots s)) (root_of n) same Reset i pins)
+    (same_pin (λ s. shown_root (root_in roots s)) (root_of n) same Preset i pins)
+
+pub hold_root_is : (n : Netlist) (roots : List declared.Root) (i : ℕ) (x : Instance) → slice_get n.instances i ≡ Some x → AreRoots n roots →
+    shown_hold (hold_at roots (signal_of Reset (connections_of n.library x)) (signal_of Preset (connections_of n.library x))) ≡ hold_root n i
+hold_root_is n roots i x at found = rw at (hold_is n roots found i (connections_of n.library x))
+
+-- ---- tables of instances
+
+pub clocks_count : (n : Netlist) (clocks : List (Option NetId)) → numbers_of clocks ≡ open_clocks n → length clocks ≡ length n.instances
+clocks_count n clocks are = sym (length-map clocks number) ∙ ap length are ∙ length-map-range_with_len (open_clock n) 0 (length n.instances)
+
+number_at : (clocks : List (Option NetId)) (k : ℕ) → get_or (numbers_of clocks) k None ≡ number (get_or clocks k None)
+number_at [] k = refl
+number_at (x ∷ clocks) zero = refl
+number_at (x ∷ clocks) (suc k) = number_at clocks k
+
+-- the clock of an instance
+pub clock_at : (n : Netlist) (clocks : List (Option NetId)) (k : ℕ) → numbers_of clocks ≡ open_clocks n → k < length n.instances → number (get_or clocks k None) ≡ open_clock n k
+clock_at n clocks k are less = sym (number_at clocks k) ∙ ap (λ (l : List (Option ℕ)). get_or l k None) are ∙ get_or-map-range_with_len (open_clock n) 0 (length n.instances) k k None less (omega arith)

@@ -1,0 +1,28 @@
+use Rattle.std.proofs.Common.{◌≡◌, ◌∙◌, ◌<◌, false, None, List, Bool, length, ap, refl, arith}
+use Rattle.std.specs.Prelude.{slice_index_or}
+use Rattle.std.proofs.lemmas.List.{get_or_read}
+use Rattle.dft_rules.proofs.MarkLemmas.{refilled}
+use Rattle.dft_configure.proofs.RootLemmas.{clean_all, clean_more}
+use Rattle.dft_configure.proofs.cleaning.clean_nets.Goals as goal
+
+pub loop-net-preserved : goal.loop-net-preserved
+loop-net-preserved c =
+    let n = c.args.design.now in
+    let net = c.loop-net.net in
+    let old = c.loop-net.marks.items in
+    let same : length c.clear.new.marks ≡ length old = c.clear.auto.marks ∙ ap (λ (xs : List Bool). length xs) c.deref_mut.ensures.value in
+    let count = c.in_ok-used.ensures.count in
+    let within : net < length c.in_ok-used.used.items = omega (arith, c.len-net-end.ensures, c.in_ok-used.used.ok.0) in
+    let less : net < length n.nets = omega (arith, count, within) in
+    let marked = get_or_read c.in_ok-used.used.items net c.index.result.now within c.index.ensures false in
+    let full = refilled old c.clear.new.marks c.loop-net.marks.len (omega (arith, c.loop-net.marks.ok.0)) same in
+    record {
+      size = ap (λ (xs : List Bool). length xs) full ∙ same ∙ c.loop-net.invariant.size;
+      each = λ port.
+          (ap (λ (xs : List Bool). slice_index_or xs port false) full
+          ∙ clean_more n c.args.clocks.now c.in_ok-used.used.items net port (slice_index_or c.args.clocks.now net None) c.index.result.now (slice_index_or old port false) (slice_index_or c.clear.new.marks port false) c.requires c.in_ok-used.ensures less refl marked
+          (c.loop-net.invariant.each port) (rw c.deref_mut.ensures.value at (c.clear.ensures port)));
+    }
+
+pub returns : goal.returns
+returns c = clean_all c.args.design.now c.loop-net.marks.items c.loop-net.net c.loop-net.invariant.size (let count = c.in_ok-used.ensures.count in omega (arith, count)) c.loop-net.invariant.each

@@ -1,0 +1,8 @@
+-- The numbers from here on give what all of them give.
+use Rattle.std.proofs.Common.{◌≡◌, ◌-◌, length}
+use Rattle.std.specs.List.{list_all, range_with_len}
+use Rattle.dft_configure.specs.Good.{is_good_chain}
+use Rattle.dft_configure.proofs.good.is_good.Given as goal
+
+abbrev pub invariant-loop-chain : goal.invariant-loop-chain
+invariant-loop-chain l = list_all (is_good_chain l.equations) (range_with_len l.chain (length l.equations.chains - l.chain)) ≡ list_all (is_good_chain l.equations) (range_with_len 0 (length l.equations.chains))

@@ -1,0 +1,5 @@
+pub mod Good
+pub mod Roots
+pub mod Found
+pub mod Most
+pub mod Compacting

@@ -1,0 +1,230 @@
+//! The clocks and the resets of open flip-flops.
+
+ghost use Rattle.std.specs.Prelude.{ℕ, ◌≡◌, ◌<◌, ◌&&◌, IfOk, Some, length, is_some};
+ghost use Rattle.dft_netlist.specs.Drivers.{shape_of};
+ghost use Rattle.dft_rules.specs.Rules as rules;
+ghost use Rattle.dft_configure.specs.Roots as spec;
+ghost use Rattle.dft_configure.specs.Found as at;
+ghost use Rattle.dft_configure.specs.Found.{AreTables, number, numbers, numbers_of, shown_hold};
+
+use crate::cleaning::clean_nets;
+use dft_cells::{Cell, Role};
+use dft_netlist::{
+    CellRef, ClockRoot, Design, Instance, NetId, Root, Signal, clock_in, kind_of, root_in,
+    signal_of,
+};
+use dft_rules::{has_scan_cell, may_be_scanned};
+use std::alloc::{AllocError, Global};
+
+// What is found of each net, by its number.
+#[derive(Debug, Drop)]
+pub(crate) struct Tables {
+    // The clock that it shows.
+    pub(crate) clocks: Vec<Option<ClockRoot>>,
+    // Its root.
+    pub(crate) roots: Vec<Root>,
+    // Whether no instance takes its clock as data.
+    pub(crate) clean: Vec<bool>,
+}
+
+impl Tables {
+    // Those of a design.
+    pub(crate) fn of(alloc: Global, design: &Design) -> Result<Tables, AllocError>
+        ensures { IfOk result (AreTables design.now) }
+    {
+        let clocks = design.clocks(alloc)?;
+        let clean = clean_nets(alloc, design, &clocks)?;
+        Ok(Tables {
+            clocks,
+            roots: design.roots(alloc)?,
+            clean,
+        })
+    }
+}
+
+// Whether a flip-flop of this cell is judged and has a scan cell.
+fn is_fit(cells: &[Cell], cell: CellRef) -> bool
+    ensures { result ≡ (rules.may_be_scanned (shape_of cells.now cell).kind && is_some (rules.scan_cell_in cells.now cell)) }
+{
+    may_be_scanned(kind_of(cells, cell)) && has_scan_cell(cells, cell)
+}
+
+// The port whose clock a pin shows.
+fn port_at(clocks: &[Option<ClockRoot>], pin: Option<Signal>) -> Option<NetId>
+    ensures { number result ≡ at.port_at clocks.now pin }
+{
+    match pin {
+        Some(signal) => match clock_in(clocks, signal) {
+            Some(clock) => Some(clock.port),
+            None => None,
+        },
+        None => None,
+    }
+}
+
+// A port, where it is marked.
+fn marked_only(marks: &[bool], port: Option<NetId>) -> Option<NetId>
+    ensures { number result ≡ at.marked_only marks.now (number port) }
+{
+    match port {
+        Some(net) => match marks.get(net.0 as usize) {
+            Some(mark) => if *mark { Some(net) } else { None },
+            None => None,
+        },
+        None => None,
+    }
+}
+
+// The root of the reset, or of the set, if there is one.
+fn hold_at(roots: &[Root], reset: Option<Signal>, preset: Option<Signal>) -> Option<Root>
+    ensures { result ≡ at.hold_at roots.now reset preset }
+{
+    match reset {
+        Some(signal) => Some(root_in(roots, signal)),
+        None => match preset {
+            Some(signal) => Some(root_in(roots, signal)),
+            None => None,
+        },
+    }
+}
+
+// Whether a set or reset with this root can be kept at 1.
+fn can_hold(root: Option<Root>) -> bool
+    ensures { result ≡ spec.can_hold (shown_hold root) }
+{
+    match root {
+        Some(Root::Port(_)) | None => true,
+        Some(Root::Constant(bit)) => bit,
+        Some(Root::Other) => false,
+    }
+}
+
+// The port at which it is kept.
+fn port_of_root(root: Option<Root>) -> Option<NetId>
+    ensures { number result ≡ spec.port_of_root (shown_hold root) }
+{
+    match root {
+        Some(Root::Port(net)) => Some(net),
+        Some(Root::Constant(_)) | Some(Root::Other) | None => None,
+    }
+}
+
+// The root of the reset of an instance, or of its set, if it has one.
+fn hold_root(design: &Design, tables: &Tables, number: usize) -> Option<Root>
+    requires number { number < length design.now.instances }
+    requires tables { AreTables design.now tables.now }
+    ensures { shown_hold result ≡ spec.hold_root design.now number }
+{
+    let cells = design.library().cells();
+    let instance = &design.instances()[number];
+    let reset = signal_of(cells, instance, Role::Reset);
+    let preset = signal_of(cells, instance, Role::Preset);
+    hold_at(&tables.roots, reset, preset)
+}
+
+// The clock of an instance, if it is a clean port's.
+fn clean_clock(design: &Design, tables: &Tables, number: usize) -> Option<NetId>
+    requires number { number < length design.now.instances }
+    requires tables { AreTables design.now tables.now }
+    ensures { at.number result ≡ spec.clean_clock design.now number }
+{
+    let cells = design.library().cells();
+    let instance = &design.instances()[number];
+    let pin = signal_of(cells, instance, Role::Clock);
+    marked_only(&tables.clean, port_at(&tables.clocks, pin))
+}
+
+// The clock of an instance, if it is an open flip-flop.
+#[tactic(auto, unfolding(crate::specs::Roots::open_clock))]
+fn open_clock(design: &Design, tables: &Tables, number: usize) -> Option<NetId>
+    requires number { number < length design.now.instances }
+    requires tables { AreTables design.now tables.now }
+    ensures { at.number result ≡ spec.open_clock design.now number }
+{
+    let instance = &design.instances()[number];
+    if !is_fit(design.library().cells(), instance.cell) {
+        return None;
+    }
+    if !can_hold(hold_root(design, tables, number)) {
+        return None;
+    }
+    clean_clock(design, tables, number)
+}
+
+// The clocks of all instances that are open flip-flops.
+pub(crate) fn open_clocks(
+    alloc: Global,
+    design: &Design,
+    tables: &Tables,
+) -> Result<Vec<Option<NetId>>, AllocError>
+    requires { AreTables design.now tables.now }
+    ensures { IfOk result (λ clocks. numbers_of clocks.items ≡ spec.open_clocks design.now) }
+{
+    let count = design.instances().len();
+    let mut clocks = Vec::with_capacity(alloc, count)?;
+    for number in 0..count {
+        clocks.push(open_clock(design, tables, number))?;
+    }
+    Ok(clocks)
+}
+
+// Whether there is a port, and it is among these.
+fn is_among(ports: &[NetId], port: Option<NetId>) -> bool
+    ensures { result ≡ spec.is_among (numbers ports.now) (number port) }
+{
+    match port {
+        Some(net) => has_net(ports, net),
+        None => false,
+    }
+}
+
+fn has_net(ports: &[NetId], net: NetId) -> bool
+    ensures { result ≡ spec.is_among (numbers ports.now) (Some net.0) }
+{
+    for other in ports {
+        if other.0 == net.0 {
+            return true;
+        }
+    }
+    false
+}
+
+// The reset port of an instance with this clock, where the clock is among these.
+fn open_reset(
+    design: &Design,
+    tables: &Tables,
+    domains: &[NetId],
+    clock: Option<NetId>,
+    number: usize,
+) -> Option<NetId>
+    requires number { number < length design.now.instances }
+    requires tables { AreTables design.now tables.now }
+    requires clock { at.number clock ≡ spec.open_clock design.now number }
+    ensures { at.number result ≡ spec.open_reset design.now (numbers domains.now) number }
+{
+    if is_among(domains, clock) {
+        port_of_root(hold_root(design, tables, number))
+    } else {
+        None
+    }
+}
+
+// The reset ports of all open flip-flops whose clocks are among these.
+pub(crate) fn open_resets(
+    alloc: Global,
+    design: &Design,
+    tables: &Tables,
+    domains: &[NetId],
+    clocks: &[Option<NetId>],
+) -> Result<Vec<Option<NetId>>, AllocError>
+    requires tables { AreTables design.now tables.now }
+    requires clocks { numbers_of clocks.now ≡ spec.open_clocks design.now }
+    ensures { IfOk result (λ resets. numbers_of resets.items ≡ spec.open_resets design.now (numbers domains.now)) }
+{
+    let count = design.instances().len();
+    let mut resets = Vec::with_capacity(alloc, count)?;
+    for number in 0..count {
+        resets.push(open_reset(design, tables, domains, clocks[number], number))?;
+    }
+    Ok(resets)
+}

@@ -1,0 +1,15 @@
+pub mod ClampLemmas
+pub mod Settling
+pub mod CellLemmas
+pub mod LaneLemmas
+pub mod SteadyLemmas
+pub mod RoundLemmas
+pub mod CompareLemmas
+pub mod SignalLemmas
+pub mod StickLemmas
+pub mod InputLemmas
+pub mod GroupLemmas
+pub mod ExactLemmas
+pub mod ControlLemmas
+pub mod TellingLemmas
+pub mod GatherLemmas

@@ -1,0 +1,26 @@
+-- One signal more sets its port.
+use Rattle.std.proofs.Common.{ℕ, List, ◌≡◌, ◌<◌, ◌+◌, ◌-◌, refl, sym, subst, length, get_or, arith}
+use Rattle.std.proofs.lemmas.List.{length-map, get_or_default}
+use Rattle.std.proofs.lemmas.Option.{slice_get-get_or}
+use Rattle.dft_base.specs.declared.tri.Tri.TheVariants.{Unknown}
+use Rattle.dft_netlist.specs.declared.ids.NetId.{NetId}
+use Rattle.dft_netlist.specs.Orders.{numbers_of}
+use Rattle.dft_replay.proofs.VectorLemmas.{number_of}
+use Rattle.dft_fault_lanes.proofs.InputLemmas.{SetFrom, set_one}
+use Rattle.dft_fault_lanes.proofs.vectors.set_inputs.Goals as goal
+
+pub loop-signal-preserved : goal.loop-signal-preserved
+loop-signal-preserved c =
+    let nets : List ℕ = numbers_of c.args.nets.now in
+    let acts = c.args.acts.now in
+    let i : ℕ = c.loop-signal.signal - 1 in
+    let net : ℕ = (get_or c.args.nets.now i (record { 0 = 0 })).0 in
+    let e : i + 1 ≡ c.loop-signal.signal = omega (arith, c.loop-signal-test.true) in
+    let long = length-map c.args.nets.now (λ (k : NetId). k.0) in
+    let there : i < length c.args.nets.now = omega (arith, c.loop-signal-test.true, c.loop-signal.auto.signal) in
+    let less : i < length nets = omega (arith, there, long) in
+    let within : i < length acts = omega (arith, there, c.requires.acts) in
+    let live : net < length c.args.ports.now = c.requires.nets.live i _ (slice_get-get_or c.args.nets.now i (record { 0 = 0 }) there) in
+    set_one nets acts c.args.ports.now c.loop-signal.ports i net _ _ c.set_by.result c.requires.nets.differ less within (sym (number_of c.args.nets.now i)) live refl
+    (get_or_default c.loop-signal.ports net _ Unknown (omega (arith, live, c.loop-signal.auto.ports))) c.set_by.ensures
+    (subst (λ (k : ℕ). SetFrom nets acts c.args.ports.now c.loop-signal.ports k) (sym e) c.loop-signal.invariant)

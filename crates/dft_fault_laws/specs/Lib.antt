@@ -1,0 +1,3 @@
+pub mod Stuck
+pub mod Rounds
+pub mod Laws

@@ -1,0 +1,13 @@
+pub mod NoScan
+pub mod TreeLemmas
+pub mod Rising
+pub mod PinLemmas
+pub mod Alike
+pub mod Unreached
+pub mod Inputs
+pub mod Hanging
+pub mod Covering
+pub mod ListingLemmas
+pub mod SoughtLemmas
+pub mod Telling
+pub mod Forests
