@@ -1,11 +1,11 @@
 -- The lines of a made configuration are read, and are of low bytes.
-use Rattle.std.proofs.Common.{◌≡◌, ℕ, ◌<◌, ◌≤◌, ◌^◌, List, [], ◌∷◌, ◌++◌, codes, decimal, refl, arith}
+use Rattle.std.proofs.Common.{◌≡◌, ℕ, ◌<◌, ◌≤◌, ◌^◌, List, [], ◌∷◌, ◌++◌, codes, refl, arith}
 use Rattle.std.specs.List.{All, AllByRecursion}
 use Rattle.std.proofs.lemmas.List.Elements.{All-from_recursion, recursion_from_All}
 use Rattle.dft_base.specs.Lexing.{Text}
 use Rattle.dft_base.specs.Name.{IsName}
 use Rattle.toml_writer.specs.Text.{key_text}
-use Rattle.toml.specs.Data.{Data, string}
+use Rattle.toml.specs.Data.{Data}
 use Rattle.dft_config.specs.declared.config.CompactorConfig.{CompactorConfig}
 use Rattle.dft_config.specs.declared.config.Injector.{Injector}
 use Rattle.dft_config.specs.declared.config.PortNames.{PortNames}
@@ -13,7 +13,6 @@ use Rattle.dft_config.specs.declared.config.RingConfig.{RingConfig}
 use Rattle.dft_config.specs.declared.config.Tap.{Tap}
 use Rattle.dft_config.specs.Range.{IsCompactorInRange, IsRingInRange, IsSet, names_of}
 use Rattle.dft_config_out.specs.declared.made.Made.{Made}
-use Rattle.dft_config_out.specs.Written.{name_text}
 use Rattle.dft_config_out_laws.specs.Tables.{IsWritable, injector_numbers, tap_numbers}
 use Rattle.dft_config_out_laws.proofs.Low.{IsLow, both_low}
 use Rattle.dft_config_out_laws.proofs.MadeLines.{AreSmall, IsGiven, compactor_pairs, each, injectors_given, lists_given, name_given, names_given, number_given, one_given, pieces_of, port_pairs, ring_pairs, section, sixteen_given, taps_given, top_pairs}

@@ -1,12 +1,10 @@
 -- The lines of a made configuration.
-use Rattle.std.proofs.Common.{◌≡◌, ℕ, ◌+◌, ◌<◌, ◌≤◌, ◌^◌, List, [], ◌∷◌, ◌++◌, map, codes, decimal, Some, option_map, refl, sym, ◌∙◌, ap, subst, arith, append_assoc, append-nil}
+use Rattle.std.proofs.Common.{◌≡◌, ℕ, ◌+◌, ◌<◌, ◌^◌, List, [], ◌∷◌, ◌++◌, codes, decimal, Some, option_map, refl, sym, ◌∙◌, ap, subst, arith, append_assoc, append-nil}
 use Rattle.std.specs.Fmt as fmt
-use Rattle.std.specs.List.{All, AllByRecursion}
-use Rattle.std.proofs.lemmas.List.Elements.{recursion_from_All}
+use Rattle.std.specs.List.{AllByRecursion}
 use Rattle.dft_base.specs.Lexing.{Text}
 use Rattle.dft_base.specs.Name.{IsName}
-use Rattle.toml_writer.specs.Text.{key_text}
-use Rattle.toml.specs.Data.{Data, array, string}
+use Rattle.toml.specs.Data.{Data, string}
 use Rattle.toml.specs.Tables.{close, no_nodes}
 use Rattle.toml.proofs.OnLiterals.{toml_on_literals}
 use Rattle.toml.proofs.ReadLines.{run}
@@ -15,14 +13,13 @@ use Rattle.dft_config.specs.declared.config.Injector.{Injector}
 use Rattle.dft_config.specs.declared.config.PortNames.{PortNames}
 use Rattle.dft_config.specs.declared.config.RingConfig.{RingConfig}
 use Rattle.dft_config.specs.declared.config.Tap.{Tap}
-use Rattle.dft_config.specs.Range.{IsSet, names_of}
 use Rattle.dft_config_out.specs.declared.made.Made.{Made}
 use Rattle.dft_config_out.specs.Written.{carrying_text, clocking_text, compactor_text, front_text, groups_text, head_text, injector_text, injectors_text, lists_text, loading_text, made_text, name_text, names_text, numbers_text, phase_text, ports_text, ring_text, scanning_text, sizes_text, steering_text, tap_text, taps_text, wires_text}
 use Rattle.dft_config_out_laws.specs.Lists.{IsReadAs}
-use Rattle.dft_config_out_laws.specs.Tables.{IsWritable, injector_numbers, injectors_data, lists_data, names_data, number_data, numbers_data, table_of, tap_numbers, taps_data}
+use Rattle.dft_config_out_laws.specs.Tables.{injector_numbers, injectors_data, lists_data, names_data, number_data, numbers_data, table_of, tap_numbers, taps_data}
 use Rattle.dft_config_out_laws.proofs.ItemRead.{items_read}
 use Rattle.dft_config_out_laws.proofs.ListRead.{list_read}
-use Rattle.dft_config_out_laws.proofs.Low.{IsLow, both_low, digits_low, list_low, name_low}
+use Rattle.dft_config_out_laws.proofs.Low.{IsLow, digits_low, list_low, name_low}
 use Rattle.dft_config_out_laws.proofs.Pieces.{Piece, all_expressions, all_text, header_piece, nested, pair_piece, pair_pieces, pairs_nested}
 
 -- ---- values, each read as it is, of low bytes

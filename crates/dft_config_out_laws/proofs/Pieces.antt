@@ -1,15 +1,15 @@
 -- Lines that are written one after the other are read as their expressions.
-use Rattle.std.proofs.Common.{◌≡◌, ℕ, suc, ◌+◌, ◌-◌, ◌<◌, ◌==◌, Bool, true, false, List, [], ◌∷◌, ◌++◌, length, map, codes, Option, Some, None, option_and_then, refl, sym, ◌∙◌, ap, subst, arith, append_assoc, length-append}
+use Rattle.std.proofs.Common.{◌≡◌, ℕ, ◌+◌, ◌-◌, ◌<◌, ◌==◌, true, false, List, [], ◌∷◌, ◌++◌, length, map, codes, Option, Some, None, option_and_then, refl, sym, ◌∙◌, ap, subst, arith, append_assoc, length-append}
 use Rattle.std.specs.List.{AllByRecursion}
 use Rattle.std.proofs.lemmas.Bool.Decides.{nat_tests}
 use Rattle.dft_base.specs.Lexing.{Text}
 use Rattle.toml_parser.specs.Lexical.{first, skip_blank, skip_ws}
 use Rattle.toml_parser.proofs.LexicalLemmas.{skip_ws_none, skip_from-nil}
-use Rattle.toml_writer.specs.Text.{dotted_text, key_text, path_text}
-use Rattle.toml_writer.proofs.Strings.{is_key_start, is_key_start-key_text}
+use Rattle.toml_writer.specs.Text.{key_text}
+use Rattle.toml_writer.proofs.Strings.{is_key_start-key_text}
 use Rattle.toml.specs.Data.{Data}
 use Rattle.toml.specs.Tables.{Document, Expression, define, key_value, std_table}
-use Rattle.toml.specs.Parse.{ends_line, expression, keyval, line, lines, val}
+use Rattle.toml.specs.Parse.{ends_line, expression, line, lines, val}
 use Rattle.toml.proofs.Turns.{keyval_ok, lines_end, lines_more, lines_refused}
 use Rattle.toml.proofs.Blanks.{skip_newline, skip_start, skip_within, starts_value}
 use Rattle.toml.proofs.ReadLines.{Turn, line_turn, run}

@@ -4,3 +4,5 @@ pub mod RootLemmas
 pub mod MostLemmas
 pub mod RangeLemmas
 pub mod GoodLemmas
+pub mod ScannedLemmas
+pub mod SeenLemmas

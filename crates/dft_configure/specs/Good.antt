@@ -48,9 +48,13 @@ stands_in rows row chain places = list_any (λ place. same_bits rows.columns (bi
 abbrev pub stands_above : LoadRows → (chain place : ℕ) → Bool
 stands_above rows chain place = list_any (λ other. stands_in rows (row_of rows chain place) other (length (rows_of rows other))) (range_with_len 0 chain)
 
--- whether the load equation of a cell is not empty, and stands in no chain before, nor at a place before in its own
+-- whether that of a cell stands in no chain before, nor at a place before in its own
+abbrev pub is_alone : LoadRows → (chain place : ℕ) → Bool
+is_alone rows chain place = not (stands_above rows chain place) && not (stands_in rows (row_of rows chain place) chain place)
+
+-- whether it is not empty, and is alone
 abbrev pub is_good_cell : LoadRows → (chain place : ℕ) → Bool
-is_good_cell rows chain place = has_bits rows.columns (bit_at (row_of rows chain place)) && (not (stands_above rows chain place) && not (stands_in rows (row_of rows chain place) chain place))
+is_good_cell rows chain place = has_bits rows.columns (bit_at (row_of rows chain place)) && is_alone rows chain place
 
 abbrev pub is_good_chain : LoadRows → (chain : ℕ) → Bool
 is_good_chain rows chain = list_all (is_good_cell rows chain) (range_with_len 0 (length (rows_of rows chain)))

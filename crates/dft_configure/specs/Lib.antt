@@ -3,3 +3,5 @@ pub mod Roots
 pub mod Found
 pub mod Most
 pub mod Compacting
+pub mod Scanned
+pub mod Seen

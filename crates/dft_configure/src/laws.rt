@@ -2,6 +2,7 @@
 
 ghost use Rattle.dft_configure.specs.Good.{PairsAreLoaded, TestedAreGood};
 ghost use Rattle.dft_configure.specs.Most.{MostAreScanned};
+ghost use Rattle.dft_configure.specs.Scanned.{ScannedAreCounted};
 
 /// Where no load equation is empty and no two are the same, some channel bits load any one cell and any two cells with any bits.
 pub fn pairs_are_loaded()
@@ -17,4 +18,9 @@ pub fn most_are_scanned()
 /// The test of load equations passes exactly where none is empty and no two are the same.
 pub fn tested_are_good()
     ensures { TestedAreGood }
+{}
+
+/// As many flip-flops are counted as are scanned under a configuration with the clocks and resets of the netlist.
+pub fn scanned_are_counted()
+    ensures { ScannedAreCounted }
 {}

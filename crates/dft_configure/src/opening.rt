@@ -100,7 +100,7 @@ fn can_hold(root: Option<Root>) -> bool
 }
 
 // The port at which it is kept.
-fn port_of_root(root: Option<Root>) -> Option<NetId>
+pub(crate) fn port_of_root(root: Option<Root>) -> Option<NetId>
     ensures { number result ≡ spec.port_of_root (shown_hold root) }
 {
     match root {
@@ -110,7 +110,7 @@ fn port_of_root(root: Option<Root>) -> Option<NetId>
 }
 
 // The root of the reset of an instance, or of its set, if it has one.
-fn hold_root(design: &Design, tables: &Tables, number: usize) -> Option<Root>
+pub(crate) fn hold_root(design: &Design, tables: &Tables, number: usize) -> Option<Root>
     requires number { number < length design.now.instances }
     requires tables { AreTables design.now tables.now }
     ensures { shown_hold result ≡ spec.hold_root design.now number }
@@ -136,7 +136,7 @@ fn clean_clock(design: &Design, tables: &Tables, number: usize) -> Option<NetId>
 
 // The clock of an instance, if it is an open flip-flop.
 #[tactic(auto, unfolding(crate::specs::Roots::open_clock))]
-fn open_clock(design: &Design, tables: &Tables, number: usize) -> Option<NetId>
+pub(crate) fn open_clock(design: &Design, tables: &Tables, number: usize) -> Option<NetId>
     requires number { number < length design.now.instances }
     requires tables { AreTables design.now tables.now }
     ensures { at.number result ≡ spec.open_clock design.now number }
@@ -169,7 +169,7 @@ pub(crate) fn open_clocks(
 }
 
 // Whether there is a port, and it is among these.
-fn is_among(ports: &[NetId], port: Option<NetId>) -> bool
+pub(crate) fn is_among(ports: &[NetId], port: Option<NetId>) -> bool
     ensures { result ≡ spec.is_among (numbers ports.now) (number port) }
 {
     match port {

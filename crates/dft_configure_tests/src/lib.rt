@@ -2,6 +2,8 @@
 #![tactic(auto)]
 
 #[cfg(test)]
+mod configured;
+#[cfg(test)]
 mod rings;
 #[cfg(test)]
 mod roots;

@@ -21,6 +21,7 @@ use Rattle.dft_cycle.specs.Machine.{Machine, value_at, is_one_of, ports_of, logi
 use Rattle.dft_logic.specs.Circuit.{IsReady, logic_at, cell_of, cell_at, flag_at, base_of, leaves_from, IsCircuit}
 use Rattle.dft_cycle.specs.Views.{rank_of, Among, AreNext}
 use Rattle.std.proofs.lemmas.Option.{slice_get-get_or}
+use Rattle.dft_registers.specs.declared.moves.Move.{Move}
 use Rattle.dft_registers.specs.Cells.{Contents, course}
 use Rattle.dft_logic.specs.declared.takings.Taking.{Taking}
 use Rattle.dft_logic.specs.Takings.{ArePut}
@@ -398,11 +399,11 @@ pub plan_found : (x : Circuit) (p : Pulse) (old : Contents) (plans : List Plan) 
 plan_found x p old plans place plan d row less is found = found plan (slice_get-get_or plans place d less ∙ ap Some (sym is))
 
 -- where it is put the phase is passed
-pub put_passed : (x : Circuit) (p : Pulse) (old : Contents) (plan : Plan) (row rs new : List Tri) (takings : List Taking) (moves : List Bool) → IsFound x p old plan row → takings ≡ plan.takings.items → rs ≡ row → moves ≡ plan.moves.items →
+pub put_passed : (x : Circuit) (p : Pulse) (old : Contents) (plan : Plan) (row rs new : List Tri) (takings : List Taking) (moves : List Move) → IsFound x p old plan row → takings ≡ plan.takings.items → rs ≡ row → moves ≡ plan.moves.items →
     ArePut takings (length takings) (value_at rs) (course old.layout moves) old.values new → IsPassed x p new
 put_passed x p old plan row rs new takings moves found t r m put =
     found.passed new
-    (subst (λ (l : List Bool). ArePut plan.takings.items (length plan.takings.items) (value_at row) (course old.layout l) old.values new) m
+    (subst (λ (l : List Move). ArePut plan.takings.items (length plan.takings.items) (value_at row) (course old.layout l) old.values new) m
     (subst (λ (l : List Tri). ArePut plan.takings.items (length plan.takings.items) (value_at l) (course old.layout moves) old.values new) r
     (subst (λ (l : List Taking). ArePut l (length l) (value_at rs) (course old.layout moves) old.values new) t put)))
 

@@ -20,10 +20,11 @@ use Rattle.dft_logic.specs.Shows.{Shown, IsShownOn}
 use Rattle.dft_logic.specs.Takes.{AreOrigins}
 use Rattle.dft_logic.specs.Entries.{Entry, entry_value}
 use Rattle.dft_logic.specs.Values.{value_at}
-use Rattle.dft_logic.specs.Circuit.{meaning, op_at, logic_at, cell_of, cell_at, flag_at, force_nets, next_at, IsCircuit}
+use Rattle.dft_logic.specs.Circuit.{meaning, op_at, logic_at, cell_of, cell_at, force_nets, next_at, IsCircuit}
 use Rattle.dft_logic.specs.EntryTables.{scan_needs, entry_for}
 use Rattle.dft_registers.specs.Layout.{Layout}
-use Rattle.dft_registers.specs.Cells.{Course, Rests, Enters, Follows, course, IsCarried}
+use Rattle.dft_registers.specs.declared.moves.Move.{Move}
+use Rattle.dft_registers.specs.Cells.{Course, Rests, Enters, Follows, course, CanMove, IsCarried}
 use Rattle.dft_logic.specs.Takings.{taking_at, taken_by, is_loose, IsLeft, ArePut, AreTakings}
 use Rattle.dft_logic.proofs.EntryLemmas.{entry_stays}
 use Rattle.dft_logic.proofs.PlanLemmas.{planned}
@@ -148,7 +149,7 @@ plan_made x clocks l pins p values origin shown table old mid new was f n size p
     let taken : vec_capacity new.takings ≡ vec_capacity mid.takings = ap (λ (v : Vec Taking). vec_capacity v) n.takings in
     let L : Vec Step → Type 0 = λ v. IsNeedList x f.marked (step_nets v.items) in
     let A : Vec Step → Type 0 = λ v. All (IsStep x) v.items in
-    let T : List Bool → List Taking → Type 0 = λ moves takings. AreTakings (cell_at (map cell_of x.flops.items)) table (length x.flops.items) (course l moves) takings in
+    let T : List Move → List Taking → Type 0 = λ moves takings. AreTakings (cell_at (map cell_of x.flops.items)) table (length x.flops.items) (course l moves) takings in
     let kept : length x.ops.items ≤ vec_capacity old.steps = was.steps in
     let room : length x.flops.items ≤ vec_capacity old.takings = was.room in
     record {
@@ -173,8 +174,8 @@ plan_made x clocks l pins p values origin shown table old mid new was f n size p
         needed = f.needed;
         steps = subst A (sym n.steps) f.steps;
         list = subst L (sym n.steps) f.list;
-        rest = ap (λ (v : Vec Bool). flag_at v.items 0) n.moves ∙ f.rest;
-        takings = subst (λ (v : Vec Bool). T v.items new.takings.items) (sym n.moves) (subst (T mid.moves.items) (sym (ap (λ (v : Vec Taking). v.items) n.takings)) f.takings);
+        can = subst (λ (v : Vec Move). CanMove l v.items) (sym n.moves) f.can;
+        takings = subst (λ (v : Vec Move). T v.items new.takings.items) (sym n.moves) (subst (T mid.moves.items) (sym (ap (λ (v : Vec Taking). v.items) n.takings)) f.takings);
       };
     }
 

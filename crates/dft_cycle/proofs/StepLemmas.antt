@@ -1,6 +1,6 @@
 -- Steps of nets are listed and settled in their order.
-use Rattle.std.proofs.Common.{ℕ, zero, suc, List, [], ◌∷◌, ◌++◌, All, ◌≡◌, ◌<◌, ◌+◌, length, map, take, refl, sym, ap, ◌∙◌, subst, get_or, slice_set, add-one, arith}
-use Rattle.std.proofs.lemmas.List.{map-append, get_or-map, get_or_default, length-map}
+use Rattle.std.proofs.Common.{ℕ, zero, suc, List, [], ◌∷◌, ◌++◌, All, ◌≡◌, ◌<◌, ◌+◌, length, take, refl, sym, ap, ◌∙◌, subst, get_or, slice_set, add-one, arith}
+use Rattle.std.proofs.lemmas.List.{map-append, get_or-map, length-map}
 use Rattle.dft_base.specs.declared.tri.Tri.{Tri}
 use Rattle.dft_netlist.specs.declared.ids.NetId.{NetId}
 use Rattle.dft_netlist.specs.Settled.{value_given}

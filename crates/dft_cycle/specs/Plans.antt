@@ -1,5 +1,5 @@
 -- Plans: pulses that are found in one pass, by the nets to settle and by what flip-flops take.
-use Rattle.std.specs.Prelude.{ℕ, Bool, true, ◌≡◌, ◌<◌, ◌≤◌, List, [], All, Option, Some, map, length, take, false, slice_get}
+use Rattle.std.specs.Prelude.{ℕ, Bool, true, ◌≡◌, ◌<◌, ◌≤◌, List, [], All, Option, Some, map, length, take, slice_get}
 use Rattle.std.specs.Vec.{vec_capacity}
 use Rattle.dft_base.specs.declared.tri.Tri.{Tri}
 use Rattle.dft_base.specs.declared.tri.Tri.TheVariants.{Unknown}
@@ -15,7 +15,7 @@ use Rattle.dft_logic.specs.Values.{value_at}
 use Rattle.dft_logic.specs.Circuit.{logic_at, cell_of, cell_at, flag_at, force_nets, AreOrdered}
 use Rattle.dft_logic.specs.EntryTables.{scan_needs, entry_for, entry_needs}
 use Rattle.dft_registers.specs.Layout.{Layout}
-use Rattle.dft_registers.specs.Cells.{Contents, course}
+use Rattle.dft_registers.specs.Cells.{Contents, course, CanMove}
 use Rattle.dft_logic.specs.Takings.{AreTakings, ArePut, taking_at, is_loose}
 use Rattle.dft_logic.specs.ShownTables.{edges_of}
 use Rattle.dft_cycle.specs.declared.plans.Pins.{Pins}
@@ -73,7 +73,7 @@ pub record IsMade (x : Circuit) (clocks : List NetId) (l : Layout) (pins : Pins)
   pub needed : (c : ℕ) → c < length x.flops.items → (k : ℕ) → k < length x.ops.items → Has (entry_needs (cell_at (map cell_of x.flops.items) c) (table c)) k → flag_at marked k ≡ true
   pub steps : All (IsStep x) plan.steps.items
   pub list : IsNeedList x marked (step_nets plan.steps.items)
-  pub rest : flag_at plan.moves.items 0 ≡ false
+  pub can : CanMove l plan.moves.items
   pub takings : AreTakings (cell_at (map cell_of x.flops.items)) table (length x.flops.items) (course l plan.moves.items) plan.takings.items
 
 -- where flip-flops lie so
@@ -110,7 +110,7 @@ pub record IsFilled (x : Circuit) (l : Layout) (table : ℕ → Entry) (old new 
   pub steps : All (IsStep x) new.steps.items
   pub list : IsNeedList x marked (step_nets new.steps.items)
   pub needed : (c : ℕ) → c < length x.flops.items → (k : ℕ) → k < length x.ops.items → Has (entry_needs (cell_at (map cell_of x.flops.items) c) (table c)) k → flag_at marked k ≡ true
-  pub rest : flag_at new.moves.items 0 ≡ false
+  pub can : CanMove l new.moves.items
   pub takings : AreTakings (cell_at (map cell_of x.flops.items)) table (length x.flops.items) (course l new.moves.items) new.takings.items
   pub room : vec_capacity new.takings ≡ vec_capacity old.takings
 
@@ -145,7 +145,7 @@ pub record IsPassed (x : Circuit) (p : Pulse) (new : List Tri) : Type 0 where
 
 -- What was found for a plan's list: where it is put, as the plan's registers move, the phase is passed.
 pub record IsFound (x : Circuit) (p : Pulse) (old : Contents) (plan : Plan) (row : List Tri) : Type 0 where
-  pub rest : flag_at plan.moves.items 0 ≡ false
+  pub can : CanMove old.layout plan.moves.items
   pub few : length plan.takings.items ≤ length x.flops.items
   pub live : (j : ℕ) → j < length plan.takings.items → (taking_at plan.takings.items j).place < length x.flops.items
   pub passed : (new : List Tri) → ArePut plan.takings.items (length plan.takings.items) (value_at row) (course old.layout plan.moves.items) old.values new → IsPassed x p new

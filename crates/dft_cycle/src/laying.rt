@@ -9,30 +9,54 @@ use dft_netlist::InstanceId;
 use dft_registers::Cells;
 use std::alloc::{AllocError, Global};
 
-// Whether a flip-flop takes its bit at the same edge of the same clock as this one.
-fn moves_with(flops: &[FlipFlop], flop: &FlipFlop, other: InstanceId) -> bool {
-    match flops.get(other.0 as usize) {
-        Some(other) => other.domain.0 == flop.domain.0 && other.falling == flop.falling,
-        None => false,
-    }
-}
-
-// The flip-flop whose bit one takes as it shifts, if both take theirs at the same edge of the same clock.
-fn flop_before(flops: &[FlipFlop], flop: &FlipFlop, origins: &[Option<InstanceId>]) -> Option<u32> {
+// The flip-flop whose bit one takes as it shifts.
+fn origin_of(flop: &FlipFlop, origins: &[Option<InstanceId>]) -> Option<InstanceId> {
     let source = match flop.scan {
         Some(pins) => pins.input,
         None => flop.input,
     };
-    let Operand::Net(net) = source else {
-        return None;
-    };
-    let Some(Some(other)) = origins.get(net.0 as usize) else {
-        return None;
-    };
-    if moves_with(flops, flop, *other) {
-        Some(other.0)
+    match source {
+        Operand::Net(net) => match origins.get(net.0 as usize) {
+            Some(origin) => *origin,
+            None => None,
+        },
+        _ => None,
+    }
+}
+
+// Whether two flip-flops take their bits by the same clock.
+fn share_clock(one: &FlipFlop, other: &FlipFlop) -> bool {
+    one.domain.0 == other.domain.0
+}
+
+// The flip-flop before one of the other edge, if it takes its bit at the edge of this one, by the same clock.
+fn flop_past(
+    flops: &[FlipFlop],
+    flop: &FlipFlop,
+    between: &FlipFlop,
+    origins: &[Option<InstanceId>],
+) -> Option<u32> {
+    let origin = origin_of(between, origins)?;
+    let other = flops.get(origin.0 as usize)?;
+    if share_clock(flop, other) && other.falling == flop.falling {
+        Some(origin.0)
     } else {
         None
+    }
+}
+
+// The flip-flop that one lies behind: the one whose bit it takes as it shifts, if both take theirs at the same edge of the
+// same clock. Where that one takes its bit at the other edge, so that in each phase one of both stays, it is the one before
+// that.
+fn flop_before(flops: &[FlipFlop], flop: &FlipFlop, origins: &[Option<InstanceId>]) -> Option<u32> {
+    let origin = origin_of(flop, origins)?;
+    let other = flops.get(origin.0 as usize)?;
+    if !share_clock(flop, other) {
+        None
+    } else if other.falling == flop.falling {
+        Some(origin.0)
+    } else {
+        flop_past(flops, flop, other, origins)
     }
 }
 

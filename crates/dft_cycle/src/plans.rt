@@ -23,7 +23,7 @@ use dft_logic::{
     read_list, settle_list, show_all,
 };
 use dft_netlist::{InstanceId, NetId};
-use dft_registers::Cells;
+use dft_registers::{Cells, Move};
 
 // How far a plan got.
 #[derive(Clone, Copy)]
@@ -55,7 +55,7 @@ pub(crate) struct Plan {
     pub ports: Vec<Tri>,
     pub enables: Vec<Tri>,
     pub steps: Vec<Step>,
-    pub moves: Vec<bool>,
+    pub moves: Vec<Move>,
     pub takings: Vec<Taking>,
 }
 

@@ -18,6 +18,7 @@ use dft_logic::{
     Circuit, Entry, Shown, list_marked, lower, mark_entries, mark_forces, mark_needed,
 };
 use dft_netlist::NetId;
+use dft_registers::Move;
 use std::alloc::{AllocError, Global};
 
 // How many plans are kept: each has room for every net and every instance.
@@ -104,7 +105,7 @@ fn plan(
     let ports = vec![in alloc; Tri::Unknown; pins.ports.len()]?;
     let enables = vec![in alloc; Tri::Unknown; pins.enables.len()]?;
     let steps = Vec::with_capacity(alloc, circuit.ops.len())?;
-    let moves = vec![in alloc; false; registers]?;
+    let moves = vec![in alloc; Move::Stays; registers]?;
     let takings = Vec::with_capacity(alloc, circuit.flops.len())?;
     Ok(Plan {
         stage: Stage::Noted,

@@ -5,3 +5,4 @@ pub mod SetLemmas
 pub mod ThreeLemmas
 pub mod PassLemmas
 pub mod FitLemmas
+pub mod OneLemmas

@@ -1,10 +1,12 @@
 -- Sets of stages as they are computed.
 use Rattle.std.proofs.Common.{◌≡◌, ℕ, suc, ◌+◌, ◌-◌, ◌<◌, ◌≤◌, Bool, true, false, not, ◌&&◌, List, [], ◌∷◌, ◌++◌, length, get_or, drop, refl, sym, ◌∙◌, ap, arith, append_assoc}
+use Rattle.std.proofs.lemmas.Bool.{and_parts}
 use Rattle.std.proofs.lemmas.List.{at_drop_more, at_drop_all}
 use Rattle.dft_base.specs.Solutions.{xor}
 use Rattle.dft_base.proofs.NumberLemmas.{one_left}
 use Rattle.dft_config.specs.declared.config.Tap.{Tap}
 use Rattle.dft_decompressor.specs.StageSets.{moved, moves_from, same_set}
+use Rattle.dft_decompressor.specs.Stamps.{stamp_of}
 
 -- ---- moves
 
@@ -61,4 +63,28 @@ same_lengths (a ∷ rest) (b ∷ more) apart = by (not (xor a b)) (same_lengths 
   where
     by : (same : Bool) → false ≡ same_set rest more → false ≡ (same && same_set rest more)
     by true is = is
+    by false is = refl
+
+-- ---- stamps
+
+bits_same : (a b : Bool) → not (xor a b) ≡ true → a ≡ b
+bits_same true true is = refl
+bits_same true false is = sym is
+bits_same false true is = is
+bits_same false false is = refl
+
+-- sets that are the same are equal
+same_is : (a b : List Bool) → same_set a b ≡ true → a ≡ b
+same_is [] [] is = refl
+same_is [] (b ∷ more) is = absurd cc
+same_is (a ∷ rest) [] is = absurd cc
+same_is (a ∷ rest) (b ∷ more) is =
+    let parts = and_parts (not (xor a b)) (same_set rest more) is in λ i. bits_same a b parts.0 i ∷ same_is rest more parts.1 i
+
+-- sets with other stamps are not the same
+pub stamps_differ : (a b : List Bool) → (stamp_of a ≡ stamp_of b → ⊥) → false ≡ same_set a b
+stamps_differ a b apart = by (same_set a b) refl
+  where
+    by : (same : Bool) → same_set a b ≡ same → false ≡ same
+    by true is = absurd (apart (ap stamp_of (same_is a b is)))
     by false is = refl

@@ -6,3 +6,5 @@ pub mod Phases
 pub mod Taken
 pub mod Shown
 pub mod Fits
+pub mod Stamps
+pub mod StampsShown

@@ -6,7 +6,9 @@ ghost use Rattle.dft_base.specs.Solutions.{bit_at};
 ghost use Rattle.dft_config.specs.Range.{has};
 ghost use Rattle.dft_config.specs.Ring.{sum_of};
 ghost use Rattle.dft_decompressor.specs.StageSets as spec;
+ghost use Rattle.dft_decompressor.specs.Stamps as stamps;
 
+use crate::stamps::{Stamped, stamp_of};
 use dft_base::Listed;
 use dft_config::Tap;
 use std::alloc::{AllocError, Global};
@@ -82,41 +84,27 @@ pub(crate) fn moves_of(
     stages: u8,
     taps: &[Tap],
     set: &[u8],
-) -> Result<Listed<Listed<bool>>, AllocError>
+) -> Result<Listed<Stamped>, AllocError>
     ensures { IfOk result (λ moves. moves ≡ spec.moves_of stages taps.now set.now) }
 {
     let mut moves = Vec::with_capacity(alloc, usize::from(stages) + 1)?;
     let mut last = bits_of(alloc, stages, set)?;
     for _cycle in 0..stages {
         let next = moved(alloc, taps, last.as_slice())?;
-        moves.push(last)?;
+        moves.push(Stamped::of(last))?;
         last = next;
     }
-    moves.push(last)?;
+    moves.push(Stamped::of(last))?;
     Ok(Listed::from_vec(moves))
 }
 
-// Whether two sets are the same.
-fn same_set(a: &[bool], b: &[bool]) -> bool
-    ensures { result ≡ spec.same_set a.now b.now }
-{
-    if a.len() != b.len() {
-        return false;
-    }
-    for place in 0..a.len() {
-        if a[place] != b[place] {
-            return false;
-        }
-    }
-    true
-}
-
-// Whether a set is among these.
-fn has_set(moves: &[Listed<bool>], set: &[bool]) -> bool
+// Whether a set with this stamp is among these.
+fn has_set(moves: &[Stamped], stamp: u64, set: &[bool]) -> bool
+    requires { stamp ≡ stamps.stamp_of set.now }
     ensures { result ≡ has spec.same_set moves.now set.now }
 {
     for other in moves {
-        if same_set(other.as_slice(), set) {
+        if other.is_same(stamp, set) {
             return true;
         }
     }
@@ -124,18 +112,26 @@ fn has_set(moves: &[Listed<bool>], set: &[bool]) -> bool
 }
 
 // The first of some moves.
-fn set_itself(moves: &[Listed<bool>]) -> &[bool]
+fn set_itself(moves: &[Stamped]) -> &[bool]
     ensures { result.now ≡ spec.set_itself moves.now }
 {
     match moves.first() {
-        Some(set) => set.as_slice(),
+        Some(stamped) => stamped.set(),
         None => &[],
     }
 }
 
+// Whether the set of these moves is among others.
+fn meets(moves: &[Stamped], others: &[Stamped]) -> bool
+    ensures { result ≡ has spec.same_set others.now (spec.set_itself moves.now) }
+{
+    let set = set_itself(moves);
+    has_set(others, stamp_of(set), set)
+}
+
 // Whether two sets, with their moves, are apart.
-pub(crate) fn are_apart(moves: &[Listed<bool>], others: &[Listed<bool>]) -> bool
+pub(crate) fn are_apart(moves: &[Stamped], others: &[Stamped]) -> bool
     ensures { result ≡ spec.are_apart moves.now others.now }
 {
-    !has_set(moves, set_itself(others)) && !has_set(others, set_itself(moves))
+    !meets(others, moves) && !meets(moves, others)
 }

@@ -1,6 +1,5 @@
 -- Lists of what flip-flops take.
-use Rattle.std.specs.Prelude.{nat_lt, if◌then◌else◌}
-use Rattle.std.proofs.Common.{ℕ, zero, suc, Bool, true, false, ◌&&◌, Option, None, Some, is_none, map, List, [], ◌∷◌, ◌++◌, ◌≡◌, ◌<◌, ◌≤◌, ◌+◌, ◌≢◌, ◌⊎◌, inl, inr, refl, sym, ap, ◌∙◌, subst, length, get_or, slice_set, get_or-set_same, get_or-set_other, below_more, arith}
+use Rattle.std.proofs.Common.{ℕ, zero, suc, Bool, true, ◌&&◌, Option, None, Some, is_none, map, List, [], ◌∷◌, ◌++◌, ◌≡◌, ◌<◌, ◌≤◌, ◌+◌, ◌≢◌, ◌⊎◌, inl, inr, refl, sym, ap, ◌∙◌, subst, length, get_or, slice_set, get_or-set_same, get_or-set_other, below_more, arith}
 use Rattle.std.proofs.lemmas.List.{get_or_past, get_or_default, get_or_append_left, get_or_push, length-append}
 use Rattle.std.proofs.lemmas.Bool.Decides.{eqb_tells, leb_tells}
 use Rattle.dft_base.specs.declared.tri.Tri.{Tri}
@@ -17,10 +16,12 @@ use Rattle.dft_logic.specs.declared.takings.Taking.{Taking}
 use Rattle.dft_registers.specs.declared.layout.Place.{Place}
 use Rattle.dft_registers.specs.Layout.{Layout, place_at, cells_at}
 use Rattle.dft_registers.specs.Layout as layout
-use Rattle.dft_registers.specs.Cells.{Contents, value_at, Course, Rests, course_in, course, IsCarried, IsShifted}
-use Rattle.dft_logic.specs.Circuit.{cell_of, cell_at, next_at, flag_at}
+use Rattle.dft_registers.specs.declared.moves.Move.{Move}
+use Rattle.dft_registers.specs.declared.moves.Move.TheVariants.{Stays, Shifts, Copies, Trails}
+use Rattle.dft_registers.specs.Cells.{Contents, value_at, move_at, Course, course_in, course, IfTakes, CanMove, IsCarried, IsShifted}
+use Rattle.dft_logic.specs.Circuit.{cell_of, cell_at, next_at}
 use Rattle.dft_logic.specs.EntryTables.{entry_of, entry_at}
-use Rattle.dft_logic.specs.Takings.{taking_at, is_loose_input, is_loose, is_idle, IsAmong, IsLeft, AreMoves, ArePut}
+use Rattle.dft_logic.specs.Takings.{taking_at, is_loose_input, is_loose, is_idle, is_left, IsAmong, IsLeft, IsTold, TakesAlong, TakesFromUnled, IsMove, AreMoves, ArePut}
 use Rattle.dft_logic.proofs.Writings.{cell_read}
 
 -- ---- what is idle
@@ -102,28 +103,39 @@ pub record IsLaidAt (l : Layout) (p : Place) (c : ℕ) : Type 0 where
   pub within : 0 < p.register → p.index < length (cells_at l.registers p.register)
   pub here : 0 < p.register → layout.cell_at l.registers p.register p.index ≡ c
 
--- a flip-flop with this entry is left out: it takes the value of the one before it as its register moves, or it is idle where it rests
-pub left_out : (flops : List FlipFlop) (table : List Entry) (l : Layout) (moves : List Bool) (c : ℕ) (f : FlipFlop) (d : Entry) (idle : Bool) → c < length flops → c < length table → AreMoves (entry_at table) l moves →
+-- a flip-flop with this entry is left out: it takes the value that its register's move carries to it, or it is idle where it rests
+pub left_out : (flops : List FlipFlop) (table : List Entry) (l : Layout) (moves : List Move) (c : ℕ) (f : FlipFlop) (d : Entry) (idle : Bool) → c < length flops → c < length table → AreMoves (entry_at table) l moves →
     IsLaidAt l (place_at l.places c) c → idle ≡ is_idle (cell_of (get_or flops c f)) (entry_of (get_or table c d)) →
-    (if flag_at moves (place_at l.places c).register then nat_lt 0 (place_at l.places c).index else idle) ≡ true → IsLeft (cell_at (map cell_of flops) c) (entry_at table c) (course l moves c)
-left_out flops table l moves c f d idle live less are laid is left = go (flag_at moves (place_at l.places c).register) (place_at l.places c).register (place_at l.places c).index refl laid left where
-  go : (b : Bool) (r i : ℕ) → flag_at moves r ≡ b → IsLaidAt l (record { register = r; index = i }) c → (if b then nat_lt 0 i else idle) ≡ true →
-      IsLeft (cell_at (map cell_of flops) c) (entry_at table c) (if b then course_in (cells_at l.registers r) i else Rests)
-  go false r i up laid left =
+    is_left (move_at moves (place_at l.places c).register) (place_at l.places c).index idle ≡ true → IsLeft (cell_at (map cell_of flops) c) (entry_at table c) (course l moves c)
+left_out flops table l moves c f d idle live less are laid is left = go (move_at moves (place_at l.places c).register) (place_at l.places c).register (place_at l.places c).index refl laid left where
+  -- it is the cell at its place
+  here : (r i : ℕ) → IsLaidAt l (record { register = r; index = suc i }) c → (suc i < length (cells_at l.registers r)) × (c ≡ layout.cell_at l.registers r (suc i))
+  here r i laid = elim (eqb_tells r 0) [
+    | inl e ↦ absurd (let none : suc i ≡ 0 = laid.rest e.1 in omega (arith, none))
+    | inr e ↦ (let ne : r ≢ 0 = e.1 in
+        let above : 0 < r = omega (arith, ne) in (laid.within above, sym (laid.here above)))
+  ]
+
+  told : (m : Move) (r i : ℕ) → move_at moves r ≡ m → IsLaidAt l (record { register = r; index = suc i }) c → IsTold (entry_at table c) (course_in l.registers r m (suc i))
+  told m r i up laid =
+      let at = here r i laid in
+      subst (λ (k : ℕ). IsTold (entry_at table k) (course_in l.registers r m (suc i))) (sym at.1) (subst (λ (x : Move). TakesAlong (entry_at table) l.registers r x) up (are r) i at.0)
+
+  go : (m : Move) (r i : ℕ) → move_at moves r ≡ m → IsLaidAt l (record { register = r; index = i }) c → is_left m i idle ≡ true → IsLeft (cell_at (map cell_of flops) c) (entry_at table c) (course_in l.registers r m i)
+  go Stays r i up laid left =
       let C : Cell → Type 0 = λ cell. is_idle cell (entry_of (get_or table c d)) ≡ true in
       let E : Entry → Type 0 = λ entry. is_idle (cell_at (map cell_of flops) c) (entry_of entry) ≡ true in
       subst E (get_or_default table c d Keeps less) (subst C (cell_read flops c f live) (sym is ∙ left))
-  go true r zero up laid left = absurd cc
-  go true r (suc i) up laid left = elim (eqb_tells r 0) [
-    | inl e ↦ absurd (let none : suc i ≡ 0 = laid.rest e.1 in omega (arith, none))
-    | inr e ↦ (let ne : r ≢ 0 = e.1 in
-        let above : 0 < r = omega (arith, ne) in
-        ap (entry_at table) (sym (laid.here above)) ∙ are r up i (laid.within above))
-  ]
+  go Shifts r zero up laid left = absurd cc
+  go Shifts r (suc i) up laid left = told Shifts r i up laid
+  go (Copies other) r zero up laid left = absurd cc
+  go (Copies other) r (suc i) up laid left = told (Copies other) r i up laid
+  go (Trails other) r zero up laid left = absurd cc
+  go (Trails other) r (suc i) up laid left = told (Trails other) r i up laid
 
 -- ---- what is taken is put
 
-pub put_none : (takings : List Taking) (row : ℕ → Tri) (l : Layout) (moves : List Bool) (old new : Contents) → old.layout ≡ l → IsShifted moves old new → ArePut takings 0 row (course l moves) old.values new.values
+pub put_none : (takings : List Taking) (row : ℕ → Tri) (l : Layout) (moves : List Move) (old new : Contents) → old.layout ≡ l → IsShifted moves old new → ArePut takings 0 row (course l moves) old.values new.values
 put_none takings row l moves old new same is =
     record {
       each = λ c live. inr (λ a. (let less = a.before in absurd (omega arith)), subst (λ (k : Layout). IsCarried (value_at old.values) c (value_at new.values c) (course k moves c)) same (is.each c live));
@@ -163,24 +175,31 @@ found_more takings value row at d t less there is before =
 
 -- ---- the registers that move
 
-pub moves_more : (moves : List Bool) (r : ℕ) (b : Bool) (P : ℕ → Type 0) → r < length moves → (r ≡ 0 → b ≡ false) → (b ≡ true → P r) → (0 < r → flag_at moves 0 ≡ false) × ((k : ℕ) → k < r → flag_at moves k ≡ true → P k) →
-    (0 < r + 1 → flag_at (slice_set moves r b) 0 ≡ false) × ((k : ℕ) → k < r + 1 → flag_at (slice_set moves r b) k ≡ true → P k)
-moves_more moves r b P less rest each before =
-    let here : flag_at (slice_set moves r b) r ≡ b = get_or-set_same moves r b false less in
-    let there : (k : ℕ) → k ≢ r → flag_at (slice_set moves r b) k ≡ flag_at moves k = λ k ne. get_or-set_other moves r k b false ne in (
-      λ h. elim (eqb_tells 0 r) [
-        | inl q ↦ ap (λ (k : ℕ). flag_at (slice_set moves r b) k) q.1 ∙ here ∙ rest (sym q.1)
-        | inr q ↦ (let ne : 0 ≢ r = q.1 in there 0 ne ∙ before.0 (omega (arith, ne)))
-      ],
-      below_more _ r (λ k h up. (let ne : k ≢ r = omega (arith, h) in before.1 k h (sym (there k ne) ∙ up))) (λ up. each (sym here ∙ up)),
-    )
+pub moves_more : (moves : List Move) (r : ℕ) (m : Move) (P : ℕ → Move → Type 0) → r < length moves → P r m → ((k : ℕ) → k < r → P k (move_at moves k)) → (k : ℕ) → k < r + 1 → P k (move_at (slice_set moves r m) k)
+moves_more moves r m P less here before =
+    below_more _ r (λ k h. (let ne : k ≢ r = omega (arith, h) in subst (P k) (sym (get_or-set_other moves r k m Stays ne)) (before k h))) (subst (P r) (sym (get_or-set_same moves r m Stays less)) here)
 
-pub moves_rest : (moves : List Bool) (r : ℕ) → length moves ≤ r → (0 < r → flag_at moves 0 ≡ false) → flag_at moves 0 ≡ false
-moves_rest [] r past rest = refl
-moves_rest (b ∷ moves) r past rest = rest (omega (arith, past))
-
-pub moves_all : (moves : List Bool) (r : ℕ) (P : ℕ → Type 0) → length moves ≤ r → ((k : ℕ) → k < r → flag_at moves k ≡ true → P k) → (k : ℕ) → flag_at moves k ≡ true → P k
-moves_all moves r P past each k up = elim (leb_tells r k) [
-  | inl out ↦ absurd (let none : true ≡ false = sym up ∙ get_or_past moves k false (omega (arith, past, out.1)) in cc)
-  | inr live ↦ each k live.1 up
+pub moves_all : (moves : List Move) (r : ℕ) (P : ℕ → Move → Type 0) → ((k : ℕ) → P k Stays) → length moves ≤ r → ((k : ℕ) → k < r → P k (move_at moves k)) → (k : ℕ) → P k (move_at moves k)
+moves_all moves r P stays past each k = elim (leb_tells r k) [
+  | inl out ↦ subst (P k) (sym (get_or_past moves k Stays (omega (arith, past, out.1)))) (stays k)
+  | inr live ↦ each k live.1
 ]
+
+-- how a register was found to move
+abbrev pub IsFoundMove : (table : ℕ → entries.Entry) → (registers : List (List ℕ)) → ℕ → Move → Type 0
+IsFoundMove table registers r m = (r ≡ 0 → m ≡ Stays) × IsMove table registers r m
+
+pub stays_is_move : (table : ℕ → entries.Entry) (registers : List (List ℕ)) (r : ℕ) → IsMove table registers r Stays
+stays_is_move table registers r = record { still = λ none. refl; each = λ i h. tt; sound = tt }
+
+pub stays_found : (table : ℕ → entries.Entry) (registers : List (List ℕ)) (r : ℕ) → IsFoundMove table registers r Stays
+stays_found table registers r = (λ e. refl, stays_is_move table registers r)
+
+-- what has no leader stays, so all can move at once
+pub found_can : (table : ℕ → entries.Entry) (l : Layout) (moves : List Move) → ((k : ℕ) → IsFoundMove table l.registers k (move_at moves k)) → CanMove l moves
+found_can table l moves all = record { rest = (all 0).0 refl; sound = λ r. go r (move_at moves r) (all r).1.sound } where
+  go : (r : ℕ) (m : Move) → TakesFromUnled table l.registers r m → IfTakes (λ other start. (move_at moves other ≡ Stays) × (length (cells_at l.registers r) ≤ start + length (cells_at l.registers other))) m
+  go r Stays is = tt
+  go r Shifts is = tt
+  go r (Copies other) is = ((all other).1.still is.0, is.1)
+  go r (Trails other) is = ((all other).1.still is.0, is.1)

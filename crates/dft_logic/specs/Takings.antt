@@ -1,14 +1,16 @@
 -- The flip-flops that change in a pulse, as a list, and what they take.
-use Rattle.std.specs.Prelude.{ℕ, suc, Bool, true, false, ◌&&◌, ◌≡◌, ◌<◌, ◌≤◌, ◌⊎◌, List, length, is_none, slice_index_or}
+use Rattle.std.specs.Prelude.{ℕ, suc, Bool, true, false, ◌&&◌, ◌≡◌, ◌<◌, ◌≤◌, ◌+◌, ◌-◌, ◌⊎◌, List, [], ◌∷◌, Option, None, Some, length, is_none, nat_lt, slice_index_or}
 use Rattle.dft_base.specs.declared.tri.Tri.{Tri}
 use Rattle.dft_base.specs.declared.tri.Tri.TheVariants.{Zero, One, Unknown}
 use Rattle.dft_netlist.specs.Drivers.{Source, Net, Tied, Loose}
 use Rattle.dft_netlist.specs.Logic.{Cell}
 use Rattle.dft_abstract.specs.Cycle.{Pulse}
 use Rattle.dft_logic.specs.Entries as entries
-use Rattle.dft_registers.specs.Layout.{Layout, cells_at}
-use Rattle.dft_registers.specs.Cells.{value_at, Course, Rests, Enters, Follows, IsCarried}
-use Rattle.dft_logic.specs.Circuit.{next_at, flag_at}
+use Rattle.dft_registers.specs.Layout.{Layout, cells_at, cell_at}
+use Rattle.dft_registers.specs.declared.moves.Move.{Move}
+use Rattle.dft_registers.specs.declared.moves.Move.TheVariants.{Stays, Shifts, Copies, Trails}
+use Rattle.dft_registers.specs.Cells.{value_at, move_at, Course, Rests, Enters, Follows, course_in, IfTakes, IsCarried}
+use Rattle.dft_logic.specs.Circuit.{next_at}
 use Rattle.dft_logic.specs.declared.entries.Entry.TheVariants.{Keeps}
 use Rattle.dft_logic.specs.declared.takings.Taking.{Taking}
 use Rattle.dft_logic.specs.EntryTables.{entry_of}
@@ -45,15 +47,60 @@ is_idle cell (entries.Follows other) = false
 is_idle cell (entries.Reads net) = false
 is_idle cell entries.Computes = false
 
--- each of these cells but the first takes the value of the one before it
-abbrev pub TakeFromBefore : (table : ℕ → entries.Entry) → List ℕ → Type 0
-TakeFromBefore table cells = (i : ℕ) → suc i < length cells → table (slice_index_or cells (suc i) 0) ≡ entries.Follows (slice_index_or cells i 0)
+-- ---- registers that move
 
--- so it is in each register that moves
-abbrev pub AreMoves : (table : ℕ → entries.Entry) → Layout → (moves : List Bool) → Type 0
-AreMoves table l moves = (r : ℕ) → flag_at moves r ≡ true → TakeFromBefore table (cells_at l.registers r)
+-- each of these cells but the first takes the value of another one, from the first or the second of those on
+abbrev pub TakeFrom : (table : ℕ → entries.Entry) → (cells others : List ℕ) → (start : ℕ) → Type 0
+TakeFrom table cells others start = (i : ℕ) → suc i < length cells → table (slice_index_or cells (suc i) 0) ≡ entries.Follows (slice_index_or others (suc i - start) 0)
 
--- what the list leaves out: an idle flip-flop that rests, and one that takes the value of the one before it as its register moves
+-- the cell whose value an entry tells
+abbrev pub other_of : entries.Entry → Option ℕ
+other_of entries.Keeps = None
+other_of (entries.Takes value) = None
+other_of (entries.Follows other) = Some other
+other_of (entries.Reads net) = None
+other_of entries.Computes = None
+
+-- The cell whose value the second of these takes, if it takes one's. A register moves only where it has such a leader.
+abbrev pub leader : (table : ℕ → entries.Entry) → List ℕ → Option ℕ
+leader table [] = None
+leader table (first ∷ []) = None
+leader table (first ∷ second ∷ cells) = other_of (table second)
+
+-- an entry is as a course tells
+abbrev pub IsTold : entries.Entry → Course → Type 0
+IsTold entry Rests = Unit {0}
+IsTold entry Enters = Unit {0}
+IsTold entry (Follows other) = entry ≡ entries.Follows other
+
+-- each cell of a register but the first takes what the register's move carries to it
+abbrev pub TakesAlong : (table : ℕ → entries.Entry) → (registers : List (List ℕ)) → (register : ℕ) → Move → Type 0
+TakesAlong table registers r move = (i : ℕ) → suc i < length (cells_at registers r) → IsTold (table (cell_at registers r (suc i))) (course_in registers r move (suc i))
+
+-- what a register takes from is long enough, and has no leader itself
+abbrev pub TakesFromUnled : (table : ℕ → entries.Entry) → (registers : List (List ℕ)) → (register : ℕ) → Move → Type 0
+TakesFromUnled table registers r move = IfTakes (λ other start. (leader table (cells_at registers other) ≡ None) × (length (cells_at registers r) ≤ start + length (cells_at registers other))) move
+
+-- a register moves so
+pub record IsMove (table : ℕ → entries.Entry) (registers : List (List ℕ)) (register : ℕ) (move : Move) : Type 0 where
+  pub still : leader table (cells_at registers register) ≡ None → move ≡ Stays
+  pub each : TakesAlong table registers register move
+  pub sound : TakesFromUnled table registers register move
+
+-- all registers do
+abbrev pub AreMoves : (table : ℕ → entries.Entry) → Layout → (moves : List Move) → Type 0
+AreMoves table l moves = (r : ℕ) → TakesAlong table l.registers r (move_at moves r)
+
+-- ---- what is left out
+
+-- where its register moves each cell is but the first, and else those that are idle
+abbrev pub is_left : Move → (index : ℕ) → (idle : Bool) → Bool
+is_left Stays index idle = idle
+is_left Shifts index idle = nat_lt 0 index
+is_left (Copies other) index idle = nat_lt 0 index
+is_left (Trails other) index idle = nat_lt 0 index
+
+-- what the list leaves out: an idle flip-flop that rests, and one that takes the value that its register's move carries to it
 abbrev pub IsLeft : Cell → entries.Entry → Course → Type 0
 IsLeft cell entry Rests = is_idle cell entry ≡ true
 IsLeft cell entry Enters = ⊥

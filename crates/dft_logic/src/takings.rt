@@ -1,21 +1,22 @@
 //! What a pulse does: registers that move, and in a list the other flip-flops that change, with what they take.
 
-ghost use Rattle.std.specs.Prelude.{◌≡◌, ℕ, ◌<◌, ◌≤◌, length, map, true, false, nat_lt, if◌then◌else◌};
+ghost use Rattle.std.specs.Prelude.{◌≡◌, ℕ, suc, ◌<◌, ◌≤◌, ◌+◌, ◌-◌, length, map, true, None, slice_index_or};
 ghost use Rattle.std.specs.Vec.{vec_capacity};
 ghost use Rattle.dft_logic.specs.Values as machine;
 ghost use Rattle.dft_registers.specs.Layout.{cells_at};
-ghost use Rattle.dft_registers.specs.Cells.{course};
-ghost use Rattle.dft_logic.specs.Circuit.{cell_of, cell_at, pulse_at, flag_at as is_up};
+ghost use Rattle.dft_registers.specs.Cells.{move_at, course, CanMove};
+ghost use Rattle.dft_registers.specs.declared.moves.Move.TheVariants.{Stays};
+ghost use Rattle.dft_logic.specs.Circuit.{cell_of, cell_at, pulse_at};
 ghost use Rattle.dft_logic.specs.EntryTables.{entry_of, entry_at};
 ghost use Rattle.dft_logic.specs.Takings as spec;
 ghost use Rattle.dft_logic.specs.Entries.{Follows};
-ghost use Rattle.dft_logic.specs.Takings.{taking_at, taken_by, TakeFromBefore, AreMoves, AreTakings, ArePut};
+ghost use Rattle.dft_logic.specs.Takings.{taking_at, taken_by, TakeFrom, TakesAlong, TakesFromUnled, IsMove, AreMoves, AreTakings, ArePut};
 
 use crate::circuit::{FlipFlop, Operand};
 use crate::entries::Entry;
-use crate::settling::{Pulse, flag_at};
+use crate::settling::Pulse;
 use dft_base::Tri;
-use dft_registers::{Cells, Place};
+use dft_registers::{Cells, Move, Place};
 
 /// A flip-flop, by its place, and what it takes.
 #[derive(Clone, Copy)]
@@ -47,13 +48,12 @@ fn is_idle(flop: &FlipFlop, entry: Entry) -> bool
 }
 
 // Whether a cell is left out of the list: where its register moves all are but the first, and else those that are idle.
-fn is_left(place: Place, moves: &[bool], idle: bool) -> bool
-    ensures { result ≡ (if is_up moves.now place.register then nat_lt 0 place.index else idle) }
+fn is_left(place: Place, moves: &[Move], idle: bool) -> bool
+    ensures { result ≡ spec.is_left (move_at moves.now place.register) place.index idle }
 {
-    if flag_at(moves, place.register) {
-        place.index > 0
-    } else {
-        idle
+    match moves.get(place.register as usize) {
+        None | Some(Move::Stays) => idle,
+        Some(_) => place.index > 0,
     }
 }
 
@@ -67,34 +67,89 @@ fn takes_from(entries: &[Entry], cell: usize, other: usize) -> bool
     }
 }
 
-// Whether each of these cells but the first takes the value of the one before it.
-fn all_take(cells: &[usize], entries: &[Entry]) -> bool
-    ensures { result ≡ true → TakeFromBefore (entry_at entries.now) cells.now }
+// Whether each of these cells but the first takes the value of another one, from the first or the second of those on.
+fn all_take(cells: &[usize], others: &[usize], start: usize, entries: &[Entry]) -> bool
+    requires { start ≤ 1 }
+    ensures fit { result ≡ true → length cells.now ≤ start + length others.now }
+    ensures each { result ≡ true → TakeFrom (entry_at entries.now) cells.now others.now start }
 {
+    if cells.len() > start + others.len() {
+        return false;
+    }
     for index in 1..cells.len() {
-        if !takes_from(entries, cells[index], cells[index - 1]) {
+        if !takes_from(entries, cells[index], others[index - start]) {
             return false;
         }
     }
     true
 }
 
-// Whether a register moves, where its cells take what these entries tell. In the first one cells rest.
-fn may_move(cells: &Cells, entries: &[Entry], register: usize) -> bool
-    ensures rest { register ≡ 0 → result ≡ false }
-    ensures each { result ≡ true → TakeFromBefore (entry_at entries.now) (cells_at cells.now.layout.registers register) }
+// The cell whose value the second of these takes, if it takes one's: so it is where a register moves.
+fn leader(cells: &[usize], entries: &[Entry]) -> Option<usize>
+    ensures { result ≡ spec.leader (entry_at entries.now) cells.now }
 {
-    register > 0 && all_take(cells.register(register), entries)
+    match cells.get(1) {
+        Some(cell) => match entries.get(*cell) {
+            Some(Entry::Follows(other)) => Some(other.0 as usize),
+            _ => None,
+        },
+        None => None,
+    }
 }
 
-/// Finds the registers that move in a pulse: each of their cells but the first takes the value of the one before it. The
-/// first register, in which cells rest, is none of them.
-pub fn find_moves(cells: &Cells, entries: &[Entry], moves: &mut [bool])
-    ensures rest { is_up moves.new 0 ≡ false }
+// How a register moves whose second cell takes the value of one of this register.
+fn move_from(cells: &Cells, entries: &[Entry], register: usize, from: u32) -> Move
+    ensures each { TakesAlong (entry_at entries.now) cells.now.layout.registers register result }
+    ensures sound { TakesFromUnled (entry_at entries.now) cells.now.layout.registers register result }
+{
+    let own = cells.register(register);
+    let others = cells.register(from as usize);
+    if from as usize == register {
+        return if all_take(own, own, 1, entries) {
+            Move::Shifts
+        } else {
+            Move::Stays
+        };
+    }
+    if leader(others, entries).is_some() {
+        return Move::Stays;
+    }
+    if all_take(own, others, 0, entries) {
+        return Move::Copies(from);
+    }
+    if all_take(own, others, 1, entries) {
+        Move::Trails(from)
+    } else {
+        Move::Stays
+    }
+}
+
+// How a register moves, where its cells take what these entries tell. In the first one cells rest.
+fn find_move(cells: &Cells, entries: &[Entry], register: usize) -> Move
+    ensures rest { register ≡ 0 → result ≡ Stays }
+    ensures is { IsMove (entry_at entries.now) cells.now.layout.registers register result }
+{
+    if register == 0 {
+        return Move::Stays;
+    }
+    match leader(cells.register(register), entries) {
+        Some(other) => if other < cells.len() {
+            move_from(cells, entries, register, cells.place(other).register)
+        } else {
+            Move::Stays
+        },
+        None => Move::Stays,
+    }
+}
+
+/// Finds the registers that move in a pulse: each of their cells but the first takes the value of the one before it, or of
+/// one of another register that stays. The first register, in which cells rest, is none of them.
+pub fn find_moves(cells: &Cells, entries: &[Entry], moves: &mut [Move])
+    ensures can { CanMove cells.now.layout moves.new }
     ensures each { AreMoves (entry_at entries.now) cells.now.layout moves.new }
 {
     for register in 0..moves.len() {
-        moves[register] = may_move(cells, entries, register);
+        moves[register] = find_move(cells, entries, register);
     }
 }
 
@@ -104,7 +159,7 @@ pub fn list_takings(
     flops: &[FlipFlop],
     entries: &[Entry],
     cells: &Cells,
-    moves: &[bool],
+    moves: &[Move],
     takings: &mut Vec<Taking>,
 )
     requires flops { length entries.now ≡ length flops.now }
@@ -147,10 +202,10 @@ pub fn find_values(
 /// The values of flip-flops after a pulse: registers move, those of the list take what the row tells, and the others keep
 /// theirs.
 #[inline(never)]
-pub fn put_all(takings: &[Taking], row: &[Tri], moves: &[bool], cells: &mut Cells)
+pub fn put_all(takings: &[Taking], row: &[Tri], moves: &[Move], cells: &mut Cells)
     requires live { (j : ℕ) → j < length takings.now → (taking_at takings.now j).place < length cells.old.values }
     requires row { length takings.now ≤ length row.now }
-    requires rest { is_up moves.now 0 ≡ false }
+    requires can { CanMove cells.old.layout moves.now }
     ensures layout { cells.new.layout ≡ cells.old.layout }
     ensures count { length cells.new.values ≡ length cells.old.values }
     ensures put { ArePut takings.now (length takings.now) (machine.value_at row.now) (course cells.old.layout moves.now) cells.old.values cells.new.values }

@@ -1,16 +1,19 @@
 -- Values by place: read, written, shifted.
-use Rattle.std.proofs.Common.{ℕ, zero, suc, Bool, true, false, List, [], ◌∷◌, ◌++◌, ◌≡◌, ◌<◌, ◌≤◌, ◌+◌, ◌-◌, ◌≢◌, inl, inr, ◌∙◌, refl, sym, ap, subst, take, drop, length, get_or, slice_set, get_or-set_same, get_or-set_other, arith}
+use Rattle.std.proofs.Common.{ℕ, zero, suc, Bool, true, false, List, [], ◌∷◌, ◌≡◌, ◌<◌, ◌≤◌, ◌+◌, ◌≢◌, inl, inr, ◌∙◌, refl, sym, ap, subst, length, slice_set, get_or-set_same, get_or-set_other, arith}
 use Rattle.std.specs.Prelude.{replicate, if◌then◌else◌, ◌==◌}
-use Rattle.std.proofs.lemmas.Bool.Decides.{eqb_tells, leb_tells}
-use Rattle.std.proofs.lemmas.List.{get_or_past, length-set, length-append, ext_get_or, get_or-take}
-use Rattle.std.proofs.lemmas.List.{get_or-append-add, length-drop, length-take, length-replicate}
+use Rattle.std.proofs.lemmas.Bool.Decides.{eqb_tells}
+use Rattle.std.proofs.lemmas.List.{length-set, ext_get_or}
+use Rattle.std.proofs.lemmas.List.{length-replicate}
 use Rattle.dft_base.specs.declared.tri.Tri.{Tri}
 use Rattle.dft_base.specs.declared.tri.Tri.TheVariants.{Unknown}
 use Rattle.dft_registers.specs.declared.layout.Place.{Place}
 use Rattle.dft_registers.specs.Layout.{Layout, place_at, cells_at, cell_at, IsLaid}
 use Rattle.dft_registers.specs.declared.cells.Cells.TheInside.{Inside}
-use Rattle.dft_registers.specs.Cells.{Contents, contents_of, AreCells, value_at, row_at, value_in, values_in, shifted_if, Rests, course_in, course, IsCarried}
+use Rattle.dft_registers.specs.declared.moves.Move.{Move}
+use Rattle.dft_registers.specs.declared.moves.Move.TheVariants.{Stays, Shifts, Copies, Trails}
+use Rattle.dft_registers.specs.Cells.{Contents, contents_of, AreCells, value_at, row_at, value_in, values_in, move_at, moved_row, IfTakes, CanMove, course_in, course, IsCarried}
 use Rattle.dft_registers.proofs.ListLemmas.{same_all}
+use Rattle.dft_registers.proofs.MoveLemmas.{shifted_read, copied_read}
 
 -- ---- values are read
 
@@ -118,94 +121,67 @@ rows_kept rows r i value row k less named = elim (eqb_tells k r) [
   | inr e ↦ ap (λ (x : List Tri). length x) (get_or-set_other rows r k (slice_set row i value) [] e.1)
 ]
 
--- ---- rows are shifted
-
--- those before a number are, where they move
-abbrev pub AreMoved : (moves : List Bool) → (number : ℕ) → (old now : List (List Tri)) → Type 0
-AreMoved moves n old now = (r : ℕ) → ((r < n → row_at now r ≡ shifted_if (get_or moves r false) (row_at old r)) × (n ≤ r → row_at now r ≡ row_at old r))
-
-pub moved_none : (moves : List Bool) (old : List (List Tri)) → AreMoved moves 0 old old
-moved_none moves old r = (λ h. absurd (omega arith), λ h. refl)
-
-pub moved_one : (moves : List Bool) (old now : List (List Tri)) (n : ℕ) (row new : List Tri) → n < length now → get_or moves n false ≡ true → row ≡ row_at now n → new ≡ drop (length row - 1) row ++ take (length row - 1) row →
-    AreMoved moves n old now → AreMoved moves (n + 1) old (slice_set now n new)
-moved_one moves old now n row new less up named is before r =
-    let there : r ≢ n → row_at (slice_set now n new) r ≡ row_at now r = λ ne. get_or-set_other now n r new [] ne in (
-      λ h. elim (eqb_tells r n) [
-        | inl e ↦ ap (λ (k : ℕ). row_at (slice_set now n new) k) e.1 ∙ get_or-set_same now n new [] less ∙ is ∙ ap (λ (x : List Tri). drop (length x - 1) x ++ take (length x - 1) x) (named ∙ (before n).1 (omega arith))
-            ∙ ap (λ (b : Bool). shifted_if b (row_at old n)) (sym up) ∙ ap (λ (k : ℕ). shifted_if (get_or moves k false) (row_at old k)) (sym e.1)
-        | inr e ↦ (let ne : r ≢ n = e.1 in there ne ∙ (before r).0 (omega (arith, h, ne)))
-      ],
-      λ h. there (λ e. omega (arith, e, h)) ∙ (before r).1 (omega (arith, h)),
-    )
-
-pub moved_rest : (moves : List Bool) (old now : List (List Tri)) (n : ℕ) → get_or moves n false ≡ false → AreMoved moves n old now → AreMoved moves (n + 1) old now
-moved_rest moves old now n down before r = (
-  λ h. elim (eqb_tells r n) [
-    | inl e ↦ ap (λ (k : ℕ). row_at now k) e.1 ∙ (before n).1 (omega arith) ∙ ap (λ (b : Bool). shifted_if b (row_at old n)) (sym down) ∙ ap (λ (k : ℕ). shifted_if (get_or moves k false) (row_at old k)) (sym e.1)
-    | inr e ↦ (let ne : r ≢ n = e.1 in (before r).0 (omega (arith, h, ne)))
-  ],
-  λ h. (before r).1 (omega (arith, h)),
-)
-
-pub moved_all : (moves : List Bool) (old now : List (List Tri)) (n : ℕ) → length old ≤ n → length now ≡ length old → AreMoved moves n old now → (r : ℕ) → row_at now r ≡ shifted_if (get_or moves r false) (row_at old r)
-moved_all moves old now n past size moved r = elim (leb_tells n r) [
-  | inl out ↦ (let far : length old ≤ r = omega (arith, past, out.1) in
-      let none : row_at old r ≡ [] = get_or_past old r [] far in
-      (moved r).1 out.1 ∙ none ∙ sym (ap (λ (x : List Tri). shifted_if (get_or moves r false) x) none ∙ nothing (get_or moves r false)))
-  | inr live ↦ (moved r).0 live.1
-] where
-  nothing : (b : Bool) → shifted_if b [] ≡ []
-  nothing true = refl
-  nothing false = refl
-
-pub shifted_size : (b : Bool) (row : List Tri) → length (shifted_if b row) ≡ length row
-shifted_size false row = refl
-shifted_size true row =
-    let n : ℕ = length row in
-    length-append (drop (n - 1) row) (take (n - 1) row) ∙ omega (arith, length-drop (n - 1) row, length-take (n - 1) row)
-
--- each value but the first is that of the place before
-pub shifted_read : (row : List Tri) (i : ℕ) → suc i < length row → value_at (shifted_if true row) (suc i) ≡ value_at row i
-shifted_read row i less =
-    let n : ℕ = length row in
-    let front : List Tri = drop (n - 1) row in
-    let size : length front ≡ 1 = omega (arith, length-drop (n - 1) row, less) in
-    let at : length front + i ≡ suc i = omega (arith, size) in
-    ap (λ (k : ℕ). value_at (front ++ take (n - 1) row) k) (sym at) ∙ get_or-append-add front (take (n - 1) row) i Unknown ∙ get_or-take (n - 1) row i Unknown (omega (arith, less))
+-- ---- values are carried
 
 positive : (r : ℕ) → (r ≡ 0 → ⊥) → 0 < r
 positive zero none = absurd (none refl)
 positive (suc r) none = omega arith
 
-true_false : true ≡ false → ⊥
-true_false e = absurd cc
+-- what lies at a place of a register has the value there
+from_place : (l : Layout) (rows : List (List Tri)) (own : List Tri) (s j : ℕ) → IsLaid l → length own ≡ length l.places → j < length (cells_at l.registers s) →
+    value_at (row_at rows s) j ≡ value_at (values_in rows l.places own) (cell_at l.registers s j)
+from_place l rows own s j laid sized less =
+    let above : 0 < s = positive s (λ e. (let none : length (cells_at l.registers s) ≡ 0 = ap (λ (k : ℕ). length (cells_at l.registers k)) e ∙ ap (λ (x : List ℕ). length x) laid.first in omega (arith, none, less))) in
+    let k : ℕ = cell_at l.registers s j in
+    let q : Place = place_at l.places k in
+    let found : q ≡ record { register = s; index = j } = laid.place s j above less in
+    sym (read_at rows l.places own k sized (laid.live s j above less) ∙ in_row rows q (value_at own k) (subst (λ (x : Place). 0 < x.register) (sym found) above)
+    ∙ ap (λ (x : Place). value_at (row_at rows x.register) x.index) found)
 
-pub carried : (l : Layout) (rows new : List (List Tri)) (own : List Tri) (moves : List Bool) (c : ℕ) → IsLaid l → length own ≡ length l.places → ((r : ℕ) → length (row_at rows r) ≡ length (cells_at l.registers r)) →
-    get_or moves 0 false ≡ false → ((r : ℕ) → row_at new r ≡ shifted_if (get_or moves r false) (row_at rows r)) → c < length l.places →
+-- a register that does not stay is not the first one
+stays_first : (moves : List Move) (r : ℕ) (m : Move) → move_at moves 0 ≡ Stays → move_at moves r ≡ m → (m ≡ Stays → ⊥) → 0 < r
+stays_first moves r m rest at going = positive r (λ e. going (sym at ∙ ap (λ (k : ℕ). move_at moves k) e ∙ rest))
+
+pub carried : (l : Layout) (rows new : List (List Tri)) (own : List Tri) (moves : List Move) (c : ℕ) → IsLaid l → length own ≡ length l.places → ((r : ℕ) → length (row_at rows r) ≡ length (cells_at l.registers r)) →
+    CanMove l moves → ((r : ℕ) → row_at new r ≡ moved_row rows (move_at moves r) (row_at rows r)) → c < length l.places →
     IsCarried (value_at (values_in rows l.places own)) c (value_at (values_in new l.places own) c) (course l moves c)
-carried l rows new own moves c laid sized sizes rest each live =
-    go (get_or moves (place_at l.places c).register false) (place_at l.places c).register (place_at l.places c).index refl refl refl where
-      stays : (b : Bool) (row : List Tri) → b ≡ false → shifted_if b row ≡ row
-      stays b row down = ap (λ (x : Bool). shifted_if x row) down
+carried l rows new own moves c laid sized sizes can each live =
+    go (move_at moves (place_at l.places c).register) (place_at l.places c).register (place_at l.places c).index refl refl refl where
+      -- the value that a cell has which does not rest
+      has : (m : Move) (r i : ℕ) → move_at moves (place_at l.places c).register ≡ m → (place_at l.places c).register ≡ r → (place_at l.places c).index ≡ i → (m ≡ Stays → ⊥) →
+          (value_at (values_in new l.places own) c ≡ value_at (moved_row rows m (row_at rows r)) i) × (i < length (cells_at l.registers r))
+      has m r i up at place going =
+          let p : Place = place_at l.places c in
+          let higher : 0 < p.register = stays_first moves p.register m can.rest up going in (
+            read_at new l.places own c sized live ∙ in_row new p (value_at own c) higher ∙ ap (λ (x : List Tri). value_at x p.index) (each p.register ∙ ap (λ (x : Move). moved_row rows x (row_at rows p.register)) up)
+                ∙ (λ t. value_at (moved_row rows m (row_at rows (at t))) (place t)),
+            subst (λ (k : ℕ). k < length (cells_at l.registers r)) place (subst (λ (k : ℕ). p.index < length (cells_at l.registers k)) at (laid.index c live higher)),
+          )
 
-      go : (b : Bool) (r i : ℕ) → get_or moves (place_at l.places c).register false ≡ b → (place_at l.places c).register ≡ r → (place_at l.places c).index ≡ i →
-          IsCarried (value_at (values_in rows l.places own)) c (value_at (values_in new l.places own) c) (if b then course_in (cells_at l.registers r) i else Rests)
-      go false r i up at place =
+      -- what a register of the same layout is asked for
+      source : (m : Move) (r : ℕ) → move_at moves (place_at l.places c).register ≡ m → (place_at l.places c).register ≡ r →
+          IfTakes (λ other start. (move_at moves other ≡ Stays) × (length (cells_at l.registers r) ≤ start + length (cells_at l.registers other))) m
+      source m r up at =
+          let R : ℕ → Move → Type 0 = λ k x. IfTakes (λ other start. (move_at moves other ≡ Stays) × (length (cells_at l.registers k) ≤ start + length (cells_at l.registers other))) x in
+          subst (λ (k : ℕ). R k m) at (subst (R (place_at l.places c).register) up (can.sound (place_at l.places c).register))
+
+      go : (m : Move) (r i : ℕ) → move_at moves (place_at l.places c).register ≡ m → (place_at l.places c).register ≡ r → (place_at l.places c).index ≡ i →
+          IsCarried (value_at (values_in rows l.places own)) c (value_at (values_in new l.places own) c) (course_in l.registers r m i)
+      go Stays r i up at place =
           let p : Place = place_at l.places c in
-          read_at new l.places own c sized live ∙ ap (λ (x : List Tri). if p.register == 0 then value_at own c else value_at x p.index) (each p.register ∙ stays (get_or moves p.register false) (row_at rows p.register) up)
+          read_at new l.places own c sized live ∙ ap (λ (x : List Tri). if p.register == 0 then value_at own c else value_at x p.index) (each p.register ∙ ap (λ (x : Move). moved_row rows x (row_at rows p.register)) up)
           ∙ sym (read_at rows l.places own c sized live)
-      go true r zero up at place = tt
-      go true r (suc i) up at place =
-          let p : Place = place_at l.places c in
-          let above : 0 < r = positive r (λ e. true_false (sym up ∙ ap (λ (k : ℕ). get_or moves k false) (at ∙ e) ∙ rest)) in
-          let higher : 0 < p.register = subst (λ (k : ℕ). 0 < k) (sym at) above in
-          let inside : suc i < length (cells_at l.registers r) = subst (λ (k : ℕ). k < length (cells_at l.registers r)) place (subst (λ (k : ℕ). p.index < length (cells_at l.registers k)) at (laid.index c live higher)) in
-          let before : i < length (cells_at l.registers r) = omega (arith, inside) in
-          let k : ℕ = cell_at l.registers r i in
-          let q : Place = place_at l.places k in
-          let found : q ≡ record { register = r; index = i } = laid.place r i above before in
-          read_at new l.places own c sized live ∙ in_row new p (value_at own c) higher ∙ ap (λ (x : List Tri). value_at x p.index) (each p.register ∙ ap (λ (x : Bool). shifted_if x (row_at rows p.register)) up)
-          ∙ (λ t. value_at (shifted_if true (row_at rows (at t))) (place t)) ∙ shifted_read (row_at rows r) i (omega (arith, sizes r, inside))
-          ∙ sym (read_at rows l.places own k sized (laid.live r i above before) ∙ in_row rows q (value_at own k) (subst (λ (x : Place). 0 < x.register) (sym found) above)
-          ∙ ap (λ (x : Place). value_at (row_at rows x.register) x.index) found)
+      go Shifts r zero up at place = tt
+      go Shifts r (suc i) up at place =
+          let own_value = has Shifts r (suc i) up at place (λ e. absurd cc) in
+          own_value.0 ∙ shifted_read (row_at rows r) i (omega (arith, sizes r, own_value.1)) ∙ from_place l rows own r i laid sized (omega (arith, own_value.1))
+      go (Copies s) r zero up at place = tt
+      go (Copies s) r (suc i) up at place =
+          let own_value = has (Copies s) r (suc i) up at place (λ e. absurd cc) in
+          let enough = (source (Copies s) r up at).1 in
+          own_value.0 ∙ copied_read 0 (row_at rows r) (row_at rows s) (suc i) (suc i) (omega arith) (omega (arith, sizes r, own_value.1)) (omega (arith, sizes r, sizes s, enough)) ∙ from_place l rows own s (suc i) laid sized (omega (arith, own_value.1, enough))
+      go (Trails s) r zero up at place = tt
+      go (Trails s) r (suc i) up at place =
+          let own_value = has (Trails s) r (suc i) up at place (λ e. absurd cc) in
+          let enough = (source (Trails s) r up at).1 in
+          own_value.0 ∙ copied_read 1 (row_at rows r) (row_at rows s) i (suc i) (omega arith) (omega (arith, sizes r, own_value.1)) (omega (arith, sizes r, sizes s, enough)) ∙ from_place l rows own s i laid sized (omega (arith, own_value.1, enough))

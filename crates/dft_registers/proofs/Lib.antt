@@ -1,3 +1,4 @@
 pub mod ListLemmas
 pub mod LayoutLemmas
+pub mod MoveLemmas
 pub mod CellLemmas

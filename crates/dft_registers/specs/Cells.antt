@@ -1,11 +1,13 @@
 -- The values of cells, and what a shift of some registers makes of them.
-use Rattle.std.specs.Prelude.{ℕ, zero, suc, Bool, false, ◌≡◌, ◌<◌, ◌==◌, List, [], length, map, slice_index_or, take, drop, ◌-◌, ◌++◌, if◌then◌else◌}
+use Rattle.std.specs.Prelude.{ℕ, zero, suc, ◌≡◌, ◌≢◌, ◌<◌, ◌≤◌, ◌==◌, ◌+◌, List, [], length, map, slice_index_or, take, drop, ◌-◌, ◌++◌, if◌then◌else◌}
 use Rattle.std.specs.List.{zip}
 use Rattle.dft_base.specs.declared.tri.Tri.{Tri}
 use Rattle.dft_base.specs.declared.tri.Tri.TheVariants.{Unknown}
-use Rattle.dft_registers.specs.Layout.{Layout, place_at, cells_at, IsLaid}
+use Rattle.dft_registers.specs.Layout.{Layout, place_at, cells_at, cell_at, IsLaid}
 use Rattle.dft_registers.specs.declared.layout.Place.{Place}
 use Rattle.dft_registers.specs.declared.cells.Cells.TheInside.{Inside}
+use Rattle.dft_registers.specs.declared.moves.Move.{Move}
+use Rattle.dft_registers.specs.declared.moves.Move.TheVariants.{Stays, Shifts, Copies, Trails}
 
 -- where cells lie, and the value of each
 pub record Contents : Type 0 where
@@ -18,21 +20,46 @@ value_at values place = slice_index_or values place Unknown
 
 -- ---- a shift
 
--- what a cell has after a shift: its own value, what comes in at the end of its register, or the value of the cell before it
+-- what a cell has after a shift: its own value, what comes in at the beginning of its register, or the value of another cell
 pub data Course : Type 0 where
   Rests : Course
   Enters : Course
   Follows : (cell : ℕ) → Course
 
-abbrev pub course_in : List ℕ → (index : ℕ) → Course
-course_in cells zero = Enters
-course_in cells (suc index) = Follows (slice_index_or cells index 0)
+-- how a register moves; past the end it stays
+abbrev pub move_at : List Move → ℕ → Move
+move_at moves r = slice_index_or moves r Stays
 
--- by the flags of the registers that move
-abbrev pub course : Layout → (moves : List Bool) → ℕ → Course
+-- by its register, how that moves, and the place there
+abbrev pub course_in : List (List ℕ) → (register : ℕ) → Move → (index : ℕ) → Course
+course_in registers r Stays index = Rests
+course_in registers r Shifts zero = Enters
+course_in registers r Shifts (suc index) = Follows (cell_at registers r index)
+course_in registers r (Copies other) zero = Enters
+course_in registers r (Copies other) (suc index) = Follows (cell_at registers other (suc index))
+course_in registers r (Trails other) zero = Enters
+course_in registers r (Trails other) (suc index) = Follows (cell_at registers other index)
+
+abbrev pub course : Layout → (moves : List Move) → ℕ → Course
 course l moves c =
     let p = place_at l.places c in
-    if slice_index_or moves p.register false then course_in (cells_at l.registers p.register) p.index else Rests
+    course_in l.registers p.register (move_at moves p.register) p.index
+
+-- what is said of the register that another one takes from, from a place on
+abbrev pub IfTakes : ((other start : ℕ) → Type 0) → Move → Type 0
+IfTakes P Stays = Unit {0}
+IfTakes P Shifts = Unit {0}
+IfTakes P (Copies other) = P other 0
+IfTakes P (Trails other) = P other 1
+
+-- Registers of these sizes can move so, all at once: a register takes from one that stays, and that has a value for each place that is taken to.
+abbrev pub AreSound : List Move → (size : ℕ → ℕ) → Type 0
+AreSound moves size = (r : ℕ) → IfTakes (λ other start. (move_at moves other ≡ Stays) × (size r ≤ start + size other)) (move_at moves r)
+
+-- registers that lie so can, and the first one, in which cells rest, stays
+pub record CanMove (l : Layout) (moves : List Move) : Type 0 where
+  pub rest : move_at moves 0 ≡ Stays
+  pub sound : AreSound moves (λ r. length (cells_at l.registers r))
 
 -- a shift says nothing of the value at the beginning of a register: it is written behind it
 abbrev pub IsCarried : (old : ℕ → Tri) → (cell : ℕ) → (new : Tri) → Course → Type 0
@@ -40,20 +67,31 @@ IsCarried old c new Rests = new ≡ old c
 IsCarried old c new Enters = Unit {0}
 IsCarried old c new (Follows other) = new ≡ old other
 
-pub record IsShifted (moves : List Bool) (old new : Contents) : Type 0 where
+pub record IsShifted (moves : List Move) (old new : Contents) : Type 0 where
   pub layout : new.layout ≡ old.layout
   pub count : length new.values ≡ length old.values
   pub each : (c : ℕ) → c < length old.values → IsCarried (value_at old.values) c (value_at new.values c) (course old.layout moves c)
 
--- the values moved on by one place, where they move; the last comes to the first place
-abbrev pub shifted_if : Bool → List Tri → List Tri
-shifted_if moves row = if moves then drop (length row - 1) row ++ take (length row - 1) row else row
+-- the first values of another register, from a place on
+abbrev pub copied_row : (start : ℕ) → List Tri → (source : List Tri) → List Tri
+copied_row start row source = take start row ++ take (length row - start) source
 
 -- ---- what is kept
 
 -- the values of a register's cells, in their order
 abbrev pub row_at : List (List Tri) → ℕ → List Tri
 row_at rows r = slice_index_or rows r []
+
+-- a register can move by itself, where it takes from another one that is long enough
+abbrev pub IsReady : List (List Tri) → (register : ℕ) → Move → Type 0
+IsReady rows r move = IfTakes (λ other start. (other ≢ r) × (length (row_at rows r) ≤ start + length (row_at rows other))) move
+
+-- the values of a register as it moves; where it shifts, the last comes to the first place
+abbrev pub moved_row : List (List Tri) → Move → List Tri → List Tri
+moved_row rows Stays row = row
+moved_row rows Shifts row = drop (length row - 1) row ++ take (length row - 1) row
+moved_row rows (Copies other) row = copied_row 0 row (row_at rows other)
+moved_row rows (Trails other) row = copied_row 1 row (row_at rows other)
 
 -- a cell that rests has its own value, another one that of its place
 abbrev pub value_in : List (List Tri) → (place : Place) → (own : Tri) → Tri

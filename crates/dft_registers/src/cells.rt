@@ -1,17 +1,18 @@
 //! The values of cells.
 
-ghost use Rattle.std.specs.Prelude.{◌≡◌, ℕ, ◌<◌, [], length, replicate, true, false, IfOk, slice_set, slice_index_or};
+ghost use Rattle.std.specs.Prelude.{◌≡◌, ℕ, ◌<◌, [], length, replicate, true, false, IfOk, slice_set};
 ghost use Rattle.dft_registers.specs.Layout.{place_at, cells_at, cell_at};
 ghost use Rattle.dft_registers.specs.Cells as spec;
 
 use crate::layout::{Layout, Place};
+use crate::moves::{Move, shift_rows};
 use crate::registers::{Values, unknown};
 use dft_base::Tri;
 use std::alloc::{AllocError, Global};
 use std::marker::Model;
 
-/// The values of cells. Those that follow each other lie in a shift register, whose values move on by one place at once;
-/// all others rest, each by itself. A clause sees where they lie, and the list of their values.
+/// The values of cells. Those that follow each other lie in a shift register, whose values move on by one place at once, or
+/// over from another one; all others rest, each by itself. A clause sees where they lie, and the list of their values.
 #[derive(Drop)]
 pub struct Cells {
     layout: Layout,
@@ -42,29 +43,6 @@ fn unknown_rows(alloc: Global, layout: &Layout) -> Result<Vec<Values>, AllocErro
         rows.push(Values::unknown(alloc, layout.register(number).len())?)?;
     }
     Ok(rows)
-}
-
-// Whether a register moves.
-fn moves_on(moves: &[bool], number: usize) -> bool
-    ensures { result ≡ slice_index_or moves.now number false }
-{
-    match moves.get(number) {
-        Some(moves) => *moves,
-        None => false,
-    }
-}
-
-// Moves the values of some registers on by one place.
-fn shift_rows(moves: &[bool], rows: &mut [Values])
-    ensures count { length rows.new ≡ length rows.old }
-    ensures each { (r : ℕ) → spec.row_at rows.new r ≡ spec.shifted_if (slice_index_or moves.now r false) (spec.row_at rows.old r) }
-{
-    for number in 0..rows.len() {
-        if moves_on(moves, number) {
-            let row = &mut rows[number];
-            row.shift();
-        }
-    }
 }
 
 impl Cells {
@@ -166,10 +144,10 @@ impl Cells {
         self.layout.place(cell)
     }
 
-    /// Moves the values of some registers on by one place: each cell has the value of the one before it. The first
-    /// register, in which cells rest, is none of them. What a register begins with is then written behind the call.
-    pub fn shift(&mut self, moves: &[bool])
-        requires { slice_index_or moves.now 0 false ≡ false }
+    /// Moves the values of registers: on by one place, where a register shifts, or over from another one, which stays. The
+    /// first register, in which cells rest, is none of them. What a register begins with is then written behind the call.
+    pub fn shift(&mut self, moves: &[Move])
+        requires { spec.CanMove self.old.layout moves.now }
         ensures { spec.IsShifted moves.now self.old self.new }
     {
         shift_rows(moves, &mut self.rows);

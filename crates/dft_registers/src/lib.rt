@@ -3,7 +3,9 @@
 
 mod cells;
 mod layout;
+mod moves;
 mod registers;
 
 pub use cells::Cells;
 pub use layout::Place;
+pub use moves::Move;

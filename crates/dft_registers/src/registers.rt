@@ -1,6 +1,7 @@
 //! Registers: the cells of one, in order, and their values.
 
-ghost use Rattle.std.specs.Prelude.{◌≡◌, ℕ, ◌<◌, ◌++◌, ◌∷◌, [], length, replicate, take, drop, ◌-◌, IfOk, OnOk, OnErr, slice_set, slice_index_or};
+ghost use Rattle.std.specs.Prelude.{◌≡◌, ℕ, ◌<◌, ◌≤◌, ◌+◌, ◌++◌, ◌∷◌, [], length, replicate, take, drop, ◌-◌, IfOk, OnOk, OnErr, slice_set, slice_index_or};
+ghost use Rattle.dft_registers.specs.Cells.{copied_row};
 
 use dft_base::Tri;
 use std::alloc::{AllocError, Global};
@@ -55,6 +56,17 @@ pub(crate) fn unknown(alloc: Global, count: usize) -> Result<Vec<Tri>, AllocErro
     vec![in alloc; Tri::Unknown; count]
 }
 
+// Copies, from a place on, the first of other values.
+fn copy_values(row: &mut [Tri], start: usize, source: &[Tri])
+    requires { length row.old ≤ start + length source.now }
+    ensures { row.new ≡ copied_row start row.old source.now }
+{
+    let count = row.len();
+    if start < count {
+        row[start..].copy_from_slice(&source[..count - start]);
+    }
+}
+
 // The values of a register's cells, in their order. A clause sees them as a list.
 #[derive(Drop)]
 pub(crate) struct Values {
@@ -105,5 +117,16 @@ impl Values {
         if !self.values.is_empty() {
             self.values.rotate_right(1);
         }
+    }
+
+    // Takes, from a place on, the first values of another register.
+    pub(crate) fn copy(&mut self, start: usize, source: &mut Values)
+        requires { length self.old ≤ start + length source.old }
+        ensures copied { self.new ≡ copied_row start self.old source.old }
+        ensures source { source.new ≡ source.old }
+    {
+        let values = source.values.make_contiguous();
+        let row = self.values.make_contiguous();
+        copy_values(row, start, values);
     }
 }

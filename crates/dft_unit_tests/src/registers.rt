@@ -1,5 +1,5 @@
 use dft_base::Tri;
-use dft_registers::Cells;
+use dft_registers::{Cells, Move};
 use std::alloc::{AllocError, Global};
 use std::test::Fail;
 
@@ -69,7 +69,7 @@ fn shift_as_chains(alloc: Global, shifts: usize) -> Result<bool, AllocError> {
     }
     for shift in 0..shifts {
         values = shifted(alloc, &values, value(shift / 2))?;
-        cells.shift(&[false, true]);
+        cells.shift(&[Move::Stays, Move::Shifts]);
         put(&mut cells, 0, value(shift / 2));
         if !are(&cells, &values) {
             return Ok(false);
@@ -82,5 +82,78 @@ fn shift_as_chains(alloc: Global, shifts: usize) -> Result<bool, AllocError> {
 fn registers_shift_as_chains(rt: HostRuntime) -> Result<(), Fail> {
     assert!(rt; shift_as_chains(rt.alloc(), 0)?, "none");
     assert!(rt; shift_as_chains(rt.alloc(), 25)?, "25");
+    Ok(())
+}
+
+// The cell before each: eight in a chain, and those from the ninth to the last in another one.
+fn two_chains(alloc: Global, last: u32) -> Result<Vec<Option<u32>>, AllocError> {
+    let mut before = Vec::new(alloc);
+    before.push(None)?;
+    for cell in 0..7u32 {
+        before.push(Some(cell))?;
+    }
+    before.push(None)?;
+    for cell in 8..last {
+        before.push(Some(cell))?;
+    }
+    Ok(before)
+}
+
+// The second register takes the values of the first one, at the same places or at the ones before. Whether it is short
+// enough for that.
+fn take_over(cells: &mut Cells, trails: bool) -> bool {
+    let first = cells.register(1).len();
+    let second = cells.register(2).len();
+    if trails {
+        if second == 0 || second - 1 > first {
+            return false;
+        }
+        cells.shift(&[Move::Stays, Move::Stays, Move::Trails(1)]);
+    } else {
+        if second > first {
+            return false;
+        }
+        cells.shift(&[Move::Stays, Move::Stays, Move::Copies(1)]);
+    }
+    true
+}
+
+// The values behind that, where the ninth cell has its own.
+fn taken_over(alloc: Global, count: usize, trails: bool) -> Result<Vec<Tri>, AllocError> {
+    let mut values = Vec::new(alloc);
+    for cell in 0..count {
+        let source = if cell < 9 {
+            cell
+        } else if trails {
+            cell - 9
+        } else {
+            cell - 8
+        };
+        values.push(value(source / 2))?;
+    }
+    Ok(values)
+}
+
+// Whether two chains are registers, and each cell has its value behind a move of the second one.
+fn take_as_told(alloc: Global, last: u32, trails: bool) -> Result<bool, AllocError> {
+    let before = two_chains(alloc, last)?;
+    let mut cells = Cells::new(alloc, &before)?;
+    for cell in 0..before.len() {
+        put(&mut cells, cell, value(cell / 2));
+    }
+    if cells.registers() != 3 || !take_over(&mut cells, trails) {
+        return Ok(false);
+    }
+    put(&mut cells, 8, value(4));
+    let values = taken_over(alloc, before.len(), trails)?;
+    Ok(are(&cells, &values))
+}
+
+#[test]
+fn registers_take_from_others(rt: HostRuntime) -> Result<(), Fail> {
+    assert!(rt; take_as_told(rt.alloc(), 15, false)?, "copies");
+    assert!(rt; take_as_told(rt.alloc(), 15, true)?, "trails");
+    assert!(rt; take_as_told(rt.alloc(), 16, true)?, "trails, one longer");
+    assert!(rt; !take_as_told(rt.alloc(), 16, false)?, "too long");
     Ok(())
 }

@@ -1,13 +1,12 @@
 -- One flip-flop more is listed, unless it is left out.
 use Rattle.std.proofs.Common.{ℕ, true, ◌≡◌, ◌<◌, ◌∙◌, ◌+◌, List, length, map, sym, subst, arith}
-use Rattle.std.specs.Prelude.{nat_lt, if◌then◌else◌}
 use Rattle.dft_registers.specs.declared.layout.Place.{Place}
 use Rattle.dft_registers.specs.Layout.{Layout, place_at}
-use Rattle.dft_registers.specs.Cells.{course}
+use Rattle.dft_registers.specs.Cells.{move_at, course}
 use Rattle.dft_logic.specs.EntryTables.{entry_at}
-use Rattle.dft_logic.specs.Takings.{IsLeft}
+use Rattle.dft_logic.specs.Takings.{is_left, IsLeft}
 use Rattle.dft_logic.specs.declared.takings.Taking.{Taking}
-use Rattle.dft_logic.specs.Circuit.{cell_of, cell_at, flag_at}
+use Rattle.dft_logic.specs.Circuit.{cell_of, cell_at}
 use Rattle.dft_logic.proofs.TakingLemmas.{IsLaidAt, Taken, taken_left, taken_more, left_out}
 use Rattle.dft_logic.proofs.takings.list_takings.Goals as goal
 use Rattle.dft_logic.proofs.takings.list_takings.Goals.{then-not-is_left, else-not-is_left}
@@ -21,7 +20,7 @@ loop-place-preserved c =
     let left : c.is_left.result ≡ true → IsLeft (cell_at (map cell_of c.args.flops.now) place) (entry_at c.args.entries.now place) (course l c.args.moves.now place) = λ up.
     left_out c.args.flops.now c.args.entries.now l c.args.moves.now place _ _ c.is_idle-idle.result here c.loop-place-test.true c.requires.moves
     (subst (λ (p : Place). IsLaidAt l p place) at (record { rest = c.place.ensures.rest; within = c.place.ensures.within; here = c.place.ensures.here }))
-    c.is_idle-idle.ensures (subst (λ (p : Place). (if flag_at c.args.moves.now p.register then nat_lt 0 p.index else c.is_idle-idle.result) ≡ true) at (sym c.is_left.ensures ∙ up)) in
+    c.is_idle-idle.ensures (subst (λ (p : Place). is_left (move_at c.args.moves.now p.register) p.index c.is_idle-idle.result ≡ true) at (sym c.is_left.ensures ∙ up)) in
     let P : List Taking → Type 0 = λ l. Taken (cell_at (map cell_of c.args.flops.now)) c.args.entries.now (course c.args.cells.now.layout c.args.moves.now) l (place + 1) in
     elim c.if-not-is_left.branch [
       | then-not-is_left w ↦ rw w.takings-is (

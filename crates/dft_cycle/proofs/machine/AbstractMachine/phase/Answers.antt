@@ -8,6 +8,8 @@ use Rattle.dft_cycle.specs.Machine.{Machine, logic, value_at, pulses, IsPhase}
 use Rattle.dft_logic.specs.Circuit.{flag_at}
 use Rattle.dft_cycle.specs.Views.{Among}
 use Rattle.dft_registers.specs.Layout.{Layout}
+use Rattle.dft_registers.specs.declared.moves.Move.{Move}
+use Rattle.dft_registers.specs.Cells.{CanMove}
 use Rattle.dft_logic.specs.declared.takings.Taking.{Taking}
 use Rattle.dft_logic.specs.Takings.{taking_at}
 use Rattle.dft_cycle.specs.Plans.{ArePlans, IsFound, IsPassed}
@@ -53,13 +55,13 @@ put_all-requires-clause-row c =
     plan_found d.circuit p d.cells c.find-found.new.self.plans.items c.in-Some.place c.index-plan.result.now c.index-plan.result.now c.find-found.new.row c.in-Some.ensures.live c.index-plan.ensures c.in-Some.ensures.found in
     omega (arith, ap length c.deref-in-Some.ensures.value, ap length c.deref-in-Some-2.ensures.value, refilled d.search.next c.find-found.new.row, i.search.next, found.few)
 
-pub put_all-requires-clause-rest : goal.put_all-requires-clause-rest
-put_all-requires-clause-rest c =
+pub put_all-requires-clause-can : goal.put_all-requires-clause-can
+put_all-requires-clause-can c =
     let d = c.self.inside in
     let p : Pulse = record { rising = c.args.rising; ports = value_at c.deref-2.result.now; pulsed = flag_at c.deref-3.result.now; old = value_at d.cells.values } in
     let found : IsFound d.circuit p d.cells c.index-plan.result.now c.find-found.new.row =
     plan_found d.circuit p d.cells c.find-found.new.self.plans.items c.in-Some.place c.index-plan.result.now c.index-plan.result.now c.find-found.new.row c.in-Some.ensures.live c.index-plan.ensures c.in-Some.ensures.found in
-    ap (λ (l : List Bool). flag_at l 0) c.deref-in-Some-3.ensures.value ∙ found.rest
+    subst (λ (l : List Move). CanMove d.cells.layout l) (sym c.deref-in-Some-3.ensures.value) found.can
 
 pub invariant_of-self : goal.invariant_of-self
 unfolding logic

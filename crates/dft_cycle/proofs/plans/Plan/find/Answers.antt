@@ -9,7 +9,7 @@ pub returns : goal.returns
 returns c = λ yes.
     (let made = c.requires.plan.made (c.is_made.ensures c.if-not-is_made.false) in
     record {
-      rest = made.rest;
+      can = made.can;
       few = made.takings.few;
       live = made.takings.live;
       passed = λ new put.

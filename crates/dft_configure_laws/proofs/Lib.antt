@@ -1,0 +1,4 @@
+pub mod FewLemmas
+pub mod MadeLemmas
+pub mod TakenLemmas
+pub mod ScanLemmas

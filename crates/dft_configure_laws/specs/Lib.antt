@@ -1,0 +1,4 @@
+pub mod Pairs
+pub mod MadeLoads
+pub mod Taken
+pub mod MadeScans

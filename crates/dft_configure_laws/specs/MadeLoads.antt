@@ -1,0 +1,30 @@
+-- What the loads of made configurations bring to the netlists that are made with them.
+use Rattle.std.specs.Prelude.{ℕ, ◌≡◌, Bool, List, Some, slice_get}
+use Rattle.dft_netlist.specs.declared.ids.InstanceId.{InstanceId}
+use Rattle.dft_netlist.specs.Logic.{Ports}
+use Rattle.dft_netlist.specs.Netlist.{Netlist}
+use Rattle.dft_config.specs.Ring.{Table}
+use Rattle.dft_stitch.specs.Chains.{plan_of}
+use Rattle.dft_cubes.specs.declared.cube.Cube.{Cube}
+use Rattle.dft_merge.specs.declared.placed.Placed.{Placed}
+use Rattle.dft_merge.specs.Laws.{IsUnsolvable}
+use Rattle.dft_scan_frame.specs.Statements.{IsReady}
+use Rattle.dft_scan_behavior.specs.EdtVectors.{SuitsEdt}
+use Rattle.dft_load_laws.specs.Loading.{LoadsAlways}
+use Rattle.dft_encode.specs.Compiled.{Placing}
+use Rattle.dft_configuring.specs.declared.configuring.Configured.{Configured}
+use Rattle.dft_configuring.specs.declared.wanted.Wanted.{Wanted}
+use Rattle.dft_configuring.specs.Configured.{IsConfigured}
+use Rattle.dft_configure_laws.specs.Pairs.{AreFew}
+
+-- Under a made configuration some channel bits load any care bits of one scanned cell, or of two, in every run.
+abbrev pub MadeLoads : Type 0
+MadeLoads =
+    (n : Netlist) (wanted : Wanted) (configured : Configured) (ports : Ports) (cells : List (InstanceId × Bool)) → IsReady n configured.config → SuitsEdt n configured.config ports → IsConfigured n wanted configured →
+    AreFew n configured.config cells → (table : Table) × LoadsAlways n configured.config ports table cells
+
+-- And a compilation of any cubes never tells one of them as unsolvable.
+abbrev pub NoneIsUnsolvable : Type 0
+NoneIsUnsolvable =
+    (n : Netlist) (wanted : Wanted) (configured : Configured) (cubes : List Cube) (placing : Placing configured.config (plan_of n configured.config) cubes) (c : ℕ) (cube : Cube) (placed : Placed) →
+    IsReady n configured.config → IsConfigured n wanted configured → slice_get cubes c ≡ Some cube → slice_get placing.placed c ≡ Some placed → AreFew n configured.config cube.cells → IsUnsolvable placed → ⊥

@@ -1,0 +1,16 @@
+pub mod CheckLemmas
+pub mod Counted
+pub mod FitSizes
+pub mod GroupsRange
+pub mod NameLemmas
+pub mod NamesRange
+pub mod Numbers
+pub mod OneLemmas
+pub mod PlanLemmas
+pub mod Ranks
+pub mod RingRange
+pub mod RootsApart
+pub mod RootsRange
+pub mod RuleLemmas
+pub mod SearchLemmas
+pub mod Writable

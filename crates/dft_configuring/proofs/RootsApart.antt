@@ -1,0 +1,197 @@
+-- No reset of a netlist is one of its clocks: some flip-flop takes it as data.
+use Rattle.std.proofs.Common.{◌≡◌, ℕ, ◌<◌, ◌==◌, Bool, true, false, not, ◌&&◌, ◌||◌, List, [], ◌∷◌, length, Option, None, Some, slice_get, refl, sym, ◌∙◌, ap}
+use Rattle.std.specs.Prelude.{nat_lt, if◌then◌else◌}
+use Rattle.std.specs.List.{All, AllByRecursion, list_any, range_with_len}
+use Rattle.std.specs.Str.{bytes_eq}
+use Rattle.std.proofs.lemmas.Bool.{eq-eqb, eqb-true}
+use Rattle.std.proofs.lemmas.List.Elements.{All-from_recursion}
+use Rattle.std.proofs.lemmas.Map.Keys.{any_passes_from_place}
+use Rattle.dft_cells.specs.declared.kind.Kind.{Kind}
+use Rattle.dft_cells.specs.declared.kind.Kind.TheVariants.{Buf, Inv, And, Nand, Or, Nor, Xor, Xnor, Mux2, Table, Tie0, Tie1, Dff, Dffr, Dffs, Sdff, Sdffr, Sdffs, Lockup, Opaque}
+use Rattle.dft_cells.specs.declared.kind.Role.{Role}
+use Rattle.dft_cells.specs.declared.kind.Role.TheVariants as role
+use Rattle.dft_config.specs.Range.{has}
+use Rattle.dft_netlist.specs.declared.instance.Instance.{Instance}
+use Rattle.dft_netlist.specs.declared.instance.Signal.{Signal}
+use Rattle.dft_netlist.specs.declared.instance.Signal.TheVariants as signal
+use Rattle.dft_netlist.specs.Netlist.{Netlist}
+use Rattle.dft_netlist.specs.Drivers.{Connection, Loose, Net, Source, Tied, connections_of, kind_at, kind_of, pins_at, pins_of, shape_of, source_of}
+use Rattle.dft_netlist.specs.ClockRoots.{ClockRoot}
+use Rattle.dft_netlist.specs.Logic.{pin_of, same_role}
+use Rattle.dft_netlist.specs.Sound.{IsNetlist}
+use Rattle.dft_netlist.specs.Traces.{Root, Port, Constant, Other, root_of, root_of_driver, root_within}
+use Rattle.dft_netlist.proofs.ClockWalks.{traced_clock}
+use Rattle.dft_netlist.proofs.GateDrivers.{driven_live}
+use Rattle.dft_rules.specs.Refusals.{is_data_of, is_joined_to, takes, takes_data, uses_data}
+use Rattle.dft_rules.specs.Rules.{may_be_scanned}
+use Rattle.dft_configure.specs.Roots.{can_hold, clean_clock, domains_of, hold_root, is_among, is_clean, is_fit, is_port, is_tapped, open_clock, open_reset, open_resets, port_of_clock, port_of_root, port_shown, resets_of, root_of_either, uses}
+use Rattle.dft_configure.proofs.GoodLemmas.{some_passes}
+use Rattle.dft_configure.proofs.ScannedLemmas.{domain_clean, one_counted, used}
+use Rattle.dft_configuring.specs.Rooted.{clock_names, names_of_nets, reset_names}
+use Rattle.dft_configuring.proofs.RootsRange.{among_first, among_later, domains_live, none_has, resets_live}
+
+-- ---- a reset pin takes its net as data
+
+scanned_uses : (kind : Kind) → may_be_scanned kind ≡ true → uses_data kind ≡ true
+scanned_uses Buf is = absurd cc
+scanned_uses Inv is = absurd cc
+scanned_uses And is = absurd cc
+scanned_uses Nand is = absurd cc
+scanned_uses Or is = absurd cc
+scanned_uses Nor is = absurd cc
+scanned_uses Xor is = absurd cc
+scanned_uses Xnor is = absurd cc
+scanned_uses Mux2 is = absurd cc
+scanned_uses (Table number) is = absurd cc
+scanned_uses Tie0 is = absurd cc
+scanned_uses Tie1 is = absurd cc
+scanned_uses Dff is = refl
+scanned_uses Dffr is = refl
+scanned_uses Dffs is = refl
+scanned_uses Sdff is = absurd cc
+scanned_uses Sdffr is = absurd cc
+scanned_uses Sdffs is = absurd cc
+scanned_uses Lockup is = absurd cc
+scanned_uses Opaque is = absurd cc
+
+reset_data : (r : Role) → same_role role.Reset r ≡ true → takes_data r ≡ true
+reset_data role.Input is = absurd cc
+reset_data role.Clock is = absurd cc
+reset_data role.Din is = absurd cc
+reset_data role.Reset is = refl
+reset_data role.Preset is = absurd cc
+reset_data role.ScanIn is = absurd cc
+reset_data role.ScanEnable is = absurd cc
+reset_data role.Output is = absurd cc
+reset_data role.Inverted is = absurd cc
+
+preset_data : (r : Role) → same_role role.Preset r ≡ true → takes_data r ≡ true
+preset_data role.Input is = absurd cc
+preset_data role.Clock is = absurd cc
+preset_data role.Din is = absurd cc
+preset_data role.Reset is = absurd cc
+preset_data role.Preset is = refl
+preset_data role.ScanIn is = absurd cc
+preset_data role.ScanEnable is = absurd cc
+preset_data role.Output is = absurd cc
+preset_data role.Inverted is = absurd cc
+
+abbrev net_in : Option Source → ℕ
+net_in (Some (Net net)) = net
+net_in (Some (Tied bit)) = 0
+net_in (Some (Loose instance pin)) = 0
+net_in None = 0
+
+abbrev is_net : Option Source → Bool
+is_net (Some (Net net)) = true
+is_net (Some (Tied bit)) = false
+is_net (Some (Loose instance pin)) = false
+is_net None = false
+
+joined : (i pin net : ℕ) (to : Signal) → Some (source_of i pin to) ≡ Some (Net net) → is_joined_to net to ≡ true
+joined i pin net (signal.Net other) is = eq-eqb other.0 net (ap net_in is)
+joined i pin net (signal.Constant bit) is = let never : false ≡ true = ap is_net is in absurd cc
+joined i pin net signal.Unconnected is = let never : false ≡ true = ap is_net is in absurd cc
+
+pin_taken : (r : Role) (taken : (other : Role) → same_role r other ≡ true → takes_data other ≡ true) (i net : ℕ) (cs : List Connection) → pin_of r i cs ≡ Some (Net net) → list_any (takes net) cs ≡ true
+pin_taken r taken i net [] is = let never : false ≡ true = ap is_net is in absurd cc
+pin_taken r taken i net (c ∷ cs) is = by (same_role r c.role) refl is (pin_taken r taken i net cs)
+  where
+    or_left : (a b : Bool) → a ≡ true → (a || b) ≡ true
+    or_left a b e = ap (λ (t : Bool). t || b) e
+
+    or_right : (a b : Bool) → b ≡ true → (a || b) ≡ true
+    or_right true b e = refl
+    or_right false b e = e
+
+    by : (t : Bool) → same_role r c.role ≡ t → (if t then Some (source_of i c.pin c.to) else pin_of r i cs) ≡ Some (Net net) → (pin_of r i cs ≡ Some (Net net) → list_any (takes net) cs ≡ true) → (takes net c || list_any (takes net) cs) ≡ true
+    by true same at later = or_left (takes net c) (list_any (takes net) cs) (λ j. taken c.role same j && joined i c.pin net c.to at j)
+    by false same at later = or_right (takes net c) (list_any (takes net) cs) (later at)
+
+-- ---- the net of a root is a net
+
+no_port : (net : ℕ) (r : Root) → r ≡ Other → r ≡ Port net → ⊥
+no_port net r other port = absurd cc
+
+port_live : (n : Netlist) (net port : ℕ) → IsNetlist n → root_of n (Net net) ≡ Port port → net < length n.nets
+port_live n net port sound is = driven_live n net sound (λ free. no_port port (root_of n (Net net)) (ap (root_of_driver (root_within n (length n.nets)) net) free) is)
+
+-- ---- so a reset is not clean
+
+none_clean : (live any : Bool) → any ≡ true → (live && not any) ≡ false
+none_clean true any is = ap not is
+none_clean false any is = refl
+
+tapped : (n : Netlist) (r : Role) (taken : (other : Role) → same_role r other ≡ true → takes_data other ≡ true) (i port : ℕ) (source : Source) (o : Option Instance) →
+    IsNetlist n → slice_get n.instances i ≡ o → may_be_scanned (kind_at n i) ≡ true → pin_of r i (pins_at n.library o) ≡ Some source → root_of n source ≡ Port port → is_clean n port ≡ false
+unfolding is_clean
+tapped n r taken i port source None sound at may pin root = absurd cc
+tapped n r taken i port (Tied bit) (Some x) sound at may pin root = absurd cc
+tapped n r taken i port (Loose instance loose) (Some x) sound at may pin root = absurd cc
+tapped n r taken i port (Net net) (Some x) sound at may pin root =
+    let kind : may_be_scanned (shape_of n.library x.cell).kind ≡ true = ap (λ (o : Option Instance). may_be_scanned (kind_of n.library o)) (sym at) ∙ may in
+    let data_of : is_data_of n.library net x ≡ true = (λ j. scanned_uses (shape_of n.library x.cell).kind kind j && pin_taken r taken i net (connections_of n.library x) pin j) in
+    let any : list_any (is_data_of n.library net) n.instances ≡ true = any_passes_from_place (is_data_of n.library net) n.instances i x at data_of in
+    let shown : is_port port (port_shown n (Net net)) ≡ true = ap (λ (o : Option ClockRoot). is_port port (port_of_clock o)) (traced_clock n (Net net) port root) ∙ eq-eqb port port refl in
+    let is : is_tapped n port net ≡ true = (λ j. shown j && any j) in
+    none_clean (nat_lt port (length n.nets)) (list_any (is_tapped n port) (range_with_len 0 (length n.nets))) (some_passes (is_tapped n port) (length n.nets) net (port_live n net port sound root) is)
+
+port_root : (port : ℕ) (r : Root) → is_port port (port_of_root (Some r)) ≡ true → r ≡ Port port
+port_root port (Port net) at = ap Port (eqb-true net port at)
+port_root port (Constant bit) at = absurd cc
+port_root port Other at = absurd cc
+
+held_unclean : (n : Netlist) (i port : ℕ) (reset preset : Option Source) → IsNetlist n → may_be_scanned (kind_at n i) ≡ true → pin_of role.Reset i (pins_of n i) ≡ reset → pin_of role.Preset i (pins_of n i) ≡ preset →
+    is_port port (port_of_root (root_of_either n reset preset)) ≡ true → is_clean n port ≡ false
+held_unclean n i port (Some source) preset sound may is_reset is_preset at = tapped n role.Reset reset_data i port source (slice_get n.instances i) sound refl may is_reset (port_root port (root_of n source) at)
+held_unclean n i port None (Some source) sound may is_reset is_preset at = tapped n role.Preset preset_data i port source (slice_get n.instances i) sound refl may is_preset (port_root port (root_of n source) at)
+held_unclean n i port None None sound may is_reset is_preset at = absurd cc
+
+then_port : (port : ℕ) (o : Option ℕ) (b : Bool) → is_port port (if b then o else None) ≡ true → (b ≡ true) × (is_port port o ≡ true)
+then_port port o true at = (refl, at)
+then_port port o false at = absurd cc
+
+then_among : (domains : List ℕ) (o : Option ℕ) (b : Bool) → is_among domains (if b then o else None) ≡ true → b ≡ true
+then_among domains o true at = refl
+then_among domains o false at = absurd cc
+
+left_true : (a b : Bool) → (a && b) ≡ true → a ≡ true
+left_true true b is = refl
+left_true false b is = absurd cc
+
+open_judged : (n : Netlist) (domains : List ℕ) (i : ℕ) → is_among domains (open_clock n i) ≡ true → may_be_scanned (kind_at n i) ≡ true
+unfolding open_clock
+open_judged n domains i among = left_true _ _ (left_true _ _ (then_among domains (clean_clock n i) (is_fit n i && can_hold (hold_root n i)) among))
+
+reset_unclean : (n : Netlist) (port : ℕ) → IsNetlist n → is_among (resets_of n (domains_of n)) (Some port) ≡ true → is_clean n port ≡ false
+unfolding resets_of
+reset_unclean n port sound among =
+    let some = one_counted (open_reset n (domains_of n)) (is_port port) (range_with_len 0 (length n.instances)) (used (uses (open_resets n (domains_of n))) (length n.nets) port among) in
+    let i = some.0 in
+    let at = then_port port (port_of_root (hold_root n i)) (is_among (domains_of n) (open_clock n i)) some.1 in
+    held_unclean n i port (pin_of role.Reset i (pins_of n i)) (pin_of role.Preset i (pins_of n i)) sound (open_judged n (domains_of n) i at.0) refl refl at.1
+
+reset_no_clock : (n : Netlist) (port : ℕ) → IsNetlist n → is_among (resets_of n (domains_of n)) (Some port) ≡ true → is_among (domains_of n) (Some port) ≡ false
+reset_no_clock n port sound among = by (is_among (domains_of n) (Some port)) refl
+  where
+    by : (b : Bool) → is_among (domains_of n) (Some port) ≡ b → is_among (domains_of n) (Some port) ≡ false
+    by true is = let never : true ≡ false = sym (domain_clean n port is) ∙ reset_unclean n port sound among in absurd cc
+    by false is = is
+
+-- ---- by name
+
+any_has : (k : ℕ) (xs : List ℕ) → has (λ a b. a == b) xs k ≡ list_any (λ other. other == k) xs
+any_has k [] = refl
+any_has k (x ∷ xs) = ap (λ (b : Bool). (x == k) || b) (any_has k xs)
+
+apart_all : (n : Netlist) (nets : List ℕ) → IsNetlist n → AllByRecursion (λ k. k < length n.nets) nets → ((k : ℕ) → is_among nets (Some k) ≡ true → is_among (domains_of n) (Some k) ≡ false) →
+    AllByRecursion (λ reset. has bytes_eq (names_of_nets n (domains_of n)) reset ≡ false) (names_of_nets n nets)
+apart_all n [] sound lives apart = tt
+apart_all n (x ∷ xs) sound lives apart =
+    (none_has n x (domains_of n) sound lives.0 (domains_live n) (any_has x (domains_of n) ∙ apart x (among_first x xs)), apart_all n xs sound lives.1 (λ k is. apart k (among_later x k xs is)))
+
+pub apart : (n : Netlist) → IsNetlist n → All (λ reset. has bytes_eq (clock_names n) reset ≡ false) (reset_names n)
+unfolding clock_names reset_names
+apart n sound =
+    All-from_recursion (λ reset. has bytes_eq (names_of_nets n (domains_of n)) reset ≡ false) (names_of_nets n (resets_of n (domains_of n)))
+    (apart_all n (resets_of n (domains_of n)) sound (resets_live n) (λ k is. reset_no_clock n k sound is))

@@ -1,0 +1,22 @@
+-- The text is read as what was made.
+use Rattle.std.proofs.Common.{◌≡◌, ◌<◌, ◌≤◌, ◌^◌, ◌∙◌, ℕ, List, length, arith, subst}
+use Rattle.dft_config.specs.Refusals.{IsConfig}
+use Rattle.dft_config_out.specs.Written.{made_text}
+use Rattle.dft_configuring.proofs.reading.write_made.Goals as goal
+
+pub returns-in-Ok : goal.returns-in-Ok
+returns-in-Ok c =
+    let cells = c.args.cells in
+    let made = c.args.made.now in
+    let config = c.in-Ok.config in
+    let bytes = c.deref.result.now in
+    let low : cells < 2 ^ 32 = omega arith in
+    let text : bytes ≡ made_text cells made = c.deref.ensures.value ∙ c.in_ok-text.ensures in
+    let read : IsConfig bytes config = c.in-Ok.ensures.config in
+    let short : length bytes ≤ 67108864 = c.in-Ok.ensures.short in
+    record {
+      config = c.text_is_read.ensures.other cells made config low c.requires (subst (λ (l : List ℕ). IsConfig l config) text read);
+      text = c.in_ok-text.ensures;
+      read = subst (λ (l : List ℕ). IsConfig l config) c.deref.ensures.value read;
+      short = subst (λ (l : List ℕ). length l ≤ 67108864) c.deref.ensures.value short;
+    }

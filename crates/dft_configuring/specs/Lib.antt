@@ -1,0 +1,11 @@
+pub mod Wanted
+pub mod Rooted
+pub mod Names
+pub mod Made
+pub mod Searching
+pub mod Told
+pub mod Causes
+pub mod Steps
+pub mod Refusals
+pub mod Counted
+pub mod Configured

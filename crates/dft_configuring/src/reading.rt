@@ -1,0 +1,69 @@
+//! Texts of made configurations, and what they are read as.
+
+ghost use Rattle.std.specs.Prelude.{◌≡◌, ◌≤◌, IfOk, length};
+ghost use Rattle.dft_config.specs.Refusals.{IsConfig};
+ghost use Rattle.dft_config_out_laws.specs.Tables.{IsWritable};
+ghost use Rattle.dft_configuring.specs.Steps.{IsWritten};
+
+use dft_config::{Config, ConfigError};
+use dft_config_out::{Made, made_text};
+use dft_config_out_laws::text_is_read;
+use std::alloc::{AllocError, Global};
+
+// The longest text that is read as a configuration.
+const MAX_TEXT: usize = 67_108_864;
+
+// A configuration with its text.
+#[derive(Debug, Drop)]
+pub(crate) struct Written {
+    pub(crate) config: Config,
+    pub(crate) text: Vec<u8>,
+}
+
+impl Written {
+    // The configuration.
+    pub(crate) fn config(&self) -> &Config
+        ensures { result.now ≡ self.now.config }
+    {
+        &self.config
+    }
+
+    // The configuration alone.
+    pub(crate) fn into_config(self) -> Config
+        ensures { result ≡ self.config }
+    {
+        self.config
+    }
+}
+
+// The configuration that a text gives; a text that is too long to be read is as one for which there is no memory.
+fn read_text(alloc: Global, text: &[u8]) -> Result<Config, ConfigError>
+    ensures config { IfOk result (IsConfig text.now) }
+    ensures short { IfOk result (λ config. length text.now ≤ 67108864) }
+{
+    if text.len() > MAX_TEXT {
+        return Err(ConfigError::Memory(AllocError));
+    }
+    Config::read(alloc, text)
+}
+
+// The want of memory for which a text is refused; `text_is_read` says that nothing else refuses it.
+fn for_memory(error: ConfigError) -> AllocError {
+    match error {
+        ConfigError::Memory(error) => error,
+        _ => AllocError,
+    }
+}
+
+// The text of a made configuration for so many flip-flops, and the configuration that it is read as.
+pub(crate) fn write_made(alloc: Global, cells: u32, made: &Made) -> Result<Written, AllocError>
+    requires { IsWritable made.now }
+    ensures { IfOk result (IsWritten cells made.now) }
+{
+    text_is_read();
+    let text = made_text(alloc, cells, made)?;
+    match read_text(alloc, &text) {
+        Ok(config) => Ok(Written { config, text }),
+        Err(error) => Err(for_memory(error)),
+    }
+}
