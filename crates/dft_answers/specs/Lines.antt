@@ -4,8 +4,9 @@ use Rattle.std.specs.Fmt.{decimal, signed_decimal}
 use Rattle.dft_base.specs.declared.place.Place.{Place}
 use Rattle.dft_scan.specs.declared.texts.Counts.{Counts}
 use Rattle.dft_compile.specs.declared.texts.Counts as compiled
+use Rattle.dft_configuring.specs.declared.counting.MadeCounts.{MadeCounts}
 use Rattle.dft_answers.specs.declared.answer.Code.{Code}
-use Rattle.dft_answers.specs.declared.answer.Code.TheVariants.{F1, L1, L2, L3, L4, L5, L6, L7, C1, C2, C3, C4, C5, C6, V1, V2, V3, V4, V5, V6, V7, V8, V9, V10, V11, V12, H1, H2, H3, H4, H5, N1, N2, N3, N4, G1, G2, G3, G4, G5, G6, G7, P1, P2, P3, P4, P5, P6, P7, P8, P9, P10, Q1, Q2, Q3, Q4, Q5, Q6, Q7, Q8, Q9, K1, K2, K3, K4, K5, K6}
+use Rattle.dft_answers.specs.declared.answer.Code.TheVariants.{F1, L1, L2, L3, L4, L5, L6, L7, C1, C2, C3, C4, C5, C6, V1, V2, V3, V4, V5, V6, V7, V8, V9, V10, V11, V12, H1, H2, H3, H4, H5, N1, N2, N3, N4, G1, G2, G3, G4, G5, G6, G7, P1, P2, P3, P4, P5, P6, P7, P8, P9, P10, Q1, Q2, Q3, Q4, Q5, Q6, Q7, Q8, Q9, K1, K2, K3, K4, K5, K6, X2, X3, X4}
 use Rattle.dft_answers.specs.declared.answer.Refusal.{Refusal}
 use Rattle.dft_answers.specs.declared.outcome.Outcome.{Outcome}
 use Rattle.dft_answers.specs.declared.outcome.Outcome.TheVariants.{Usage, Refused, Finished}
@@ -82,6 +83,9 @@ code_text K3 = codes "K3"
 code_text K4 = codes "K4"
 code_text K5 = codes "K5"
 code_text K6 = codes "K6"
+code_text X2 = codes "X2"
+code_text X3 = codes "X3"
+code_text X4 = codes "X4"
 
 -- ---- the parts of a refusal, each behind a blank
 
@@ -101,7 +105,7 @@ number_part (Some number) = codes " " ++ signed_decimal number
 -- ---- lines
 
 abbrev pub usage_line : List ℕ
-usage_line = codes "usage: dft replay, scan, compile, certify, generate or grade, each option once as --name value\n"
+usage_line = codes "usage: dft replay, scan, compile, certify, generate, grade or configure, each option once as --name value\n"
 
 abbrev pub refused_line : Refusal → List ℕ
 refused_line refusal =
@@ -140,6 +144,24 @@ abbrev pub graded_line : (faults detected undetected : ℕ) → List ℕ
 graded_line faults detected undetected =
     codes "graded faults " ++ (decimal faults ++ (codes " detected " ++ (decimal detected ++ (codes " undetected " ++ (decimal undetected ++ codes "\n")))))
 
+-- the flip-flops, the clocks and the resets of a made configuration
+abbrev pub flip_flop_part : MadeCounts → List ℕ
+flip_flop_part counts =
+    codes "configured cells " ++ (decimal counts.cells ++ (codes " unscanned " ++ (decimal counts.unscanned ++ (codes " domains " ++ (decimal counts.domains ++ (codes " resets " ++ decimal counts.resets))))))
+
+-- its chains, the cells of the longest, the stages of the ring and the channels
+abbrev pub chain_part : MadeCounts → List ℕ
+chain_part counts =
+    codes " chains " ++ (decimal counts.chains ++ (codes " longest " ++ (decimal counts.longest ++ (codes " stages " ++ (decimal counts.stages ++ (codes " channels " ++ decimal counts.channels))))))
+
+-- the outputs, the masks, the warm cycles and those of a load
+abbrev pub output_part : MadeCounts → List ℕ
+output_part counts =
+    codes " outputs " ++ (decimal counts.outputs ++ (codes " masks " ++ (decimal counts.masks ++ (codes " warm " ++ (decimal counts.warm ++ (codes " cycles " ++ decimal counts.cycles))))))
+
+abbrev pub configured_line : MadeCounts → List ℕ
+configured_line counts = flip_flop_part counts ++ (chain_part counts ++ (output_part counts ++ codes "\n"))
+
 -- what a replay comes to
 abbrev pub replayed_line : Replayed → List ℕ
 replayed_line (replayed.Passed vectors compared) = passed_line vectors compared
@@ -158,6 +180,7 @@ work_line (work.Compiled counts netlist patterns report) = compiled_line counts
 work_line (work.Certified unsolvable) = certified_line unsolvable
 work_line (work.Generated counts replay) = generated_lines counts replay
 work_line (work.Graded faults detected undetected report) = graded_line faults detected undetected
+work_line (work.Configured counts text) = configured_line counts
 
 abbrev pub line_of : Outcome → List ℕ
 line_of Usage = usage_line

@@ -35,12 +35,16 @@ use Rattle.dft_cubes.specs.declared.error.CubeError.{CubeError}
 use Rattle.dft_cubes.specs.declared.error.CubeError.TheVariants as cube
 use Rattle.dft_compile.specs.declared.error.CompileError.{CompileError}
 use Rattle.dft_compile.specs.declared.error.CompileError.TheVariants as compile
+use Rattle.dft_configuring.specs.declared.error.ConfigureError.{ConfigureError}
+use Rattle.dft_configuring.specs.declared.error.ConfigureError.TheVariants as configure
+use Rattle.dft_configuring.specs.declared.error.Limited.{Limited}
+use Rattle.dft_configuring.specs.declared.error.Limited.TheVariants as limited
 use Rattle.dft_report_reader.specs.declared.error.ReadError.{ReadError}
 use Rattle.dft_report_reader.specs.declared.error.ReadError.TheVariants as read
 use Rattle.dft_certify.specs.declared.error.CertifyError.{CertifyError}
 use Rattle.dft_certify.specs.declared.error.CertifyError.TheVariants as certify
 use Rattle.dft_answers.specs.declared.answer.Code.{Code}
-use Rattle.dft_answers.specs.declared.answer.Code.TheVariants.{L1, L2, L3, L4, L5, L6, L7, C1, C2, C3, C4, C5, C6, V1, V2, V3, V4, V5, V6, V7, V8, V9, V10, V11, V12, H1, H2, H3, H4, H5, N1, N2, N3, N4, G1, G2, G3, G4, G5, G6, G7, P1, P2, P3, P4, P5, P6, P8, P9, P10, Q1, Q2, Q3, Q4, Q5, Q6, Q7, Q8, Q9, K1, K2, K3, K4, K5, K6}
+use Rattle.dft_answers.specs.declared.answer.Code.TheVariants.{L1, L2, L3, L4, L5, L6, L7, C1, C2, C3, C4, C5, C6, V1, V2, V3, V4, V5, V6, V7, V8, V9, V10, V11, V12, H1, H2, H3, H4, H5, N1, N2, N3, N4, G1, G2, G3, G4, G5, G6, G7, P1, P2, P3, P4, P5, P6, P8, P9, P10, Q1, Q2, Q3, Q4, Q5, Q6, Q7, Q8, Q9, K1, K2, K3, K4, K5, K6, X2, X3, X4}
 use Rattle.dft_answers.specs.declared.answer.Refusal.{Refusal}
 
 -- ---- refusals by their parts
@@ -203,6 +207,22 @@ compile_refusal (compile.Insert error) = insert_refusal error
 compile_refusal (compile.Patterns error) = stil_refusal error
 compile_refusal (compile.Report error) = report_refusal error
 compile_refusal (compile.Memory error) = None
+
+-- ---- the refusal of a made configuration
+
+abbrev pub limited_text : Limited → List ℕ
+limited_text limited.Chains = codes "chains"
+limited_text limited.Outputs = codes "outputs"
+limited_text limited.Masks = codes "masks"
+
+abbrev pub configure_refusal : ConfigureError → Option Refusal
+configure_refusal configure.NoClock = Some (plain X2)
+configure_refusal (configure.TooMany what most) = Some (numbered X3 (limited_text what) most)
+configure_refusal (configure.Rules error) = rule_refusal error
+configure_refusal configure.NoRing = Some (plain X4)
+configure_refusal (configure.Stitch error) = stitch_refusal error
+configure_refusal (configure.Insert error) = insert_refusal error
+configure_refusal (configure.Memory error) = None
 
 -- ---- the refusal of a test of certificates
 

@@ -7,8 +7,8 @@ use dft_base::{Name, Place};
 /// How a command ended.
 #[derive(Clone, Copy, Debug, PartialEq, Eq)]
 pub enum Status {
-    /// It did what it is for: patterns passed, those of a generated job among them; the files of a scan, of a compilation or of a
-    /// grading are saved; or a report's certificates hold.
+    /// It did what it is for: patterns passed, those of a generated job among them; the files of a scan, of a compilation, of a
+    /// grading or of a made configuration are saved; or a report's certificates hold.
     Done,
     /// The patterns do not pass: a bit differs, or is not determined.
     NotPassed,
@@ -164,6 +164,12 @@ pub enum Code {
     K5,
     /// A report is longer than its limit. Its part is how many bytes it would have.
     K6,
+    /// A netlist has no scan clock. It has no part.
+    X2,
+    /// There would be more than the chains, or than the most of them. Its parts are what is counted, and the most.
+    X3,
+    /// No size of ring has phase sets for so many chains. It has no part.
+    X4,
 }
 
 /// A refusal: its code, and the parts that are printed behind it.
@@ -249,7 +255,8 @@ impl Answer {
             Work::Scanned { .. }
             | Work::Compiled { .. }
             | Work::Certified { .. }
-            | Work::Graded { .. } => Answer::stopped(Status::Done),
+            | Work::Graded { .. }
+            | Work::Configured { .. } => Answer::stopped(Status::Done),
         }
     }
 

@@ -11,6 +11,6 @@ pub use answer::{Answer, Code, Refusal, Status, Unpassed};
 pub use outcome::{Outcome, Replayed, Work};
 pub use printing::{code_text, line};
 pub use refusing::{
-    certify_refusal, compile_refusal, config_refusal, cube_refusal, design_refusal,
-    library_refusal, read_refusal, report_refusal, scan_refusal, stil_refusal,
+    certify_refusal, compile_refusal, config_refusal, configure_refusal, cube_refusal,
+    design_refusal, library_refusal, read_refusal, report_refusal, scan_refusal, stil_refusal,
 };

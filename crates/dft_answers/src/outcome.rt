@@ -1,6 +1,7 @@
 use crate::answer::Refusal;
 use dft_base::{Listed, Name};
 use dft_compile::Counts as CompileCounts;
+use dft_configuring::MadeCounts;
 use dft_scan::Counts;
 
 /// What a replay comes to. Vectors are numbered from 0.
@@ -49,6 +50,11 @@ pub enum Work {
         detected: u32,
         undetected: u32,
         report: Listed<u8>,
+    },
+    /// A configuration is made: what is counted of it, and its text, to be saved.
+    Configured {
+        counts: MadeCounts,
+        text: Listed<u8>,
     },
 }
 

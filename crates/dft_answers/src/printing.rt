@@ -7,11 +7,12 @@ use crate::answer::{Code, Refusal};
 use crate::outcome::{Outcome, Replayed, Work};
 use dft_base::{Name, Place};
 use dft_compile::Counts as CompileCounts;
+use dft_configuring::MadeCounts;
 use dft_scan::Counts;
 use std::alloc::{AllocError, Global};
 
 const USAGE: &str =
-    "usage: dft replay, scan, compile, certify, generate or grade, each option once as --name value\n";
+    "usage: dft replay, scan, compile, certify, generate, grade or configure, each option once as --name value\n";
 
 /// A code as it is printed.
 pub fn code_text(code: Code) -> &'static str
@@ -85,6 +86,9 @@ pub fn code_text(code: Code) -> &'static str
         Code::K4 => "K4",
         Code::K5 => "K5",
         Code::K6 => "K6",
+        Code::X2 => "X2",
+        Code::X3 => "X3",
+        Code::X4 => "X4",
     }
 }
 
@@ -115,6 +119,7 @@ fn work_line(alloc: Global, work: &Work) -> Result<Vec<u8>, AllocError>
             undetected,
             ..
         } => graded_line(alloc, *faults, *detected, *undetected),
+        Work::Configured { counts, .. } => configured_line(alloc, *counts),
     }
 }
 
@@ -246,6 +251,48 @@ fn graded_line(
         "graded faults {faults} detected {detected} undetected {undetected}\n"
     )?;
     Ok(line.into_bytes())
+}
+
+fn configured_line(alloc: Global, counts: MadeCounts) -> Result<Vec<u8>, AllocError>
+    ensures { IfOk result (λ line. line.items ≡ spec.configured_line counts) }
+{
+    let mut line = flip_flop_part(alloc, counts)?;
+    add_chains(alloc, &mut line, counts)?;
+    add_pins(alloc, &mut line, counts)?;
+    line.push(b'\n')?;
+    Ok(line)
+}
+
+fn flip_flop_part(alloc: Global, counts: MadeCounts) -> Result<Vec<u8>, AllocError>
+    ensures { IfOk result (λ line. line.items ≡ spec.flip_flop_part counts) }
+{
+    let part = format!(in alloc;
+        "configured cells {} unscanned {} domains {} resets {}",
+        counts.cells, counts.unscanned, counts.domains, counts.resets
+    )?;
+    Ok(part.into_bytes())
+}
+
+fn add_chains(alloc: Global, line: &mut Vec<u8>, counts: MadeCounts) -> Result<(), AllocError>
+    ensures { OnOk result (line.new.items ≡ line.old.items ++ spec.chain_part counts) }
+{
+    let part = format!(in alloc;
+        " chains {} longest {} stages {} channels {}",
+        counts.chains, counts.longest, counts.stages, counts.channels
+    )?;
+    line.extend_from_slice(part.as_bytes())?;
+    Ok(())
+}
+
+fn add_pins(alloc: Global, line: &mut Vec<u8>, counts: MadeCounts) -> Result<(), AllocError>
+    ensures { OnOk result (line.new.items ≡ line.old.items ++ spec.output_part counts) }
+{
+    let part = format!(in alloc;
+        " outputs {} masks {} warm {} cycles {}",
+        counts.outputs, counts.masks, counts.warm, counts.cycles
+    )?;
+    line.extend_from_slice(part.as_bytes())?;
+    Ok(())
 }
 
 // The line of the compilation of a generated job, and that of its replay.

@@ -1,4 +1,4 @@
-//! What the errors of readers, of a scan, of a compilation and of a test of certificates come to.
+//! What the errors of readers, of a scan, of a compilation, of a made configuration and of a test of certificates come to.
 
 ghost use Rattle.std.specs.Prelude.{◌≡◌, IfOk, Some, pos};
 ghost use Rattle.dft_answers.specs.Refusals as spec;
@@ -9,6 +9,7 @@ use dft_cells::LibraryError;
 use dft_certify::CertifyError;
 use dft_compile::CompileError;
 use dft_config::ConfigError;
+use dft_configuring::{ConfigureError, Limited};
 use dft_cubes::CubeError;
 use dft_hier::HierError;
 use dft_netlist::{Counted, NetlistError};
@@ -206,6 +207,36 @@ pub fn compile_refusal(alloc: Global, error: CompileError) -> Result<Refusal, Al
         CompileError::Patterns(error) => stil_refusal(error),
         CompileError::Report(error) => report_refusal(error),
         CompileError::Memory(error) => Err(error),
+    }
+}
+
+/// The refusal of a made configuration.
+pub fn configure_refusal(alloc: Global, error: ConfigureError) -> Result<Refusal, AllocError>
+    ensures { IfOk result (λ refusal. spec.configure_refusal error ≡ Some refusal) }
+{
+    match error {
+        ConfigureError::NoClock => Ok(Refusal::plain(Code::X2)),
+        ConfigureError::TooMany { what, most } => Ok(Refusal::numbered(
+            Code::X3,
+            limited_name(alloc, what)?,
+            most,
+        )),
+        ConfigureError::Rules(error) => rule_refusal(error),
+        ConfigureError::NoRing => Ok(Refusal::plain(Code::X4)),
+        ConfigureError::Stitch(error) => stitch_refusal(alloc, error),
+        ConfigureError::Insert(error) => insert_refusal(alloc, error),
+        ConfigureError::Memory(error) => Err(error),
+    }
+}
+
+// What is limited, by its name.
+fn limited_name(alloc: Global, what: Limited) -> Result<Name, AllocError>
+    ensures { IfOk result (λ name. name ≡ spec.limited_text what) }
+{
+    match what {
+        Limited::Chains => Name::from_slice(alloc, b"chains"),
+        Limited::Outputs => Name::from_slice(alloc, b"outputs"),
+        Limited::Masks => Name::from_slice(alloc, b"masks"),
     }
 }
 

@@ -168,7 +168,7 @@ pub record Numbers (rs : List Row) (job : JobNumbers) : Type 0 where
   pub least : 16 ≤ job.size
   pub most : job.size ≤ 20000
 
-decimal_shown : (most : ℕ) (rs : List Row) (name text : Text) (number : ℕ) → Shows rs (name, Some text) → IsDecimal most text number → decimal_in most name rs ≡ Some number
+pub decimal_shown : (most : ℕ) (rs : List Row) (name text : Text) (number : ℕ) → Shows rs (name, Some text) → IsDecimal most text number → decimal_in most name rs ≡ Some number
 decimal_shown most rs name text number shows is = ap (option_and_then (decimal_of most)) (value_shown rs name text shows) ∙ decimal_is most text number is
 
 sized_is : (job : JobNumbers) → 16 ≤ job.size → job.size ≤ 20000 → sized job ≡ Some job
@@ -212,12 +212,12 @@ generate_parts (Some seed) (Some size) job e =
       most = parts.most;
     }
 
-record DecimalShown (most : ℕ) (rs : List Row) (name : Text) (number : ℕ) : Type 0 where
-  text : Text
-  shows : Shows rs (name, Some text)
-  is : IsDecimal most text number
+pub record DecimalShown (most : ℕ) (rs : List Row) (name : Text) (number : ℕ) : Type 0 where
+  pub text : Text
+  pub shows : Shows rs (name, Some text)
+  pub is : IsDecimal most text number
 
-shown_decimal : (most : ℕ) (rs : List Row) (name : Text) (number : ℕ) → decimal_in most name rs ≡ Some number → DecimalShown most rs name number
+pub shown_decimal : (most : ℕ) (rs : List Row) (name : Text) (number : ℕ) → decimal_in most name rs ≡ Some number → DecimalShown most rs name number
 shown_decimal most rs name number e = go (value_in name rs) refl e
   where
     go : (q : Option Text) → value_in name rs ≡ q → option_and_then (decimal_of most) q ≡ Some number → DecimalShown most rs name number

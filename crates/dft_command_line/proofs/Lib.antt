@@ -8,4 +8,5 @@ pub mod FirstWords
 pub mod Taken
 pub mod Values
 pub mod JobWords
+pub mod ConfigureWords
 pub mod Understood

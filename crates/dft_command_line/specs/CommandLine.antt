@@ -7,7 +7,7 @@ use Rattle.std.specs.Str.Parse.{digits_value}
 use Rattle.clap.specs.Words.{App, Rule, Shape, new_app, new_rule, with_rule, with_subcommand}
 use Rattle.clap.specs.Simple.{new_shape, on_top}
 use Rattle.clap.specs.Walk.{Row, first_of}
-use Rattle.dft_command_line.specs.Words.{Text, ReplayFiles, ScanFiles, CompileFiles, CertifyFiles, GradeFiles, JobNumbers, Command, Replay, Scan, Compile, Certify, Generate, Grade}
+use Rattle.dft_command_line.specs.Words.{Text, ReplayFiles, ScanFiles, CompileFiles, CertifyFiles, GradeFiles, JobNumbers, HardwareNumbers, ConfigureFiles, Command, Replay, Scan, Compile, Certify, Generate, Grade, Configure}
 
 -- ---- the forms of commands
 
@@ -56,8 +56,17 @@ generate_form = record { command = codes "generate"; options = needed (codes "se
 abbrev pub grade_form : Form
 grade_form = record { command = codes "grade"; options = needed (codes "netlist") ∷ needed (codes "patterns") ∷ needed (codes "out") ∷ optional (codes "library") ∷ [] }
 
+abbrev pub configure_form : Form
+configure_form = record {
+  command = codes "configure";
+  options =
+      needed (codes "netlist") ∷ needed (codes "channels") ∷ needed (codes "out")
+      ∷ optional (codes "chains") ∷ optional (codes "length") ∷ optional (codes "outputs") ∷ optional (codes "masks")
+      ∷ optional (codes "library") ∷ [];
+}
+
 abbrev pub forms : List Form
-forms = replay_form ∷ scan_form ∷ compile_form ∷ certify_form ∷ generate_form ∷ grade_form ∷ []
+forms = replay_form ∷ scan_form ∷ compile_form ∷ certify_form ∷ generate_form ∷ grade_form ∷ configure_form ∷ []
 
 -- ---- what `clap` is told
 
@@ -192,14 +201,59 @@ generate_from _ _ = None
 abbrev pub generate_in : List Row → Option JobNumbers
 generate_in rows = generate_from (decimal_in 20 (codes "seed") rows) (decimal_in 5 (codes "size") rows)
 
+-- the number, where it is from 1 to so many
+abbrev pub ranged : (most number : ℕ) → Option ℕ
+ranged most number = if nat_le 1 number && nat_le number most then Some number else None
+
+abbrev pub number_in : (digits most : ℕ) → (name : Text) → List Row → Option ℕ
+number_in digits most name rows = option_and_then (ranged most) (decimal_in digits name rows)
+
+abbrev pub perhaps_number_from : (digits most : ℕ) → Option Text → Option (Option ℕ)
+perhaps_number_from digits most None = Some None
+perhaps_number_from digits most (Some text) = option_map Some (option_and_then (ranged most) (decimal_of digits text))
+
+abbrev pub perhaps_number_in : (digits most : ℕ) → (name : Text) → List Row → Option (Option ℕ)
+perhaps_number_in digits most name rows = perhaps_number_from digits most (first_of name rows)
+
+-- whether just one of the two is there
+abbrev pub is_one : Option ℕ → Option ℕ → Bool
+is_one (Some one) None = true
+is_one None (Some other) = true
+is_one (Some one) (Some other) = false
+is_one None None = false
+
+abbrev pub one_of_both : HardwareNumbers → Option HardwareNumbers
+one_of_both numbers = if is_one numbers.chains numbers.longest then Some numbers else None
+
+abbrev pub numbers_from : (channels : Option ℕ) → (chains longest outputs masks : Option (Option ℕ)) → Option HardwareNumbers
+numbers_from (Some channels) (Some chains) (Some longest) (Some outputs) (Some masks) =
+    one_of_both (record { channels = channels; chains = chains; longest = longest; outputs = outputs; masks = masks })
+numbers_from _ _ _ _ _ = None
+
+abbrev pub numbers_in : List Row → Option HardwareNumbers
+numbers_in rows =
+    numbers_from (number_in 2 32 (codes "channels") rows) (perhaps_number_in 4 1024 (codes "chains") rows) (perhaps_number_in 5 65536 (codes "length") rows)
+    (perhaps_number_in 2 32 (codes "outputs") rows) (perhaps_number_in 2 32 (codes "masks") rows)
+
+abbrev pub configure_from : (library : Option (Option Text)) → (netlist out : Option Text) → Option HardwareNumbers → Option ConfigureFiles
+configure_from (Some library) (Some netlist) (Some out) (Some numbers) = Some (record { library = library; netlist = netlist; out = out; numbers = numbers })
+configure_from _ _ _ _ = None
+
+abbrev pub configure_in : List Row → Option ConfigureFiles
+configure_in rows = configure_from (perhaps_in (codes "library") rows) (value_in (codes "netlist") rows) (value_in (codes "out") rows) (numbers_in rows)
+
+abbrev pub further_from : (name : Text) → List Row → Option Command
+further_from name rows =
+    if bytes_eq name (codes "generate") then option_map Generate (generate_in rows)
+    else (if bytes_eq name (codes "grade") then option_map Grade (grade_in rows)
+    else (if bytes_eq name (codes "configure") then option_map Configure (configure_in rows) else None))
+
 abbrev pub command_from : (name : Text) → List Row → Option Command
 command_from name rows =
     if bytes_eq name (codes "replay") then option_map Replay (replay_in rows)
     else (if bytes_eq name (codes "scan") then option_map Scan (scan_in rows)
     else (if bytes_eq name (codes "compile") then option_map Compile (compile_in rows)
-    else (if bytes_eq name (codes "certify") then option_map Certify (certify_in rows)
-    else (if bytes_eq name (codes "generate") then option_map Generate (generate_in rows)
-    else (if bytes_eq name (codes "grade") then option_map Grade (grade_in rows) else None)))))
+    else (if bytes_eq name (codes "certify") then option_map Certify (certify_in rows) else further_from name rows)))
 
 abbrev pub command_in : Option (Text × List Row) → Option Command
 command_in None = None

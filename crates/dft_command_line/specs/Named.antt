@@ -8,6 +8,8 @@ use Rattle.dft_command_line.specs.declared.commands.CompileFiles.{CompileFiles}
 use Rattle.dft_command_line.specs.declared.commands.CertifyFiles.{CertifyFiles}
 use Rattle.dft_command_line.specs.declared.commands.JobNumbers.{JobNumbers}
 use Rattle.dft_command_line.specs.declared.commands.GradeFiles.{GradeFiles}
+use Rattle.dft_command_line.specs.declared.commands.HardwareNumbers.{HardwareNumbers}
+use Rattle.dft_command_line.specs.declared.commands.ConfigureFiles.{ConfigureFiles}
 use Rattle.dft_command_line.specs.Words as words
 
 abbrev pub replay_files_of : ReplayFiles → words.ReplayFiles
@@ -48,6 +50,12 @@ numbers_of job = record { seed = job.seed; size = job.size }
 abbrev pub grade_files_of : GradeFiles → words.GradeFiles
 grade_files_of files = record { library = option_map (λ name. name.now) files.library; netlist = files.netlist.now; patterns = files.patterns.now; out = files.out.now }
 
+abbrev pub hardware_of : HardwareNumbers → words.HardwareNumbers
+hardware_of numbers = record { channels = numbers.channels; chains = numbers.chains; longest = numbers.longest; outputs = numbers.outputs; masks = numbers.masks }
+
+abbrev pub configure_files_of : ConfigureFiles → words.ConfigureFiles
+configure_files_of files = record { library = option_map (λ name. name.now) files.library; netlist = files.netlist.now; out = files.out.now; numbers = hardware_of files.numbers }
+
 abbrev pub command_of : Command → words.Command
 command_of (command.Replay files) = words.Replay (replay_files_of files)
 command_of (command.Scan files) = words.Scan (scan_files_of files)
@@ -55,3 +63,4 @@ command_of (command.Compile files) = words.Compile (compile_files_of files)
 command_of (command.Certify files) = words.Certify (certify_files_of files)
 command_of (command.Generate job) = words.Generate (numbers_of job)
 command_of (command.Grade files) = words.Grade (grade_files_of files)
+command_of (command.Configure files) = words.Configure (configure_files_of files)

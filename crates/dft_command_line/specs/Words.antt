@@ -173,6 +173,71 @@ pub record IsGenerate (words : List Text) (job : JobNumbers) : Type 0 where
   pub least : 16 ≤ job.size
   pub most : job.size ≤ 20000
 
+-- ---- made configurations
+
+-- the numbers of a made configuration
+pub record HardwareNumbers : Type 0 where
+  pub channels : ℕ
+  pub chains : Option ℕ
+  pub longest : Option ℕ
+  pub outputs : Option ℕ
+  pub masks : Option ℕ
+
+-- its files, of which two are loaded and one is saved
+pub record ConfigureFiles : Type 0 where
+  pub library : Option Text
+  pub netlist : Text
+  pub out : Text
+  pub numbers : HardwareNumbers
+
+-- a text is decimal digits, at most so many, of this number, which is from 1 to `most`
+pub record IsWithin (digits most : ℕ) (text : Text) (number : ℕ) : Type 0 where
+  pub is : IsDecimal digits text number
+  pub low : 1 ≤ number
+  pub high : number ≤ most
+
+-- so is an option that may be left out
+abbrev pub IsPerhapsWithin : (digits most : ℕ) → Option Text → Option ℕ → Type 0
+IsPerhapsWithin digits most None None = Unit {0}
+IsPerhapsWithin digits most (Some text) (Some number) = IsWithin digits most text number
+IsPerhapsWithin digits most (Some text) None = ⊥
+IsPerhapsWithin digits most None (Some number) = ⊥
+
+-- just one of the two is there
+abbrev pub IsOne : Option ℕ → Option ℕ → Type 0
+IsOne (Some one) None = Unit {0}
+IsOne None (Some other) = Unit {0}
+IsOne (Some one) (Some other) = ⊥
+IsOne None None = ⊥
+
+-- how the numbers are written
+pub record HardwareTexts : Type 0 where
+  pub channels : Text
+  pub chains : Option Text
+  pub longest : Option Text
+  pub outputs : Option Text
+  pub masks : Option Text
+
+-- these texts are these numbers; `chains` or `length` is given, and not both
+pub record AreNumbers (texts : HardwareTexts) (numbers : HardwareNumbers) : Type 0 where
+  pub channels : IsWithin 2 32 texts.channels numbers.channels
+  pub chains : IsPerhapsWithin 4 1024 texts.chains numbers.chains
+  pub longest : IsPerhapsWithin 5 65536 texts.longest numbers.longest
+  pub outputs : IsPerhapsWithin 2 32 texts.outputs numbers.outputs
+  pub masks : IsPerhapsWithin 2 32 texts.masks numbers.masks
+  pub one : IsOne numbers.chains numbers.longest
+
+abbrev pub configure_options : ConfigureFiles → HardwareTexts → List Valued
+configure_options files texts =
+    (codes "netlist", Some files.netlist) ∷ (codes "channels", Some texts.channels) ∷ (codes "out", Some files.out)
+    ∷ (codes "chains", texts.chains) ∷ (codes "length", texts.longest) ∷ (codes "outputs", texts.outputs) ∷ (codes "masks", texts.masks)
+    ∷ (codes "library", files.library) ∷ []
+
+pub record IsConfigure (words : List Text) (files : ConfigureFiles) : Type 0 where
+  pub texts : HardwareTexts
+  pub written : IsCommand (codes "configure") (configure_options files texts) words
+  pub numbers : AreNumbers texts files.numbers
+
 -- ---- what words are
 
 pub data Command : Type 0 where
@@ -182,6 +247,7 @@ pub data Command : Type 0 where
   Certify : CertifyFiles → Command
   Generate : JobNumbers → Command
   Grade : GradeFiles → Command
+  Configure : ConfigureFiles → Command
 
 abbrev pub IsFor : List Text → Command → Type 0
 IsFor words (Replay files) = IsReplay words files
@@ -190,6 +256,7 @@ IsFor words (Compile files) = IsCompile words files
 IsFor words (Certify files) = IsCertify words files
 IsFor words (Generate job) = IsGenerate words job
 IsFor words (Grade files) = IsGrade words files
+IsFor words (Configure files) = IsConfigure words files
 
 -- what words are: a command, or no command
 abbrev pub AreFor : List Text → Option Command → Type 0

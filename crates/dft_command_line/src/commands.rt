@@ -56,6 +56,27 @@ pub struct GradeFiles<'a> {
     pub out: &'a str,
 }
 
+/// The numbers of a made configuration: how many channels feed the ring, 1 to 32; how many chains there are, 1 to 1,024, or
+/// how many cells one has at most, 1 to 65,536, just one of the two; and how many outputs and mask inputs, 1 to 32, where they
+/// are given.
+#[derive(Clone, Copy, Debug)]
+pub struct HardwareNumbers {
+    pub channels: u32,
+    pub chains: Option<u32>,
+    pub longest: Option<u32>,
+    pub outputs: Option<u32>,
+    pub masks: Option<u32>,
+}
+
+/// The files and numbers that the words of a made configuration name: two files are read, and one is saved.
+#[derive(Clone, Copy, Debug)]
+pub struct ConfigureFiles<'a> {
+    pub library: Option<&'a str>,
+    pub netlist: &'a str,
+    pub out: &'a str,
+    pub numbers: HardwareNumbers,
+}
+
 /// A command with its files, or with its numbers.
 #[derive(Clone, Copy, Debug)]
 pub enum Command<'a> {
@@ -65,4 +86,5 @@ pub enum Command<'a> {
     Certify(CertifyFiles<'a>),
     Generate(JobNumbers),
     Grade(GradeFiles<'a>),
+    Configure(ConfigureFiles<'a>),
 }

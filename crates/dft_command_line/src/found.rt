@@ -5,13 +5,14 @@ ghost use Rattle.clap.specs.Words.{subcommand_rows_of};
 ghost use Rattle.clap.specs.Matches.{found_of};
 ghost use Rattle.clap.specs.Walk.{first_of, rows_of};
 ghost use Rattle.dft_command_line.specs.CommandLine as spec;
-ghost use Rattle.dft_command_line.specs.CommandLine.{certify_in, command_in, compile_in, decimal_in, generate_in, grade_in, perhaps_in, replay_in, scan_in, value_in};
-ghost use Rattle.dft_command_line.specs.Named.{certify_files_of, command_of, compile_files_of, grade_files_of, numbers_of, replay_files_of, scan_files_of};
+ghost use Rattle.dft_command_line.specs.CommandLine.{certify_in, command_from, command_in, compile_in, configure_in, decimal_in, further_from, generate_in, grade_in, number_in, numbers_in, perhaps_in, perhaps_number_in, replay_in, scan_in, value_in};
+ghost use Rattle.dft_command_line.specs.Named.{certify_files_of, command_of, compile_files_of, configure_files_of, grade_files_of, hardware_of, numbers_of, replay_files_of, scan_files_of};
 
 use crate::commands::{
-    CertifyFiles, Command, CompileFiles, GradeFiles, JobNumbers, ReplayFiles, ScanFiles,
+    CertifyFiles, Command, CompileFiles, ConfigureFiles, GradeFiles, HardwareNumbers, JobNumbers,
+    ReplayFiles, ScanFiles,
 };
-use crate::numbers::decimal;
+use crate::numbers::{decimal, ranged};
 use clap::ArgMatches;
 
 // The command with its files or numbers, where no value is empty, the outputs differ and the numbers are in range.
@@ -19,24 +20,40 @@ pub(crate) fn command_found<'a>(found: &ArgMatches<'a>) -> Option<Command<'a>>
     ensures { option_map command_of result ≡ command_in (subcommand_rows_of found.now) }
 {
     match found.subcommand() {
-        Some((name, options)) => {
-            if name == "replay" {
-                Some(Command::Replay(replay_found(options)?))
-            } else if name == "scan" {
-                Some(Command::Scan(scan_found(options)?))
-            } else if name == "compile" {
-                Some(Command::Compile(compile_found(options)?))
-            } else if name == "certify" {
-                Some(Command::Certify(certify_found(options)?))
-            } else if name == "generate" {
-                Some(Command::Generate(generate_found(options)?))
-            } else if name == "grade" {
-                Some(Command::Grade(grade_found(options)?))
-            } else {
-                None
-            }
-        }
+        Some((name, options)) => command_named(name, options),
         None => None,
+    }
+}
+
+// The command of a name with its options.
+fn command_named<'a>(name: &str, options: &ArgMatches<'a>) -> Option<Command<'a>>
+    ensures { option_map command_of result ≡ command_from name.now (rows_of (found_of options.now)) }
+{
+    if name == "replay" {
+        Some(Command::Replay(replay_found(options)?))
+    } else if name == "scan" {
+        Some(Command::Scan(scan_found(options)?))
+    } else if name == "compile" {
+        Some(Command::Compile(compile_found(options)?))
+    } else if name == "certify" {
+        Some(Command::Certify(certify_found(options)?))
+    } else {
+        further_found(name, options)
+    }
+}
+
+// The commands that are told by none of the names before.
+fn further_found<'a>(name: &str, options: &ArgMatches<'a>) -> Option<Command<'a>>
+    ensures { option_map command_of result ≡ further_from name.now (rows_of (found_of options.now)) }
+{
+    if name == "generate" {
+        Some(Command::Generate(generate_found(options)?))
+    } else if name == "grade" {
+        Some(Command::Grade(grade_found(options)?))
+    } else if name == "configure" {
+        Some(Command::Configure(configure_found(options)?))
+    } else {
+        None
     }
 }
 
@@ -136,6 +153,74 @@ fn grade_found<'a>(found: &ArgMatches<'a>) -> Option<GradeFiles<'a>>
         patterns,
         out,
     })
+}
+
+fn configure_found<'a>(found: &ArgMatches<'a>) -> Option<ConfigureFiles<'a>>
+    ensures { option_map configure_files_of result ≡ configure_in (rows_of (found_of found.now)) }
+{
+    let library = perhaps(found, "library")?;
+    let netlist = value(found, "netlist")?;
+    let out = value(found, "out")?;
+    let numbers = hardware_found(found)?;
+    Some(ConfigureFiles {
+        library,
+        netlist,
+        out,
+        numbers,
+    })
+}
+
+fn hardware_found(found: &ArgMatches<'_>) -> Option<HardwareNumbers>
+    ensures { option_map hardware_of result ≡ numbers_in (rows_of (found_of found.now)) }
+{
+    let channels = number_within(found, "channels", 2, 32)?;
+    let chains = perhaps_within(found, "chains", 4, 1_024)?;
+    let longest = perhaps_within(found, "length", 5, 65_536)?;
+    let outputs = perhaps_within(found, "outputs", 2, 32)?;
+    let masks = perhaps_within(found, "masks", 2, 32)?;
+    if is_one(chains, longest) {
+        Some(HardwareNumbers {
+            channels,
+            chains,
+            longest,
+            outputs,
+            masks,
+        })
+    } else {
+        None
+    }
+}
+
+// Whether just one of two numbers is there.
+fn is_one(one: Option<u32>, other: Option<u32>) -> bool
+    ensures { result ≡ spec.is_one one other }
+{
+    match (one, other) {
+        (Some(_), None) | (None, Some(_)) => true,
+        _ => false,
+    }
+}
+
+// The number that an option gives in decimal, with at most so many digits, from 1 to so many.
+fn number_within(found: &ArgMatches<'_>, name: &str, digits: usize, most: u32) -> Option<u32>
+    ensures { result ≡ number_in digits most name.now (rows_of (found_of found.now)) }
+{
+    ranged(number(found, name, digits)?, most)
+}
+
+// The number of an option that may be left out.
+fn perhaps_within(
+    found: &ArgMatches<'_>,
+    name: &str,
+    digits: usize,
+    most: u32,
+) -> Option<Option<u32>>
+    ensures { result ≡ perhaps_number_in digits most name.now (rows_of (found_of found.now)) }
+{
+    match text_of(found, name) {
+        Some(text) => Some(Some(ranged(decimal(text, digits)?, most)?)),
+        None => Some(None),
+    }
 }
 
 // The number that an option gives in decimal, with at most so many digits.

@@ -8,6 +8,7 @@ mod syntax;
 mod words;
 
 pub use commands::{
-    CertifyFiles, Command, CompileFiles, GradeFiles, JobNumbers, ReplayFiles, ScanFiles,
+    CertifyFiles, Command, CompileFiles, ConfigureFiles, GradeFiles, HardwareNumbers, JobNumbers,
+    ReplayFiles, ScanFiles,
 };
 pub use words::command;

@@ -3,6 +3,7 @@
 ghost use Rattle.std.specs.Prelude.{◌≡◌};
 ghost use Rattle.std.specs.Char.{is_ascii_digit};
 ghost use Rattle.std.specs.List.{list_all};
+ghost use Rattle.dft_command_line.specs.CommandLine as spec;
 ghost use Rattle.dft_command_line.specs.CommandLine.{decimal_of};
 
 // The number that a text writes in decimal digits, at most so many, where it is below 2^64. Zeros may lead.
@@ -13,6 +14,17 @@ pub(crate) fn decimal(text: &str, most: usize) -> Option<u64>
         return None;
     }
     text.parse().ok()
+}
+
+// A number from 1 to so many.
+pub(crate) fn ranged(number: u64, most: u32) -> Option<u32>
+    ensures { result ≡ spec.ranged most number }
+{
+    if 1 <= number && number <= u64::from(most) {
+        Some(number as u32)
+    } else {
+        None
+    }
 }
 
 fn are_digits(text: &str) -> bool

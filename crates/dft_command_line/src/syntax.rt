@@ -46,6 +46,12 @@ pub(crate) fn matches<'a>(alloc: Global, words: &'a [String]) -> Result<ArgMatch
             "grade",
             &["netlist", "patterns", "out"],
             &["library"],
+        )?)?
+        .subcommand(form(
+            alloc,
+            "configure",
+            &["netlist", "channels", "out"],
+            &["chains", "length", "outputs", "masks", "library"],
         )?)?;
     dft.try_get_matches_from(words)
 }

@@ -8,6 +8,8 @@ mod falling;
 #[cfg(test)]
 mod faults;
 #[cfg(test)]
+mod made;
+#[cfg(test)]
 mod many;
 #[cfg(test)]
 mod pulses;

@@ -118,9 +118,6 @@ fn rings_are_those_that_were_worked(rt: HostRuntime) -> Result<(), Fail> {
     Ok(())
 }
 
-// Numbers of chains and of channels.
-static CHAINS: [u16; 9] = [1, 2, 3, 4, 5, 7, 8, 12, 16];
-
 static CHANNELS: [u8; 11] = [1, 2, 3, 4, 5, 6, 8, 12, 16, 24, 32];
 
 // Adds the rings of so many chains, a line for each number of channels.
@@ -133,24 +130,78 @@ fn hash_rings(alloc: Global, hasher: &mut Sha256, chains: u16) -> Result<(), All
     Ok(())
 }
 
-// The checksum of the rings of all these numbers.
-fn checksum(alloc: Global) -> Result<[u8; 32], AllocError> {
+// The checksum of the rings of these numbers of chains.
+fn checksum(alloc: Global, numbers: &[u16]) -> Result<[u8; 32], AllocError> {
     let mut hasher = Sha256::new();
-    for chains in &CHAINS {
+    for chains in numbers {
         hash_rings(alloc, &mut hasher, *chains)?;
     }
     Ok(hasher.finalize())
 }
 
-// What tools/ring-model makes has this checksum.
-static CHECKSUM: [u8; 32] = [
-    152, 195, 149, 127, 67, 197, 91, 234, 133, 122, 139, 227, 113, 184, 58, 242, 198, 25, 169, 62,
-    139, 24, 233, 68, 158, 10, 57, 101, 214, 63, 60, 146,
+// Numbers of chains, each with the checksum of what tools/ring-model makes of them: five tests, as a test ends after a minute.
+static FEW: [u16; 17] = [
+    1, 2, 3, 4, 5, 7, 8, 12, 16, 20, 24, 32, 48, 64, 96, 100, 128,
+];
+
+static OF_FEW: [u8; 32] = [
+    96, 208, 76, 191, 243, 14, 253, 78, 56, 69, 172, 227, 239, 177, 33, 57, 154, 202, 0, 168, 73,
+    30, 121, 19, 246, 93, 235, 229, 13, 71, 177, 80,
+];
+
+static HUNDREDS: [u16; 4] = [192, 256, 384, 512];
+
+static OF_HUNDREDS: [u8; 32] = [
+    246, 243, 114, 79, 209, 194, 26, 108, 88, 58, 199, 90, 135, 163, 132, 174, 69, 5, 223, 203, 87,
+    3, 80, 218, 123, 213, 246, 32, 132, 81, 222, 96,
+];
+
+static OF_700: [u8; 32] = [
+    202, 61, 188, 250, 218, 141, 67, 225, 204, 235, 66, 1, 177, 219, 177, 72, 39, 249, 61, 200, 48,
+    68, 16, 131, 34, 200, 138, 216, 117, 213, 218, 87,
+];
+
+static OF_1000: [u8; 32] = [
+    5, 250, 156, 99, 141, 170, 167, 148, 36, 3, 243, 252, 247, 216, 207, 99, 138, 157, 2, 165, 207,
+    11, 6, 82, 150, 178, 113, 208, 195, 246, 2, 73,
+];
+
+static OF_1024: [u8; 32] = [
+    63, 25, 38, 103, 154, 239, 245, 84, 176, 109, 31, 173, 227, 15, 110, 248, 3, 242, 137, 217,
+    132, 116, 86, 142, 144, 78, 138, 147, 15, 79, 50, 44,
 ];
 
 #[test]
-fn rings_are_those_of_the_model(rt: HostRuntime) -> Result<(), Fail> {
-    let found = checksum(rt.alloc())?;
-    assert_eq!(rt; found.as_slice(), CHECKSUM.as_slice());
+fn rings_of_few_chains_are_those_of_the_model(rt: HostRuntime) -> Result<(), Fail> {
+    let found = checksum(rt.alloc(), FEW.as_slice())?;
+    assert_eq!(rt; found.as_slice(), OF_FEW.as_slice());
+    Ok(())
+}
+
+#[test]
+fn rings_of_hundreds_of_chains_are_those_of_the_model(rt: HostRuntime) -> Result<(), Fail> {
+    let found = checksum(rt.alloc(), HUNDREDS.as_slice())?;
+    assert_eq!(rt; found.as_slice(), OF_HUNDREDS.as_slice());
+    Ok(())
+}
+
+#[test]
+fn rings_of_700_chains_are_those_of_the_model(rt: HostRuntime) -> Result<(), Fail> {
+    let found = checksum(rt.alloc(), &[700])?;
+    assert_eq!(rt; found.as_slice(), OF_700.as_slice());
+    Ok(())
+}
+
+#[test]
+fn rings_of_1000_chains_are_those_of_the_model(rt: HostRuntime) -> Result<(), Fail> {
+    let found = checksum(rt.alloc(), &[1000])?;
+    assert_eq!(rt; found.as_slice(), OF_1000.as_slice());
+    Ok(())
+}
+
+#[test]
+fn rings_of_1024_chains_are_those_of_the_model(rt: HostRuntime) -> Result<(), Fail> {
+    let found = checksum(rt.alloc(), &[1024])?;
+    assert_eq!(rt; found.as_slice(), OF_1024.as_slice());
     Ok(())
 }

@@ -7,8 +7,8 @@ use Rattle.std.specs.Str.{bytes_eq}
 use Rattle.dft_explain.proofs.Bounds.{Short, behind_few, found_few, more_len, page_both, value_few}
 use Rattle.dft_explain.proofs.Ends.{each}
 use Rattle.dft_explain.specs.Explained.{page_of}
-use Rattle.dft_explain.specs.FaultLines.{any_form_line, command_line, count_of, fault_line, fault_lines, files_line, form_line, line_of, lines_of, lines_of_command, lines_of_form, lines_without_form, number_line, option_line, option_pieces, second_pieces}
-use Rattle.dft_explain.specs.Faults.{Fault, NoCommand, NoSuchCommand, Unexpected, NoOption, Twice, NoValue, EmptyValue, Missing, NoNumber, OneFile, Form, Range, Text, by_value, certify_form, compile_form, fault_of_command, fault_of_first, fault_of_named, fault_of_number, fault_of_option, fault_of_options, fault_of_output, fault_of_right_options, fault_of_value, fault_where_none, first_fault, form_of, generate_form, grade_form, has, is_among, is_in, is_of_name, missing, name_in, named, names_with, no_number, one_file, or_else, replay_form, scan_form, seed, size, value_from, joined_in, wrong_option}
+use Rattle.dft_explain.specs.FaultLines.{any_form_line, command_line, count_of, fault_line, fault_lines, files_line, form_line, line_of, lines_of, lines_of_command, lines_of_form, lines_without_form, number_line, option_line, option_pieces, pair_line, pair_pieces, second_pieces}
+use Rattle.dft_explain.specs.Faults.{Fault, NoCommand, NoSuchCommand, Unexpected, NoOption, Twice, NoValue, EmptyValue, Missing, NotOne, NoNumber, OneFile, Form, Pair, Range, Text, by_value, certify_form, chains, channels, compile_form, configure_form, fault_of_both, fault_of_command, fault_of_first, fault_of_named, fault_of_number, fault_of_option, fault_of_options, fault_of_output, fault_of_right_options, fault_of_value, fault_where_none, first_fault, form_of, further_form, generate_form, grade_form, has, is_among, is_in, is_of_name, longest, masks, missing, name_in, named, names_with, no_number, not_one, one_file, or_else, outputs, replay_form, scan_form, seed, size, value_from, joined_in, wrong_option}
 use Rattle.dft_explain.specs.Options.{behind, option_of, or_empty, value_of}
 use Rattle.dft_explain.specs.Told.{bytes_of, ends_of}
 
@@ -42,6 +42,7 @@ Within n (Twice option) = length option ≤ n
 Within n (NoValue option) = length option ≤ n
 Within n (EmptyValue option) = length option ≤ n
 Within n (Missing option) = length option ≤ 12
+Within n (NotOne first second) = (length first ≤ 12) × (length second ≤ 12)
 Within n (NoNumber option range value) = (length option ≤ 12) × ((length range ≤ 30) × (length value ≤ n))
 Within n (OneFile first second file) = (length first ≤ 12) × ((length second ≤ 12) × (length file ≤ n))
 
@@ -110,19 +111,61 @@ of_number : (n : ℕ) (range : Range) (value : Option Text) → length range.opt
 of_number n range None p q r = tt
 of_number n range (Some value) p q r = if_within n (is_in range value) None (Some (NoNumber range.option range.text value)) tt (p, (q, r))
 
-seed_short : (length seed.option ≤ 12) × (length seed.text ≤ 30)
+-- a range is told in few bytes
+abbrev IsFewRange : Range → Type 0
+IsFewRange range = (length range.option ≤ 12) × (length range.text ≤ 30)
+
+abbrev AreFewRanges : List Range → Type 0
+AreFewRanges [] = Unit {0}
+AreFewRanges (range ∷ ranges) = IsFewRange range × AreFewRanges ranges
+
+seed_short : IsFewRange seed
 unfolding seed
 seed_short = (omega arith, omega arith)
 
-size_short : (length size.option ≤ 12) × (length size.text ≤ 30)
+size_short : IsFewRange size
 unfolding size
 size_short = (omega arith, omega arith)
 
-of_numbers : (words : List Text) → WithinAny (bytes_of words) (no_number words)
-of_numbers words =
-    either (bytes_of words) (fault_of_number seed (value_of (codes "seed") words)) (fault_of_number size (value_of (codes "size") words))
-    (of_number (bytes_of words) seed (value_of (codes "seed") words) seed_short.0 seed_short.1 (value_few (codes "seed") words))
-    (of_number (bytes_of words) size (value_of (codes "size") words) size_short.0 size_short.1 (value_few (codes "size") words))
+channels_short : IsFewRange channels
+unfolding channels
+channels_short = (omega arith, omega arith)
+
+chains_short : IsFewRange chains
+unfolding chains
+chains_short = (omega arith, omega arith)
+
+longest_short : IsFewRange longest
+unfolding longest
+longest_short = (omega arith, omega arith)
+
+outputs_short : IsFewRange outputs
+unfolding outputs
+outputs_short = (omega arith, omega arith)
+
+masks_short : IsFewRange masks
+unfolding masks
+masks_short = (omega arith, omega arith)
+
+of_numbers : (ranges : List Range) (words : List Text) → AreFewRanges ranges → WithinAny (bytes_of words) (no_number ranges words)
+of_numbers [] words short = tt
+of_numbers (range ∷ ranges) words short =
+    either (bytes_of words) (fault_of_number range (value_of range.option words)) (no_number ranges words)
+    (of_number (bytes_of words) range (value_of range.option words) short.0.0 short.0.1 (value_few range.option words)) (of_numbers ranges words short.1)
+
+abbrev IsFewPair : Option Pair → Type 0
+IsFewPair None = Unit {0}
+IsFewPair (Some pair) = (length pair.first ≤ 12) × (length pair.second ≤ 12)
+
+of_both : (n : ℕ) (pair : Pair) (one other : Option Text) → IsFewPair (Some pair) → WithinAny n (fault_of_both pair one other)
+of_both n pair (Some one) None short = tt
+of_both n pair None (Some other) short = tt
+of_both n pair (Some one) (Some other) short = short
+of_both n pair None None short = short
+
+of_pair : (n : ℕ) (pair : Option Pair) (words : List Text) → IsFewPair pair → WithinAny n (not_one pair words)
+of_pair n None words short = tt
+of_pair n (Some pair) words short = of_both n pair (value_of pair.first words) (value_of pair.second words) short
 
 of_first : (n : ℕ) (first : Option Text) (second file : Text) → length (or_empty first) ≤ 12 → length second ≤ 12 → length file ≤ n → WithinAny n (fault_of_first first second file)
 of_first n None second file p q r = tt
@@ -144,6 +187,8 @@ of_outputs saved words (second ∷ outputs) short q =
 record IsShort (form : Form) : Type 0 where
   name : length form.name ≤ 12
   needed : Short form.needed
+  pair : IsFewPair form.pair
+  numbers : AreFewRanges form.numbers
   saved : Short form.saved
   told : bytes_of (form_line form) ≤ 300
 
@@ -171,34 +216,54 @@ grade_told : bytes_of (form_line grade_form) ≤ 300
 unfolding form_line option_pieces
 grade_told = omega arith
 
+configure_told : bytes_of (form_line configure_form) ≤ 300
+unfolding form_line option_pieces
+configure_told = omega arith
+
 abbrev AnyShort : Option Form → Type 0
 AnyShort None = Unit {0}
 AnyShort (Some form) = IsShort form
 
-short_by : (a b c d e f : Bool) → AnyShort (if a then Some replay_form else (if b then Some scan_form else (if c then Some compile_form else (if d then Some certify_form else (if e then Some generate_form else (if f then Some grade_form else None))))))
-short_by true b c d e f = record { name = omega arith; needed = (omega arith, (omega arith, tt)); saved = tt; told = replay_told }
-short_by false true c d e f =
-    record { name = omega arith; needed = (omega arith, (omega arith, (omega arith, (omega arith, tt)))); saved = (omega arith, (omega arith, tt)); told = scan_told }
-short_by false false true d e f = record {
+further_by : (a b c : Bool) → AnyShort (if a then Some generate_form else (if b then Some grade_form else (if c then Some configure_form else None)))
+further_by true b c = record { name = omega arith; needed = (omega arith, (omega arith, tt)); pair = tt; numbers = (seed_short, (size_short, tt)); saved = tt; told = generate_told }
+further_by false true c = record { name = omega arith; needed = (omega arith, (omega arith, (omega arith, tt))); pair = tt; numbers = tt; saved = (omega arith, tt); told = grade_told }
+further_by false false true = record {
+  name = omega arith;
+  needed = (omega arith, (omega arith, (omega arith, tt)));
+  pair = (omega arith, omega arith);
+  numbers = (channels_short, (chains_short, (longest_short, (outputs_short, (masks_short, tt)))));
+  saved = (omega arith, tt);
+  told = configure_told;
+}
+further_by false false false = tt
+
+short_by : (a b c d : Bool) (other : Option Form) → AnyShort other → AnyShort (if a then Some replay_form else (if b then Some scan_form else (if c then Some compile_form else (if d then Some certify_form else other))))
+short_by true b c d other short = record { name = omega arith; needed = (omega arith, (omega arith, tt)); pair = tt; numbers = tt; saved = tt; told = replay_told }
+short_by false true c d other short =
+    record { name = omega arith; needed = (omega arith, (omega arith, (omega arith, (omega arith, tt)))); pair = tt; numbers = tt; saved = (omega arith, (omega arith, tt)); told = scan_told }
+short_by false false true d other short = record {
   name = omega arith;
   needed = (omega arith, (omega arith, (omega arith, (omega arith, (omega arith, (omega arith, tt))))));
+  pair = tt;
+  numbers = tt;
   saved = (omega arith, (omega arith, (omega arith, tt)));
   told = compile_told;
 }
-short_by false false false true e f = record { name = omega arith; needed = (omega arith, (omega arith, (omega arith, (omega arith, tt)))); saved = tt; told = certify_told }
-short_by false false false false true f = record { name = omega arith; needed = (omega arith, (omega arith, tt)); saved = tt; told = generate_told }
-short_by false false false false false true = record { name = omega arith; needed = (omega arith, (omega arith, (omega arith, tt))); saved = (omega arith, tt); told = grade_told }
-short_by false false false false false false = tt
+short_by false false false true other short = record { name = omega arith; needed = (omega arith, (omega arith, (omega arith, (omega arith, tt)))); pair = tt; numbers = tt; saved = tt; told = certify_told }
+short_by false false false false other short = short
 
 short_of : (name : Text) → AnyShort (form_of name)
-short_of name = short_by (bytes_eq name (codes "replay")) (bytes_eq name (codes "scan")) (bytes_eq name (codes "compile")) (bytes_eq name (codes "certify")) (bytes_eq name (codes "generate")) (bytes_eq name (codes "grade"))
+short_of name =
+    short_by (bytes_eq name (codes "replay")) (bytes_eq name (codes "scan")) (bytes_eq name (codes "compile")) (bytes_eq name (codes "certify")) (further_form name)
+    (further_by (bytes_eq name (codes "generate")) (bytes_eq name (codes "grade")) (bytes_eq name (codes "configure")))
 
 of_options : (form : Form) (words : List Text) → IsShort form → WithinAny (bytes_of words) (fault_of_options form words)
 of_options form words short =
     let n = bytes_of words in
     either n (wrong_option form [] words) (fault_of_right_options form words) (of_wrong n form [] words (omega arith))
-    (either n (missing form.needed words) (or_else (no_number words) (one_file form.saved words form.saved)) (of_missing n form.needed words short.needed)
-    (either n (no_number words) (one_file form.saved words form.saved) (of_numbers words) (of_outputs form.saved words form.saved short.saved short.saved)))
+    (either n (missing form.needed words) (or_else (not_one form.pair words) (or_else (no_number form.numbers words) (one_file form.saved words form.saved))) (of_missing n form.needed words short.needed)
+    (either n (not_one form.pair words) (or_else (no_number form.numbers words) (one_file form.saved words form.saved)) (of_pair n form.pair words short.pair)
+    (either n (no_number form.numbers words) (one_file form.saved words form.saved) (of_numbers form.numbers words short.numbers) (of_outputs form.saved words form.saved short.saved short.saved))))
 
 -- ---- bytes
 
@@ -218,6 +283,10 @@ number_few : (option range value : Text) → bytes_of (number_line option range 
 unfolding number_line
 number_few option range value = omega arith
 
+pair_few : (command first second : Text) → bytes_of (pair_line command first second) ≤ 50 + length command + length first + length second
+unfolding pair_line pair_pieces
+pair_few command first second = omega arith
+
 files_few : (first second file : Text) → bytes_of (files_line first second file) ≤ 40 + length first + length second + length file
 unfolding files_line second_pieces
 files_few first second file = omega arith
@@ -232,6 +301,7 @@ told_few n command (Twice option) short fits = omega (arith, fits, option_few op
 told_few n command (NoValue option) short fits = omega (arith, fits, option_few option (codes " has no value"))
 told_few n command (EmptyValue option) short fits = omega (arith, fits, option_few option (codes " has an empty value"))
 told_few n command (Missing option) short fits = omega (arith, short, fits, command_few command (codes " needs --") option)
+told_few n command (NotOne first second) short fits = omega (arith, short, fits.0, fits.1, pair_few command first second)
 told_few n command (NoNumber option range value) short fits = omega (arith, fits.0, fits.1.0, fits.1.1, number_few option range value)
 told_few n command (OneFile first second file) short fits = omega (arith, fits.0, fits.1.0, fits.1.1, files_few first second file)
 

@@ -14,7 +14,7 @@ use Rattle.dft_explain.specs.declared.ending.Ending.TheVariants.{Done, Mismatch,
 use Rattle.dft_explain.specs.declared.ending.Refusal.{Refusal}
 use Rattle.dft_explain.specs.Explained as spec
 use Rattle.dft_explain.specs.Explained.{page_of, told_line}
-use Rattle.dft_explain.specs.Options.{file_of, files_before, is_text, loaded, option_of, or_empty, saved, value_of}
+use Rattle.dft_explain.specs.Options.{file_of, files_before, is_text, loaded, option_of, or_empty, saved, saved_by, value_of}
 use Rattle.dft_explain.specs.Told.{bytes_of}
 use Rattle.dft_explain.proofs.Bounds.{Short, bytes_both, cut_few, dots_few, file_few, found_few, front_few, mark_few, more_len, page_both, value_few}
 
@@ -184,15 +184,17 @@ record Few (options : List (List ℕ)) : Type 0 where
   short : Short options
   three : length options ≤ 3
 
-few_by : (a b c : Bool) → Few (if a then codes "out" ∷ codes "report" ∷ [] else (if b then codes "out-netlist" ∷ codes "out-patterns" ∷ codes "out-report" ∷ [] else (if c then codes "out" ∷ [] else [])))
-few_by true b c = record { short = (omega arith, (omega arith, tt)); three = omega arith }
-few_by false true c = record { short = (omega arith, (omega arith, (omega arith, tt))); three = omega arith }
-few_by false false true = record { short = (omega arith, tt); three = omega arith }
-few_by false false false = record { short = tt; three = omega arith }
+few_by : (a b c d : Bool) → Few (if a then codes "out" ∷ codes "report" ∷ [] else (if b then codes "out-netlist" ∷ codes "out-patterns" ∷ codes "out-report" ∷ [] else (if c then codes "out" ∷ [] else (if d then codes "out" ∷ [] else []))))
+few_by true b c d = record { short = (omega arith, (omega arith, tt)); three = omega arith }
+few_by false true c d = record { short = (omega arith, (omega arith, (omega arith, tt))); three = omega arith }
+few_by false false true d = record { short = (omega arith, tt); three = omega arith }
+few_by false false false true = record { short = (omega arith, tt); three = omega arith }
+few_by false false false false = record { short = tt; three = omega arith }
 
 few_saved : (words : List (List ℕ)) → Few (saved words)
+unfolding saved_by
 few_saved [] = record { short = tt; three = omega arith }
-few_saved (command ∷ words) = few_by (bytes_eq command (codes "scan")) (bytes_eq command (codes "compile")) (bytes_eq command (codes "grade"))
+few_saved (command ∷ words) = few_by (bytes_eq command (codes "scan")) (bytes_eq command (codes "compile")) (bytes_eq command (codes "grade")) (bytes_eq command (codes "configure"))
 
 files_by : (t : Bool) (files : List (List ℕ)) (n : ℕ) → bytes_of files ≤ n → bytes_of (if t then [] else files) ≤ n
 files_by true files n p = omega arith

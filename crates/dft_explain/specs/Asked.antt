@@ -4,7 +4,13 @@ use Rattle.std.specs.Str.{bytes_eq}
 use Rattle.dft_explain.specs.declared.asking.Request.{Request}
 use Rattle.dft_explain.specs.declared.asking.Request.TheVariants as request
 use Rattle.dft_explain.specs.declared.asking.Topic.{Topic}
-use Rattle.dft_explain.specs.declared.asking.Topic.TheVariants.{Replay, Scan, Compile, Certify, Generate, Grade}
+use Rattle.dft_explain.specs.declared.asking.Topic.TheVariants.{Replay, Scan, Compile, Certify, Generate, Grade, Configure}
+
+abbrev pub further_topic : List ℕ → Option Topic
+further_topic name =
+    if bytes_eq name (codes "generate") then Some Generate
+    else (if bytes_eq name (codes "grade") then Some Grade
+    else (if bytes_eq name (codes "configure") then Some Configure else None))
 
 -- the command of this name
 abbrev pub topic_of : List ℕ → Option Topic
@@ -12,9 +18,7 @@ topic_of name =
     if bytes_eq name (codes "replay") then Some Replay
     else (if bytes_eq name (codes "scan") then Some Scan
     else (if bytes_eq name (codes "compile") then Some Compile
-    else (if bytes_eq name (codes "certify") then Some Certify
-    else (if bytes_eq name (codes "generate") then Some Generate
-    else (if bytes_eq name (codes "grade") then Some Grade else None)))))
+    else (if bytes_eq name (codes "certify") then Some Certify else further_topic name)))
 
 -- `--help` and `--version`, alone
 abbrev pub asked_alone : List ℕ → Option Request

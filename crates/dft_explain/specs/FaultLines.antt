@@ -1,7 +1,7 @@
 -- What a person is told of words that are no command: the fault, and how the command is written.
 use Rattle.std.specs.Prelude.{ℕ, List, [], ◌∷◌, ◌++◌, codes, flat_map, Option, None, Some, if◌then◌else◌}
 use Rattle.std.specs.Str.{bytes_eq}
-use Rattle.dft_explain.specs.Faults.{Text, Form, Fault, NoCommand, NoSuchCommand, Unexpected, NoOption, Twice, NoValue, EmptyValue, Missing, NoNumber, OneFile, fault_of_options, form_of}
+use Rattle.dft_explain.specs.Faults.{Text, Form, Fault, NoCommand, NoSuchCommand, Unexpected, NoOption, Twice, NoValue, EmptyValue, Missing, NotOne, NoNumber, OneFile, fault_of_options, form_of, is_among}
 
 -- ---- the fault
 
@@ -16,6 +16,12 @@ command_line command text option = codes "dft: " ∷ command ∷ text ∷ option
 
 unfoldable pub number_line : (option range value : Text) → List Text
 number_line option range value = codes "dft: --" ∷ option ∷ codes " wants a number from " ∷ range ∷ codes ": " ∷ value ∷ []
+
+unfoldable pub pair_pieces : (first second : Text) → List Text
+pair_pieces first second = first ∷ codes " and --" ∷ second ∷ codes ", and not both" ∷ []
+
+unfoldable pub pair_line : (command first second : Text) → List Text
+pair_line command first second = codes "dft: " ∷ command ∷ codes " needs one of --" ∷ pair_pieces first second
 
 unfoldable pub second_pieces : (second file : Text) → List Text
 second_pieces second file = second ∷ codes " save one file: " ∷ file ∷ []
@@ -33,6 +39,7 @@ fault_line command (Twice option) = option_line option (codes " stands twice")
 fault_line command (NoValue option) = option_line option (codes " has no value")
 fault_line command (EmptyValue option) = option_line option (codes " has an empty value")
 fault_line command (Missing option) = command_line command (codes " needs --") option
+fault_line command (NotOne first second) = pair_line command first second
 fault_line command (NoNumber option range value) = number_line option range value
 fault_line command (OneFile first second file) = files_line first second file
 
@@ -41,9 +48,12 @@ fault_line command (OneFile first second file) = files_line first second file
 unfoldable pub any_form_line : List Text
 any_form_line = codes "dft: usage: dft COMMAND ..; dft --help says more" ∷ []
 
+-- the options whose values are numbers
+abbrev pub counted : List Text
+counted = codes "seed" ∷ codes "size" ∷ codes "channels" ∷ codes "chains" ∷ codes "length" ∷ codes "outputs" ∷ codes "masks" ∷ []
+
 abbrev pub kind_of : (option : Text) → Text
-kind_of option =
-    if bytes_eq option (codes "seed") then codes " NUMBER" else (if bytes_eq option (codes "size") then codes " NUMBER" else codes " FILE")
+kind_of option = if is_among option counted then codes " NUMBER" else codes " FILE"
 
 unfoldable pub option_pieces : (mark option : Text) → List Text
 option_pieces mark option = mark ∷ option ∷ kind_of option ∷ []

@@ -1,31 +1,70 @@
--- What is wrong with words that are no command: the first of six faults, in their order.
+-- What is wrong with words that are no command: the first of seven faults, in their order.
 use Rattle.std.specs.Prelude.{ℕ, Bool, true, false, not, ◌==◌, ◌&&◌, ◌^◌, List, [], ◌∷◌, ◌++◌, codes, drop, length, nat_lt, take, Option, None, Some, option_and_then, if◌then◌else◌}
 use Rattle.std.specs.Char.{is_ascii_digit}
 use Rattle.std.specs.List.{list_all, prefix_len}
 use Rattle.std.specs.Str.{bytes_eq}
 use Rattle.std.specs.Str.Parse.{digits_value}
-use Rattle.dft_explain.specs.Options.{behind, compile_saves, grade_saves, option_of, scan_saves, value_of}
+use Rattle.dft_explain.specs.Options.{behind, compile_saves, configure_saves, grade_saves, option_of, scan_saves, value_of}
 
 abbrev pub Text : Type 0
 Text = List ℕ
 
 -- ---- the forms of commands
 
--- a command: the options that it needs, those that may be left out, and those whose files it saves
+-- an option whose value is a number: how many digits it may have, the least and the greatest, and how a person is told
+pub record Range : Type 0 where
+  pub option : Text
+  pub digits : ℕ
+  pub least : ℕ
+  pub most : ℕ
+  pub text : Text
+
+unfoldable pub seed : Range
+seed = record { option = codes "seed"; digits = 20; least = 0; most = 18446744073709551615; text = codes "0 to 18446744073709551615" }
+
+unfoldable pub size : Range
+size = record { option = codes "size"; digits = 5; least = 16; most = 20000; text = codes "16 to 20000" }
+
+unfoldable pub channels : Range
+channels = record { option = codes "channels"; digits = 2; least = 1; most = 32; text = codes "1 to 32" }
+
+unfoldable pub chains : Range
+chains = record { option = codes "chains"; digits = 4; least = 1; most = 1024; text = codes "1 to 1024" }
+
+unfoldable pub longest : Range
+longest = record { option = codes "length"; digits = 5; least = 1; most = 65536; text = codes "1 to 65536" }
+
+unfoldable pub outputs : Range
+outputs = record { option = codes "outputs"; digits = 2; least = 1; most = 32; text = codes "1 to 32" }
+
+unfoldable pub masks : Range
+masks = record { option = codes "masks"; digits = 2; least = 1; most = 32; text = codes "1 to 32" }
+
+-- two options of which a command needs just one
+pub record Pair : Type 0 where
+  pub first : Text
+  pub second : Text
+
+-- a command: the options that it needs, those that may be left out, the pair of which it needs just one, those whose values are numbers,
+-- and those whose files it saves
 pub record Form : Type 0 where
   pub name : Text
   pub needed : List Text
   pub optional : List Text
+  pub pair : Option Pair
+  pub numbers : List Range
   pub saved : List Text
 
 abbrev pub replay_form : Form
-replay_form = record { name = codes "replay"; needed = codes "netlist" ∷ codes "patterns" ∷ []; optional = codes "library" ∷ []; saved = [] }
+replay_form = record { name = codes "replay"; needed = codes "netlist" ∷ codes "patterns" ∷ []; optional = codes "library" ∷ []; pair = None; numbers = []; saved = [] }
 
 abbrev pub scan_form : Form
 scan_form = record {
   name = codes "scan";
   needed = codes "netlist" ∷ codes "config" ∷ codes "out" ∷ codes "report" ∷ [];
   optional = codes "library" ∷ [];
+  pair = None;
+  numbers = [];
   saved = scan_saves;
 }
 
@@ -34,6 +73,8 @@ compile_form = record {
   name = codes "compile";
   needed = codes "netlist" ∷ codes "config" ∷ codes "cubes" ∷ codes "out-netlist" ∷ codes "out-patterns" ∷ codes "out-report" ∷ [];
   optional = codes "library" ∷ [];
+  pair = None;
+  numbers = [];
   saved = compile_saves;
 }
 
@@ -42,19 +83,39 @@ certify_form = record {
   name = codes "certify";
   needed = codes "netlist" ∷ codes "config" ∷ codes "cubes" ∷ codes "report" ∷ [];
   optional = codes "library" ∷ [];
+  pair = None;
+  numbers = [];
   saved = [];
 }
 
 abbrev pub generate_form : Form
-generate_form = record { name = codes "generate"; needed = codes "seed" ∷ codes "size" ∷ []; optional = []; saved = [] }
+generate_form = record { name = codes "generate"; needed = codes "seed" ∷ codes "size" ∷ []; optional = []; pair = None; numbers = seed ∷ size ∷ []; saved = [] }
 
 abbrev pub grade_form : Form
 grade_form = record {
   name = codes "grade";
   needed = codes "netlist" ∷ codes "patterns" ∷ codes "out" ∷ [];
   optional = codes "library" ∷ [];
+  pair = None;
+  numbers = [];
   saved = grade_saves;
 }
+
+abbrev pub configure_form : Form
+configure_form = record {
+  name = codes "configure";
+  needed = codes "netlist" ∷ codes "channels" ∷ codes "out" ∷ [];
+  optional = codes "chains" ∷ codes "length" ∷ codes "outputs" ∷ codes "masks" ∷ codes "library" ∷ [];
+  pair = Some (record { first = codes "chains"; second = codes "length" });
+  numbers = channels ∷ chains ∷ longest ∷ outputs ∷ masks ∷ [];
+  saved = configure_saves;
+}
+
+abbrev pub further_form : (name : Text) → Option Form
+further_form name =
+    if bytes_eq name (codes "generate") then Some generate_form
+    else (if bytes_eq name (codes "grade") then Some grade_form
+    else (if bytes_eq name (codes "configure") then Some configure_form else None))
 
 -- the command of this name
 abbrev pub form_of : (name : Text) → Option Form
@@ -62,9 +123,7 @@ form_of name =
     if bytes_eq name (codes "replay") then Some replay_form
     else (if bytes_eq name (codes "scan") then Some scan_form
     else (if bytes_eq name (codes "compile") then Some compile_form
-    else (if bytes_eq name (codes "certify") then Some certify_form
-    else (if bytes_eq name (codes "generate") then Some generate_form
-    else (if bytes_eq name (codes "grade") then Some grade_form else None)))))
+    else (if bytes_eq name (codes "certify") then Some certify_form else further_form name)))
 
 abbrev pub is_among : (text : Text) → (texts : List Text) → Bool
 is_among text [] = false
@@ -90,6 +149,8 @@ pub data Fault : Type 0 where
   EmptyValue : (option : Text) → Fault
   -- an option that the command needs
   Missing : (option : Text) → Fault
+  -- two options of which the command needs just one
+  NotOne : (first second : Text) → Fault
   -- a value that is no number of its option's range
   NoNumber : (option range value : Text) → Fault
   -- two outputs of one name
@@ -195,19 +256,16 @@ abbrev pub missing : (options words : List Text) → Option Fault
 missing [] words = None
 missing (option ∷ options) words = or_else (fault_where_none option (value_of option words)) (missing options words)
 
--- an option whose value is a number: how many digits it may have, the least and the greatest, and how a person is told
-pub record Range : Type 0 where
-  pub option : Text
-  pub digits : ℕ
-  pub least : ℕ
-  pub most : ℕ
-  pub text : Text
+-- just one of two options has a value
+abbrev pub fault_of_both : Pair → (one other : Option Text) → Option Fault
+fault_of_both pair (Some one) None = None
+fault_of_both pair None (Some other) = None
+fault_of_both pair (Some one) (Some other) = Some (NotOne pair.first pair.second)
+fault_of_both pair None None = Some (NotOne pair.first pair.second)
 
-unfoldable pub seed : Range
-seed = record { option = codes "seed"; digits = 20; least = 0; most = 18446744073709551615; text = codes "0 to 18446744073709551615" }
-
-unfoldable pub size : Range
-size = record { option = codes "size"; digits = 5; least = 16; most = 20000; text = codes "16 to 20000" }
+abbrev pub not_one : Option Pair → (words : List Text) → Option Fault
+not_one None words = None
+not_one (Some pair) words = fault_of_both pair (value_of pair.first words) (value_of pair.second words)
 
 -- the number below 2^64 that decimal digits write
 abbrev pub decimal_of : (text : Text) → Option ℕ
@@ -224,8 +282,10 @@ abbrev pub fault_of_number : Range → (value : Option Text) → Option Fault
 fault_of_number range None = None
 fault_of_number range (Some value) = if is_in range value then None else Some (NoNumber range.option range.text value)
 
-abbrev pub no_number : (words : List Text) → Option Fault
-no_number words = or_else (fault_of_number seed (value_of (codes "seed") words)) (fault_of_number size (value_of (codes "size") words))
+-- the first of these options whose value is no number of its range
+abbrev pub no_number : List Range → (words : List Text) → Option Fault
+no_number [] words = None
+no_number (range ∷ ranges) words = or_else (fault_of_number range (value_of range.option words)) (no_number ranges words)
 
 abbrev pub fault_of_first : (first : Option Text) → (second file : Text) → Option Fault
 fault_of_first None second file = None
@@ -242,7 +302,8 @@ one_file saved words [] = None
 one_file saved words (second ∷ outputs) = or_else (fault_of_output saved words second (value_of second words)) (one_file saved words outputs)
 
 abbrev pub fault_of_right_options : Form → (words : List Text) → Option Fault
-fault_of_right_options form words = or_else (missing form.needed words) (or_else (no_number words) (one_file form.saved words form.saved))
+fault_of_right_options form words =
+    or_else (missing form.needed words) (or_else (not_one form.pair words) (or_else (no_number form.numbers words) (one_file form.saved words form.saved)))
 
 -- the first of the faults of a command's options
 abbrev pub fault_of_options : Form → (words : List Text) → Option Fault

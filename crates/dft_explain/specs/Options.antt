@@ -68,7 +68,7 @@ file_of code name words =
 abbrev pub loaded : List (List ℕ)
 loaded = codes "library" ∷ codes "config" ∷ codes "netlist" ∷ codes "patterns" ∷ codes "cubes" ∷ codes "report" ∷ []
 
--- the options whose files a scan, a compilation and a grading save, in the order of saves
+-- the options whose files a scan, a compilation, a grading and a made configuration save, in the order of saves
 abbrev pub scan_saves : List (List ℕ)
 scan_saves = codes "out" ∷ codes "report" ∷ []
 
@@ -78,12 +78,16 @@ compile_saves = codes "out-netlist" ∷ codes "out-patterns" ∷ codes "out-repo
 abbrev pub grade_saves : List (List ℕ)
 grade_saves = codes "out" ∷ []
 
+abbrev pub configure_saves : List (List ℕ)
+configure_saves = codes "out" ∷ []
+
 -- the options whose files a command saves
-abbrev pub saved_by : (command : List ℕ) → List (List ℕ)
+unfoldable pub saved_by : (command : List ℕ) → List (List ℕ)
 saved_by command =
     if bytes_eq command (codes "scan") then scan_saves
     else (if bytes_eq command (codes "compile") then compile_saves
-    else (if bytes_eq command (codes "grade") then grade_saves else []))
+    else (if bytes_eq command (codes "grade") then grade_saves
+    else (if bytes_eq command (codes "configure") then configure_saves else [])))
 
 abbrev pub saved : (words : List (List ℕ)) → List (List ℕ)
 saved [] = []

@@ -12,6 +12,7 @@ pub enum Topic {
     Certify,
     Generate,
     Grade,
+    Configure,
 }
 
 /// What words ask for in place of a command's work.
@@ -70,10 +71,21 @@ fn topic_of(name: &str) -> Option<Topic>
         Some(Topic::Compile)
     } else if name == "certify" {
         Some(Topic::Certify)
-    } else if name == "generate" {
+    } else {
+        further_topic(name)
+    }
+}
+
+// The commands that are told by none of the names before.
+fn further_topic(name: &str) -> Option<Topic>
+    ensures { result ≡ spec.further_topic name.now }
+{
+    if name == "generate" {
         Some(Topic::Generate)
     } else if name == "grade" {
         Some(Topic::Grade)
+    } else if name == "configure" {
+        Some(Topic::Configure)
     } else {
         None
     }

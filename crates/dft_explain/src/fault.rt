@@ -11,8 +11,16 @@ pub(crate) enum Fault<'a> {
     NoValue(&'a [u8]),
     EmptyValue(&'a [u8]),
     Missing(&'static str),
+    NotOne(Pair),
     NoNumber(&'static str, &'static str, &'a [u8]),
     OneFile(&'static [u8], &'static str, &'a [u8]),
+}
+
+// Two options of which a command needs just one.
+#[derive(Clone, Copy)]
+pub(crate) struct Pair {
+    pub(crate) first: &'static str,
+    pub(crate) second: &'static str,
 }
 
 // An option whose value is a number: how many digits it may have, its least and its greatest, and how a person is told.

@@ -7,9 +7,9 @@ ghost use Rattle.dft_explain.specs.Faults.{first_fault};
 ghost use Rattle.dft_explain.specs.Told.{bytes_of, ends_of, is_told};
 ghost use Rattle.dft_explain.specs.CodeFaults.{fault_seen, form_seen};
 
-use crate::fault::Fault;
+use crate::fault::{Fault, Pair};
 use crate::faults::fault_of_options;
-use crate::forms::Form;
+use crate::forms::{Form, is_among};
 use crate::page::Page;
 use std::alloc::{AllocError, Global};
 
@@ -84,6 +84,7 @@ fn put_fault(page: &mut Page, command: &str, fault: Fault<'_>) -> Result<(), All
         Fault::NoValue(option) => put_option(page, option, " has no value"),
         Fault::EmptyValue(option) => put_option(page, option, " has an empty value"),
         Fault::Missing(option) => { put_of_command(page, command, " needs --", option.as_bytes()) }
+        Fault::NotOne(pair) => put_pair(page, command, pair),
         Fault::NoNumber(option, range, value) => put_number(page, option, range, value),
         Fault::OneFile(first, second, file) => put_files(page, first, second, file),
     }
@@ -123,6 +124,28 @@ fn put_of_command(
     page.put_text(command)?;
     page.put_text(text)?;
     page.put(option)?;
+    page.end()
+}
+
+#[tactic(auto, unfolding(crate::specs::FaultLines::pair_line))]
+// Adds a command and the two options of which it needs just one.
+fn put_pair(page: &mut Page, command: &str, pair: Pair) -> Result<(), AllocError>
+    ensures { OnOk result (page.new ≡ page.old ++ told_line (spec.pair_line command.now pair.first.now pair.second.now)) }
+{
+    page.put_text("dft: ")?;
+    page.put_text(command)?;
+    page.put_text(" needs one of --")?;
+    put_both(page, pair)
+}
+
+#[tactic(auto, unfolding(crate::specs::FaultLines::pair_pieces))]
+fn put_both(page: &mut Page, pair: Pair) -> Result<(), AllocError>
+    ensures { OnOk result (page.new ≡ page.old ++ told_line (spec.pair_pieces pair.first.now pair.second.now)) }
+{
+    page.put_text(pair.first)?;
+    page.put_text(" and --")?;
+    page.put_text(pair.second)?;
+    page.put_text(", and not both")?;
     page.end()
 }
 
@@ -226,11 +249,16 @@ fn push_one(
     Ok(())
 }
 
+// The options whose values are numbers.
+static COUNTED: [&str; 7] = [
+    "seed", "size", "channels", "chains", "length", "outputs", "masks",
+];
+
 // What an option's value is.
 fn kind_of(option: &str) -> &'static str
     ensures { result.now ≡ spec.kind_of option.now }
 {
-    if option == "seed" || option == "size" {
+    if is_among(option.as_bytes(), &COUNTED) {
         " NUMBER"
     } else {
         " FILE"

@@ -5,28 +5,12 @@ ghost use Rattle.std.specs.Char.{is_ascii_digit};
 ghost use Rattle.std.specs.List.{list_all, prefix_len};
 ghost use Rattle.dft_explain.specs.Faults as spec;
 ghost use Rattle.dft_explain.specs.Options.{value_of};
-ghost use Rattle.dft_explain.specs.CodeFaults.{fault_seen, form_seen, range_seen};
+ghost use Rattle.dft_explain.specs.CodeFaults.{fault_seen, form_seen, pair_seen, range_seen};
 
-use crate::fault::{Fault, Range};
+use crate::fault::{Fault, Pair, Range};
 use crate::forms::Form;
 use crate::options::{behind, option_of, value_of};
 use std::alloc::{AllocError, Global};
-
-static SEED: Range = Range {
-    option: "seed",
-    digits: 20,
-    least: 0,
-    most: 18_446_744_073_709_551_615,
-    text: "0 to 18446744073709551615",
-};
-
-static SIZE: Range = Range {
-    option: "size",
-    digits: 5,
-    least: 16,
-    most: 20_000,
-    text: "16 to 20000",
-};
 
 // The first thing that is wrong with the options of a command.
 pub(crate) fn fault_of_options<'a>(
@@ -49,7 +33,10 @@ fn fault_of_right_options<'a>(form: &Form, words: &'a [String]) -> Option<Fault<
     if let Some(fault) = missing(form.needed, words) {
         return Some(fault);
     }
-    if let Some(fault) = no_number(words) {
+    if let Some(fault) = not_one(form.pair, words) {
+        return Some(fault);
+    }
+    if let Some(fault) = no_number(form.numbers, words) {
         return Some(fault);
     }
     one_file(form.saved, words)
@@ -242,15 +229,31 @@ fn missing<'a>(needed: &'static [&'static str], words: &[String]) -> Option<Faul
     None
 }
 
-#[tactic(auto, unfolding(crate::specs::Faults::seed, crate::specs::Faults::size))]
-// The first value that is no number of its range.
-fn no_number<'a>(words: &'a [String]) -> Option<Fault<'a>>
-    ensures { option_map fault_seen result ≡ spec.no_number (map string_bytes words.entry.now) }
+// The pair of which not just one is given.
+fn not_one<'a>(pair: Option<Pair>, words: &[String]) -> Option<Fault<'a>>
+    ensures { option_map fault_seen result ≡ spec.not_one (option_map pair_seen pair) (map string_bytes words.now) }
 {
-    match fault_of_number(&SEED, value_of(b"seed".as_slice(), words)) {
-        Some(fault) => Some(fault),
-        None => fault_of_number(&SIZE, value_of(b"size".as_slice(), words)),
+    let Some(pair) = pair else {
+        return None;
+    };
+    let one = value_of(pair.first.as_bytes(), words);
+    let other = value_of(pair.second.as_bytes(), words);
+    match (one, other) {
+        (Some(_), None) | (None, Some(_)) => None,
+        _ => Some(Fault::NotOne(pair)),
     }
+}
+
+// The first value that is no number of its range.
+fn no_number<'a>(ranges: &'static [Range], words: &'a [String]) -> Option<Fault<'a>>
+    ensures { option_map fault_seen result ≡ spec.no_number (map range_seen ranges.entry.now) (map string_bytes words.entry.now) }
+{
+    for range in ranges {
+        if let Some(fault) = fault_of_number(range, value_of(range.option.as_bytes(), words)) {
+            return Some(fault);
+        }
+    }
+    None
 }
 
 fn fault_of_number<'a>(range: &Range, value: Option<&'a [u8]>) -> Option<Fault<'a>>

@@ -12,6 +12,7 @@ dft compile   inserts chains behind compression hardware, and makes patterns of 
 dft certify   tests what a report gives for its unsolvable cubes
 dft generate  makes a job from a seed, compiles it, and replays what it compiled
 dft grade     tells which single stuck-at faults of a netlist patterns find
+dft configure makes a configuration: compression hardware for so many chains and channels
 
 dft COMMAND --help tells its options, what it prints, and an example.
 ";
@@ -110,6 +111,25 @@ status 0 saved, 1 not passed, 2 wrong words, 3 refused, 4 not loaded, 5 not save
 dft grade --netlist scanned.v --patterns patterns.stil --out faults.report
 ";
 
+const CONFIGURE: &str = "\
+usage: dft configure --netlist FILE --channels B --chains C|--length L --out FILE [--outputs O] [--masks M] [--library FILE]
+
+--netlist FILE   the netlist, structural Verilog
+--channels B     how many channels feed the ring, 1 to 32
+--chains C       how many chains there are, 1 to 1024; or else
+--length L       how many cells a chain has at most, 1 to 65536
+--out FILE       where the configuration goes, TOML: dft compile takes it
+--outputs O      how many outputs, 1 to 32; without it the lesser of B and C
+--masks M        how many mask inputs, 1 to 32; without it as many as keep a load short
+--library FILE   the cells of the netlist, TOML; without it the standard cells
+
+prints
+  configured cells N unscanned U domains D resets R chains C longest K stages S ..
+status 0 saved, 2 wrong words, 3 refused, 4 not loaded, 5 not saved or printed, 6 no memory
+
+dft configure --netlist core.v --chains 64 --channels 2 --out core.toml
+";
+
 const VERSION: &str = "dft 0.1\n";
 
 /// What is told to who asks: of `--help` a line for each command; of a command its form, its options, what it prints and an
@@ -125,6 +145,7 @@ pub fn help(request: Request) -> &'static str
         Request::HelpOf(Topic::Certify) => CERTIFY,
         Request::HelpOf(Topic::Generate) => GENERATE,
         Request::HelpOf(Topic::Grade) => GRADE,
+        Request::HelpOf(Topic::Configure) => CONFIGURE,
         Request::Version => VERSION,
     }
 }

@@ -10,12 +10,14 @@ pub(crate) static LOADED: [&str; 6] = [
     "library", "config", "netlist", "patterns", "cubes", "report",
 ];
 
-// The options whose files a scan, a compilation and a grading save, in the order of saves.
+// The options whose files a scan, a compilation, a grading and a made configuration save, in the order of saves.
 pub(crate) static SCAN_SAVES: [&str; 2] = ["out", "report"];
 
 pub(crate) static COMPILE_SAVES: [&str; 3] = ["out-netlist", "out-patterns", "out-report"];
 
 pub(crate) static GRADE_SAVES: [&str; 1] = ["out"];
+
+pub(crate) static CONFIGURE_SAVES: [&str; 1] = ["out"];
 
 pub(crate) static NOTHING: [&str; 0] = [];
 
@@ -134,6 +136,7 @@ pub fn file_of<'a>(code: &[u8], name: Option<&[u8]>, words: &'a [String]) -> Opt
     }
 }
 
+#[tactic(auto, unfolding(crate::specs::Options::saved_by))]
 // The options whose files the command of these words saves, in the order of saves.
 pub(crate) fn saved(words: &[String]) -> &'static [&'static str]
     ensures { map (λ option. option.now) result.now ≡ spec.saved (map string_bytes words.now) }
@@ -142,6 +145,7 @@ pub(crate) fn saved(words: &[String]) -> &'static [&'static str]
         [command, ..] if command.as_str() == "scan" => &SCAN_SAVES,
         [command, ..] if command.as_str() == "compile" => &COMPILE_SAVES,
         [command, ..] if command.as_str() == "grade" => &GRADE_SAVES,
+        [command, ..] if command.as_str() == "configure" => &CONFIGURE_SAVES,
         _ => &NOTHING,
     }
 }

@@ -11,7 +11,8 @@ pub struct Said {
     pub advice: &'static str,
 }
 
-static SENTENCES: [Said; 68] = [
+// Of netlists, libraries and patterns.
+static OF_TEXTS: [Said; 38] = [
     Said {
         code: "F1",
         sentence: "the option's file has more bytes than its limit: 67,108,864, of patterns and reports 268,435,456",
@@ -202,6 +203,10 @@ static SENTENCES: [Said; 68] = [
         sentence: "a signal that is no bit of a port of the netlist with its direction",
         advice: "use the netlist's names: p[3] for a bit of a vector",
     },
+];
+
+// Of configurations, designs, cubes and reports.
+static OF_DESIGNS: [Said; 33] = [
     Said {
         code: "C1",
         sentence: "the bytes are no TOML text",
@@ -281,6 +286,21 @@ static SENTENCES: [Said; 68] = [
         code: "K6",
         sentence: "the report would be longer than a file may be",
         advice: "cut the design; of a compilation, fewer cubes at a time",
+    },
+    Said {
+        code: "X2",
+        sentence: "there is no scan clock: no flip-flop that could be scanned has a clock port whose nets are clocks alone",
+        advice: "map flip-flops to cells that have a scan cell, and keep a clock apart from data",
+    },
+    Said {
+        code: "X3",
+        sentence: "there would be more than this: chains than 1,024, or outputs or masks than chains",
+        advice: "give a greater length, or fewer outputs or masks",
+    },
+    Said {
+        code: "X4",
+        sentence: "no ring that is known fits so many chains and channels",
+        advice: "fewer chains or channels",
     },
     Said {
         code: "Q1",
@@ -365,13 +385,29 @@ pub fn said_of(code: &str, name: Option<&[u8]>) -> Option<&'static Said>
     }
 }
 
+// The row of this code.
 fn said_at(code: &str) -> Option<&'static Said>
     ensures { IfSome result (λ said. said.now.code.now ≡ code.now) }
 {
-    said_in(&SENTENCES, code)
+    match said_of_text(code) {
+        Some(said) => Some(said),
+        None => said_of_design(code),
+    }
 }
 
-// The row of this code.
+fn said_of_text(code: &str) -> Option<&'static Said>
+    ensures { IfSome result (λ said. said.now.code.now ≡ code.now) }
+{
+    said_in(&OF_TEXTS, code)
+}
+
+fn said_of_design(code: &str) -> Option<&'static Said>
+    ensures { IfSome result (λ said. said.now.code.now ≡ code.now) }
+{
+    said_in(&OF_DESIGNS, code)
+}
+
+// The row of this code among these.
 fn said_in(rows: &'static [Said], code: &str) -> Option<&'static Said>
     ensures { IfSome result (λ said. said.now.code.now ≡ code.now) }
 {

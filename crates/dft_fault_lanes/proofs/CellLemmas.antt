@@ -1,8 +1,8 @@
 -- What cells take in each lane, one place after another.
-use Rattle.std.proofs.Common.{ℕ, Bool, true, false, ◌≡◌, ◌<◌, ◌≤◌, ◌+◌, List, length, inl, inr, refl, sym, ap, subst, arith, ◌∙◌, get_or, slice_set, get_or-set_same, get_or-set_other, Some}
+use Rattle.std.proofs.Common.{ℕ, zero, suc, Bool, true, false, ◌≡◌, ◌<◌, ◌≤◌, ◌+◌, ◌⊎◌, List, [], ◌∷◌, length, drop, drop-cons, add-one, inl, inr, refl, sym, ap, subst, arith, ◌∙◌, get_or, slice_set, get_or-set_same, get_or-set_other, Some}
 use Rattle.std.specs.Prelude.{if◌then◌else◌}
-use Rattle.std.proofs.lemmas.List.{get_or_past}
-use Rattle.std.proofs.lemmas.Bool.{cases_eq}
+use Rattle.std.proofs.lemmas.List.{get_or_past, drop_all, length-set}
+use Rattle.std.proofs.lemmas.Bool.{cases_Bool, cases_eq}
 use Rattle.std.proofs.lemmas.Bool.Decides.{leb_tells}
 use Rattle.dft_base.specs.declared.tri.Tri.{Tri}
 use Rattle.dft_base.specs.declared.tri.Tri.TheVariants.{Zero, One, Unknown}
@@ -13,6 +13,7 @@ use Rattle.dft_cells.proofs.TriLemmas.{chosen_one, chosen_zero}
 use Rattle.dft_lanes.specs.declared.wide.Wide.{Wide}
 use Rattle.dft_lanes.specs.Choices.{can, some_choice_of_three}
 use Rattle.dft_netlist.specs.Logic.{Cell, no_cell}
+use Rattle.dft_netlist.specs.Orders.{Has}
 use Rattle.dft_abstract.specs.Cycle.{tri_forced_by}
 use Rattle.dft_logic.specs.declared.circuit.Acting.{Acting}
 use Rattle.dft_logic.specs.declared.circuit.FlipFlop.{FlipFlop}
@@ -23,7 +24,9 @@ use Rattle.dft_evaluator.specs.Wides.{value_in, values_in, wide_at, unknown_wide
 use Rattle.dft_evaluator.proofs.BitLemmas.{all_unknown}
 use Rattle.dft_evaluator.proofs.WideLemmas.{value_is, wide_is, wide_same, wide_muxes}
 use Rattle.dft_evaluator.proofs.SweepLemmas.{whole_set}
-use Rattle.dft_fault_lanes.specs.Lanes.{flop_at, is_changed}
+use Rattle.dft_fault_lanes.specs.Lanes.{flop_at, is_changed, AreActedOn, AreTaken}
+use Rattle.dft_fault_lanes.specs.Moves.{NoneActs}
+use Rattle.dft_fault_lanes.specs.Plans.{ArePlaces}
 
 -- ---- next values
 
@@ -108,7 +111,7 @@ write_none start now new place written stays = record {
   rest = λ k from. written.rest k (omega arith);
 }
 
-past_unknown : (wides : List Wide) (lane c : ℕ) → length wides ≤ c → lane < 512 → values_in wides lane c ≡ Unknown
+pub past_unknown : (wides : List Wide) (lane c : ℕ) → length wides ≤ c → lane < 512 → values_in wides lane c ≡ Unknown
 past_unknown wides lane c far within = ap (λ (v : Wide). value_in v lane) (get_or_past wides c unknown_wide far) ∙ value_is unknown_wide (λ lane. Unknown) all_unknown lane within
 
 -- all cells, where past the end what is new is what is old
@@ -143,28 +146,94 @@ taken_past flops rising pulsed ports wides lane c far =
     ap (λ (cell : Cell). if is_changed cell rising pulsed then next_at cell (value_at ports) (values_in wides lane) else Unknown) (cell_past flops c far)
     ∙ either_unknown (is_changed (no_cell c) rising pulsed)
 
-if_true : (b : Bool) (t u : Tri) → b ≡ true → t ≡ (if b then t else u)
-if_true true t u up = refl
-if_true false t u up = absurd cc
+-- the cells at the places before one have their new values, those at none of them are as at the start
+pub record TakenTo (flops : List FlipFlop) (places : List ℕ) (ports : List Tri) (wides start now : List Wide) (j : ℕ) : Type 0 where
+  pub size : length now ≡ length start
+  pub done : (c : ℕ) → Has places c → IsWide (wide_at now c) (λ lane. next_at (flop_at flops c) (value_at ports) (values_in wides lane)) ⊎ Has (drop j places) c
+  pub rest : (c : ℕ) → (Has places c → ⊥) → wide_at now c ≡ wide_at start c
 
--- a cell that takes its next value
-pub take_one : (flops : List FlipFlop) (rising : Bool) (pulsed : List Bool) (ports : List Tri) (wides start now : List Wide) (place : ℕ) (flop : FlipFlop) (up : Bool) (w : Wide) → place < length flops → length now ≡ length flops →
-    flop ≡ get_or flops place flop → up ≡ is_changed (cell_of flop) rising pulsed → up ≡ true → IsWide w (λ lane. next_at (cell_of flop) (value_at ports) (values_in wides lane)) →
-    Written start now (taken_by flops rising pulsed ports wides) place → Written start (slice_set now place w) (taken_by flops rising pulsed ports wides) (place + 1)
-take_one flops rising pulsed ports wides start now place flop up w less len read tells is_up is written =
-    let cell : cell_of flop ≡ flop_at flops place = ap cell_of read ∙ cell_read flops place flop less in
-    let changes : is_changed (flop_at flops place) rising pulsed ≡ true = ap (λ (k : Cell). is_changed k rising pulsed) (sym cell) ∙ sym tells ∙ is_up in
-    write_more start now (taken_by flops rising pulsed ports wides) place w (omega (arith, len, less)) written
-    (wide_same w (λ lane. next_at (cell_of flop) (value_at ports) (values_in wides lane)) (λ lane. taken_by flops rising pulsed ports wides lane place (values_in now lane place)) is
-    (λ lane within. ap (λ (k : Cell). next_at k (value_at ports) (values_in wides lane)) cell ∙ if_true (is_changed (flop_at flops place) rising pulsed) _ _ changes))
+pub none_taken : (flops : List FlipFlop) (places : List ℕ) (ports : List Tri) (wides start : List Wide) → TakenTo flops places ports wides start start 0
+none_taken flops places ports wides start = record { size = refl; done = λ c h. inr h; rest = λ c none. refl }
 
-pub take_none : (flops : List FlipFlop) (rising : Bool) (pulsed : List Bool) (ports : List Tri) (wides start now : List Wide) (place : ℕ) (flop : FlipFlop) (up : Bool) → place < length flops →
-    flop ≡ get_or flops place flop → up ≡ is_changed (cell_of flop) rising pulsed → up ≡ false →
-    Written start now (taken_by flops rising pulsed ports wides) place → Written start now (taken_by flops rising pulsed ports wides) (place + 1)
-take_none flops rising pulsed ports wides start now place flop up less read tells is_up written =
-    let cell : cell_of flop ≡ flop_at flops place = ap cell_of read ∙ cell_read flops place flop less in
-    let rests : is_changed (flop_at flops place) rising pulsed ≡ false = ap (λ (k : Cell). is_changed k rising pulsed) (sym cell) ∙ sym tells ∙ is_up in
-    write_none start now (taken_by flops rising pulsed ports wides) place written (λ lane t. ap (λ b. if b then next_at (flop_at flops place) (value_at ports) (values_in wides lane) else t) rests)
+has_read : (xs : List ℕ) (j d : ℕ) → j < length xs → Has xs (get_or xs j d)
+has_read [] j d less = absurd (omega arith)
+has_read (x ∷ xs) zero d less = inl refl
+has_read (x ∷ xs) (suc j) d less = inr (has_read xs j d (omega arith))
+
+pub place_live : (count : ℕ) (places : List ℕ) (j d : ℕ) → ((c : ℕ) → Has places c → c < count) → j < length places → get_or places j d < count
+place_live count places j d live less = live (get_or places j d) (has_read places j d less)
+
+pub take_at : (flops : List FlipFlop) (places : List ℕ) (ports : List Tri) (wides start now : List Wide) (j : ℕ) (flop : FlipFlop) (w : Wide) → j < length places → length start ≡ length flops → ((c : ℕ) → Has places c → c < length flops) →
+    flop ≡ get_or flops (get_or places j 0) flop → IsWide w (λ lane. next_at (cell_of flop) (value_at ports) (values_in wides lane)) →
+    TakenTo flops places ports wides start now j → TakenTo flops places ports wides start (slice_set now (get_or places j 0) w) (j + 1)
+take_at flops places ports wides start now j flop w less len live read is taken =
+    let p : ℕ = get_or places j 0 in
+    let long = taken.size in
+    let here : p < length flops = place_live (length flops) places j 0 live less in
+    let room : p < length now = omega (arith, len, here, long) in
+    let cell : cell_of flop ≡ flop_at flops p = ap cell_of read ∙ cell_read flops p flop here in
+    let new : List Wide = slice_set now p w in
+    let N : Cell → Wide → Type 0 = λ k v. IsWide v (λ lane. next_at k (value_at ports) (values_in wides lane)) in
+    let front : drop j places ≡ p ∷ drop (j + 1) places = rw (add-one) (drop-cons places j 0 less) in
+    let next : N (flop_at flops p) (wide_at new p) = subst (λ (v : Wide). N (flop_at flops p) v) (sym (get_or-set_same now p w unknown_wide room)) (subst (λ (k : Cell). N k w) cell is) in
+    record {
+      size = length-set now p w ∙ taken.size;
+      done = λ c h. elim (cases_eq c p) [
+        | inl e ↦ inl (let P : ℕ → Type 0 = λ i. N (flop_at flops i) (wide_at new i) in subst P (sym e) next)
+        | inr ne ↦ elim (taken.done c h) [
+          | inl old ↦ inl (subst (λ (v : Wide). N (flop_at flops c) v) (sym (get_or-set_other now p c w unknown_wide ne)) old)
+          | inr later ↦ (let P : List ℕ → Type 0 = λ l. Has l c in elim (subst P front later) [ inl e ↦ absurd (ne e) | inr after ↦ inr after ])
+        ]
+      ];
+      rest = λ c none. get_or-set_other now p c w unknown_wide (λ e. none (subst (λ (i : ℕ). Has places i) (sym e) (has_read places j 0 less))) ∙ taken.rest c none;
+    }
+
+listed_wide : (flops : List FlipFlop) (places : List ℕ) (ports : List Tri) (wides start now : List Wide) (j c : ℕ) → length places ≤ j → TakenTo flops places ports wides start now j → Has places c → IsWide (wide_at now c) (λ lane. next_at (flop_at flops c) (value_at ports) (values_in wides lane))
+listed_wide flops places ports wides start now j c past taken h = elim (taken.done c h) [
+  | inl is ↦ is
+  | inr later ↦ (let P : List ℕ → Type 0 = λ l. Has l c in absurd (subst P (drop_all j places past) later))
+]
+
+pub all_taken : (flops : List FlipFlop) (places : List ℕ) (ports : List Tri) (wides start now : List Wide) (j : ℕ) → length places ≤ j → TakenTo flops places ports wides start now j →
+    (lane c : ℕ) → lane < 512 → Has places c → values_in now lane c ≡ next_at (flop_at flops c) (value_at ports) (values_in wides lane)
+all_taken flops places ports wides start now j past taken lane c within h =
+    value_is (wide_at now c) (λ p. next_at (flop_at flops c) (value_at ports) (values_in wides p)) (listed_wide flops places ports wides start now j c past taken h) lane within
+
+pub has_or_not : (xs : List ℕ) (k : ℕ) → Has xs k ⊎ (Has xs k → ⊥)
+has_or_not [] k = inr (λ h. h)
+has_or_not (x ∷ xs) k = elim (cases_eq k x) [
+  | inl e ↦ inl (inl e)
+  | inr ne ↦ elim (has_or_not xs k) [ inl h ↦ inl (inr h) | inr none ↦ inr (λ h. elim h [ inl e ↦ ne e | inr rest ↦ none rest ]) ]
+]
+
+-- each cell can be something in each lane, where each that is at no place could
+pub all_wide : (flops : List FlipFlop) (places : List ℕ) (ports : List Tri) (wides start now : List Wide) (j : ℕ) → length places ≤ j → TakenTo flops places ports wides start now j →
+    ((c : ℕ) → (Has places c → ⊥) → IsWide (wide_at start c) (value_in (wide_at start c))) → AreWides now
+all_wide flops places ports wides start now j past taken whole c = elim (has_or_not places c) [
+  | inl h ↦ wide_is (wide_at now c) (λ lane. next_at (flop_at flops c) (value_at ports) (values_in wides lane)) (listed_wide flops places ports wides start now j c past taken h)
+  | inr none ↦ (let W : Wide → Type 0 = λ w. IsWide w (value_in w) in subst W (sym (taken.rest c none)) (whole c none))
+]
+
+-- the cells of all these places took their values, where these are those that change
+pub places_taken : (flops : List FlipFlop) (rising : Bool) (pulsed : List Bool) (left : ℕ → Bool) (places : List ℕ) (ports : List Tri) (wides old new : List Wide) → length old ≡ length flops → length new ≡ length flops → ArePlaces flops rising pulsed left places → ((c : ℕ) → is_changed (flop_at flops c) rising pulsed ≡ true → left c ≡ false) →
+    ((lane c : ℕ) → lane < 512 → Has places c → values_in new lane c ≡ next_at (flop_at flops c) (value_at ports) (values_in wides lane)) → ((c : ℕ) → (Has places c → ⊥) → wide_at new c ≡ wide_at old c) →
+    AreTaken flops rising pulsed ports wides old new
+places_taken flops rising pulsed left places ports wides old new size size_new are stays taken kept lane c within = elim (has_or_not places c) [
+  | inl h ↦ taken lane c within h ∙ ap (λ b. if b then next_at (flop_at flops c) (value_at ports) (values_in wides lane) else values_in old lane c) (sym (are.1 c h).1.0)
+  | inr none ↦ elim (leb_tells (length flops) c) [
+    | inl far ↦ (let first : length old ≤ c = omega (arith, far.1, size) in
+        let second : length new ≤ c = omega (arith, far.1, size_new) in
+        past_unknown new lane c second within ∙ sym (taken_past flops rising pulsed ports wides lane c far.1)
+        ∙ ap (taken_by flops rising pulsed ports wides lane c) (sym (past_unknown old lane c first within)))
+    | inr near ↦ ap (λ (v : Wide). value_in v lane) (kept c none)
+        ∙ ap (λ b. if b then next_at (flop_at flops c) (value_at ports) (values_in wides lane) else values_in old lane c) (sym (not_changed flops rising pulsed left places c are stays near.1 none))
+  ]
+] where
+  not_changed : (flops : List FlipFlop) (rising : Bool) (pulsed : List Bool) (left : ℕ → Bool) (places : List ℕ) (c : ℕ) → ArePlaces flops rising pulsed left places → ((k : ℕ) → is_changed (flop_at flops k) rising pulsed ≡ true → left k ≡ false) → c < length flops → (Has places c → ⊥) → is_changed (flop_at flops c) rising pulsed ≡ false
+  not_changed flops rising pulsed left places c are stays near none = elim (cases_Bool (is_changed (flop_at flops c) rising pulsed)) [
+    | inl up ↦ absurd (none (are.0 c near up (stays c up)))
+    | inr down ↦ down
+  ]
 
 -- a cell that is acted on
 pub act_one : (flops : List FlipFlop) (ports : List Tri) (start now : List Wide) (place : ℕ) (flop : FlipFlop) (w : Wide) → place < length flops → length now ≡ length flops → flop ≡ get_or flops place flop →
@@ -180,3 +249,11 @@ pub act_none : (flops : List FlipFlop) (ports : List Tri) (start now : List Wide
 act_none flops ports start now place flop less read stays written =
     let cell : cell_of flop ≡ flop_at flops place = ap cell_of read ∙ cell_read flops place flop less in
     write_none start now (acted_by flops ports) place written (λ lane t. ap (λ (k : Cell). tri_forced_by k.force (value_at ports) t) (sym cell) ∙ stays t)
+
+-- where no reset or set acts every cell stays as it is
+pub none_acted : (flops : List FlipFlop) (ports : List Tri) (cells : List Wide) → length cells ≡ length flops → NoneActs flops ports → AreActedOn flops ports cells cells
+none_acted flops ports cells size none lane c within = elim (leb_tells (length flops) c) [
+  | inl far ↦ (let out : length cells ≤ c = omega (arith, far.1, size) in
+      past_unknown cells lane c out within ∙ sym (acted_past flops ports lane c far.1) ∙ ap (acted_by flops ports lane c) (sym (past_unknown cells lane c out within)))
+  | inr near ↦ sym (none c near.1 (values_in cells lane c))
+]

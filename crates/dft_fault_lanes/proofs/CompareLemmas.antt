@@ -40,6 +40,13 @@ word_none one zeros lane none =
 pub word_bits : (word i : ℕ) (a b : ℕ) → bit_at word i ≡ min a b → word ≡ 0 → min a b ≡ 0
 word_bits word i a b is none = sym is ∙ ap (λ (w : ℕ). bit_at w i) none ∙ bit_at-zero i
 
+-- nets with the same words have the same values
+pub same_values : (one other : Wide) → ((k : ℕ) → k < 8 → (get_or one.can_zero k 0 ≡ get_or other.can_zero k 0) × (get_or one.can_one k 0 ≡ get_or other.can_one k 0)) → (lane : ℕ) → lane < 512 → value_in one lane ≡ value_in other lane
+unfolding packed_bit
+same_values one other same lane within =
+    let words = same (lane / 64) (omega arith) in
+    ap (λ (w : ℕ). value_of (bit_at w (lane % 64) == 1) (can one lane true)) words.0 ∙ ap (λ (w : ℕ). value_of (can other lane false) (bit_at w (lane % 64) == 1)) words.1
+
 -- ---- lanes that are marked
 
 -- the lanes before one are marked where they are hit, the others are as at the start

@@ -10,7 +10,7 @@ use Rattle.dft_netlist.specs.declared.instance.Instance.{Instance}
 use Rattle.dft_netlist.specs.declared.instance.Signal.{Signal}
 use Rattle.dft_netlist.specs.declared.instance.Signal.TheVariants as signal
 use Rattle.dft_netlist.specs.Netlist.{Netlist}
-use Rattle.dft_netlist.specs.Drivers.{Source, Net, Driver, Input, Gate, Flop, Free, driver, nets_of, shape_of, source_of, connections_from, pins_at, pins_of}
+use Rattle.dft_netlist.specs.Drivers.{Net, Driver, Input, Gate, Flop, Free, driver, nets_of, shape_of, source_of, connections_from, pins_at}
 use Rattle.dft_netlist.specs.Drivers as drivers
 use Rattle.dft_netlist.specs.ClockRoots.{turn_of}
 use Rattle.dft_netlist.specs.Logic.{Ports, reads, same_role, pin_of, meaning_of, logic_of}

@@ -17,8 +17,8 @@ use Rattle.dft_replay.specs.declared.verdict.Unknowns.TheVariants.{Skip}
 use Rattle.dft_replay.specs.declared.verdict.Verdict.{Verdict}
 use Rattle.dft_replay.specs.declared.verdict.Verdict.TheVariants.{Pass, Mismatch}
 use Rattle.dft_patterns.specs.declared.act.Act.{Act}
-use Rattle.dft_replay.specs.Rows.{Row, row_of, rows_from}
-use Rattle.dft_replay.specs.Verdicts.{Stops, EndsFrom}
+use Rattle.dft_replay.specs.Rows.{Compared, Row, row_of, rows_from}
+use Rattle.dft_replay.specs.Verdicts.{Stops, EndsFrom, bits_decide}
 use Rattle.dft_grade.specs.declared.found.Grade.{Grade}
 use Rattle.dft_grade.specs.declared.found.Grade.TheVariants.{Detected, Undetected}
 use Rattle.dft_fault_laws.specs.Stuck.{with_fault}
@@ -30,15 +30,17 @@ use Rattle.dft_fault_lanes.specs.Groups.{IsLaneStep, AreSteps, HasRowsGrade, Lan
 
 -- ---- a vector
 
-one_is : (t : Tri) → is_one t ≡ true → t ≡ One
+pub one_is : (t : Tri) → is_one t ≡ true → t ≡ One
 one_is One is = refl
 one_is Zero is = absurd (let f : ⊥ = cc in f)
 one_is Unknown is = absurd (let f : ⊥ = cc in f)
 
-pub lanes_step : (x : Circuit) (clamps : List (Option Clamp)) (row : Row) (v : ℕ) (ports : List Tri) (pulsed : List Bool) (before held strobe after : List Wide) (live middle last : Wide) (found found_now : List (Option Grade)) →
-    ((net : ℕ) → value_at ports net ≡ row.vector.ports net) → ((net : ℕ) → flag_at pulsed net ≡ row.vector.pulsed net) → IsStrobeOf x ports clamps before held strobe → ArePulsed x ports pulsed clamps strobe held after live middle →
+pub lanes_step : (x : Circuit) (needs : ℕ → Bool) (clamps : List (Option Clamp)) (row : Row) (v : ℕ) (ports : List Tri) (pulsed : List Bool) (before held strobe after : List Wide) (live middle last : Wide) (found found_now : List (Option Grade)) →
+    ((net : ℕ) → value_at ports net ≡ row.vector.ports net) → ((net : ℕ) → flag_at pulsed net ≡ row.vector.pulsed net) →
+    ((values all : ℕ → Tri) → ((net : ℕ) → needs net ≡ true → values net ≡ all net) → bits_decide Skip values v row.compared ≡ bits_decide Skip all v row.compared) →
+    IsStrobeOf x needs ports clamps before held strobe → ArePulsed x needs ports pulsed clamps strobe held after live middle →
     AreCompared strobe v row.compared middle found last found_now → AreSteps x clamps row v before after live last found found_now
-lanes_step x clamps row v ports pulsed before held strobe after live middle last found found_now sets flags at pulse bits lane stuck value within is = elim (cases_Bool (is_one (value_in middle lane))) [
+lanes_step x needs clamps row v ports pulsed before held strobe after live middle last found found_now sets flags decides at pulse bits lane stuck value within is = elim (cases_Bool (is_one (value_in middle lane))) [
   | inl up ↦ (
       let l : Logic = with_fault stuck value (logic_at x) in
       let went = pulse before lane stuck value at within is (one_is (value_in middle lane) up) in
@@ -46,10 +48,12 @@ lanes_step x clamps row v ports pulsed before held strobe after live middle last
       let r : Round = went.1.0 in
       let R : Vector → Type 0 = λ w. IsRound l w (values_in before lane) r × ((c : ℕ) → after_round l w (values_in before lane) r c ≡ values_in after lane c) in
       let round = subst R same (went.1.1.1.0, went.1.1.1.1) in
-      let D : (ℕ → Tri) → Type 0 = λ values. IsDecided values v row.compared (is_one (value_in last lane)) (found_at found lane) (found_at found_now lane) in
-      inr (ap is_one went.0, (r, (round.0, (round.1, subst D (sym went.1.1.0) (bits.lives lane within up))))))
+      inr (ap is_one went.0, (r, (round.0, (round.1, decided_as (values_in strobe lane) r.strobe v row.compared (is_one (value_in last lane)) (found_at found lane) (found_at found_now lane) (decides (values_in strobe lane) r.strobe went.1.1.0) (bits.lives lane within up))))))
   | inr down ↦ inl (bits.rests lane within down)
-]
+] where
+  decided_as : (values all : ℕ → Tri) (v : ℕ) (compared : List Compared) (live : Bool) (old new : Option Grade) → bits_decide Skip values v compared ≡ bits_decide Skip all v compared → IsDecided values v compared live old new → IsDecided all v compared live old new
+  decided_as values all v compared live old new same (inl none) = inl (sym same ∙ none.0, none.1)
+  decided_as values all v compared live old new same (inr some) = inr (some.0, (sym same ∙ some.1.0, some.1.1))
 
 -- ---- one lane, a row more
 

@@ -3,7 +3,12 @@ pub mod Settling
 pub mod CellLemmas
 pub mod LaneLemmas
 pub mod SteadyLemmas
+pub mod WholeLemmas
 pub mod RoundLemmas
+pub mod PlanLemmas
+pub mod SeenLemmas
+pub mod MoveLemmas
+pub mod MarkLemmas
 pub mod CompareLemmas
 pub mod SignalLemmas
 pub mod StickLemmas

@@ -1,10 +1,8 @@
 -- Nets are settled one after another in all lanes: each keeps its value while later ones are written.
-use Rattle.std.proofs.Common.{ℕ, List, [], ◌∷◌, ◌≡◌, ◌<◌, ◌≤◌, ◌+◌, ◌≢◌, ◌⊎◌, inl, inr, length, drop, sym, ap, ◌∙◌, subst, get_or, slice_set, get_or-set_same, get_or-set_other, arith, Option, None}
+use Rattle.std.proofs.Common.{ℕ, List, [], ◌∷◌, ◌≡◌, ◌<◌, ◌≤◌, ◌+◌, ◌≢◌, ◌⊎◌, inl, inr, length, drop, sym, ap, ◌∙◌, subst, get_or, slice_set, get_or-set_same, get_or-set_other, arith}
 use Rattle.std.specs.List.{AllByRecursion}
-use Rattle.std.proofs.lemmas.List.{get_or_past, get_or_read, get_or_default, drop_all}
-use Rattle.std.proofs.lemmas.Bool.Decides.{leb_tells}
+use Rattle.std.proofs.lemmas.List.{get_or_read, get_or_default, drop_all}
 use Rattle.dft_base.specs.declared.tri.Tri.{Tri}
-use Rattle.dft_base.specs.declared.tri.Tri.TheVariants.{Unknown}
 use Rattle.dft_lanes.specs.declared.wide.Wide.{Wide}
 use Rattle.dft_netlist.specs.declared.ids.NetId.{NetId}
 use Rattle.dft_netlist.specs.Logic.{Meaning, reads}
@@ -12,19 +10,16 @@ use Rattle.dft_netlist.specs.Settled.{value_given}
 use Rattle.dft_netlist.specs.Orders.{Has, numbers_of}
 use Rattle.dft_logic.specs.declared.circuit.Op.{Op}
 use Rattle.dft_logic.specs.declared.circuit.Op.TheVariants as op
-use Rattle.dft_logic.specs.declared.circuit.Circuit.{Circuit}
-use Rattle.dft_logic.specs.Circuit.{meaning, op_at, flag_at, AreOrdered, IsCircuit}
+use Rattle.dft_logic.specs.Circuit.{meaning, op_at, flag_at, AreOrdered}
 use Rattle.dft_logic.specs.Values.{value_at}
 use Rattle.dft_logic.specs.Needs.{still_from}
 use Rattle.dft_logic.proofs.Settlings.{all_more}
 use Rattle.dft_logic.proofs.ReadLemmas.{Agree, still_agrees}
 use Rattle.dft_logic.proofs.Fillings.{front}
 use Rattle.dft_evaluator.specs.Wides.{value_in, values_in, unknown_wide, IsWide, AreWides}
-use Rattle.dft_evaluator.proofs.BitLemmas.{all_unknown}
 use Rattle.dft_evaluator.proofs.WideLemmas.{wide_is, value_is}
 use Rattle.dft_evaluator.proofs.SweepLemmas.{whole_set}
-use Rattle.dft_fault_lanes.specs.declared.clamps.Clamp.{Clamp}
-use Rattle.dft_fault_lanes.specs.Lanes.{clamped, clamp_at, Situation, lane_given, AreSettled}
+use Rattle.dft_fault_lanes.specs.Lanes.{clamped, clamp_at, Situation, lane_given}
 
 -- ---- a value depends on what it reads
 
@@ -45,11 +40,11 @@ pub record Settling (ops : List Op) (s : Situation) (order : List NetId) (wides 
   pub rest : AreOrdered ops before (numbers_of (drop j order))
   pub closed : (k : ℕ) → Has before k → AllByRecursion (Has before) (reads (meaning (op_at ops k)))
   pub done : (lane k : ℕ) → lane < 512 → Has before k → values_in wides lane k ≡ lane_given s lane (values_in wides lane) k (meaning (op_at ops k))
-  pub either : (k : ℕ) → k < length ops → Has before k ⊎ Has (numbers_of (drop j order)) k
+  pub either : (k : ℕ) → Has (numbers_of order) k → Has before k ⊎ Has (numbers_of (drop j order)) k
 
-pub settling_starts : (x : Circuit) (s : Situation) (start : List Wide) → IsCircuit x → AreWides start → Settling x.ops.items s x.order.items start 0
-settling_starts x s start is whole =
-    record { whole = whole; before = []; rest = is.after; closed = λ k h. absurd h; done = λ lane k less h. absurd h; either = λ k less. inr (is.whole k less) }
+pub settling_starts : (ops : List Op) (s : Situation) (order : List NetId) (start : List Wide) → AreOrdered ops [] (numbers_of order) → AreWides start → Settling ops s order start 0
+settling_starts ops s order start ordered whole =
+    record { whole = whole; before = []; rest = ordered; closed = λ k h. absurd h; done = λ lane k less h. absurd h; either = λ k h. inr h }
 
 pub net_live : (ops : List Op) (s : Situation) (order : List NetId) (wides : List Wide) (j : ℕ) (net : NetId) → j < length order → net ≡ get_or order j net → Settling ops s order wides j → net.0 < length ops
 net_live ops s order wides j net less is settling =
@@ -62,7 +57,7 @@ pub one_more : (ops : List Op) (s : Situation) (order : List NetId) (wides : Lis
 one_more ops s order wides j net w less is len settling given =
     let e = front order j net less is in
     let P : List NetId → Type 0 = λ l. AreOrdered ops settling.before (numbers_of l) in
-    let Q : List NetId → Type 0 = λ l. (k : ℕ) → k < length ops → Has settling.before k ⊎ Has (numbers_of l) k in
+    let Q : List NetId → Type 0 = λ l. (k : ℕ) → Has (numbers_of order) k → Has settling.before k ⊎ Has (numbers_of l) k in
     let now = subst P e settling.rest in
     let later = subst Q e settling.either in
     let live : net.0 < length wides = (let q : net.0 < length ops = now.1 in omega arith) in
@@ -107,14 +102,8 @@ step ops s order nets wides j driver given w e less len settling read is keeps =
     let S : Op → Type 0 = λ o. IsWide w (λ lane. clamped (clamp_at s.clamps net.0) lane (value (meaning o) lane)) in
     one_more ops s order wides j net w here at len settling (subst S (get_or_read ops net.0 driver live read op.Free) (keeps (value (meaning driver)) is))
 
-pub all_settled : (x : Circuit) (s : Situation) (wides : List Wide) (j : ℕ) → length x.order.items ≤ j → length wides ≡ length x.ops.items → length s.clamps ≡ length x.ops.items
-    → Settling x.ops.items s x.order.items wides j → AreSettled x.ops.items s wides
-all_settled x s wides j past len clamps settling lane k within = elim (leb_tells (length x.ops.items) k) [
-  | inl out ↦ (let far : length wides ≤ k = omega (arith, out.1, len) in
-      let free : length s.clamps ≤ k = omega (arith, out.1, clamps) in
-      ap (λ (v : Wide). value_in v lane) (get_or_past wides k unknown_wide far) ∙ value_is unknown_wide (λ lane. Unknown) all_unknown lane within
-      ∙ sym (ap (λ (o : Option Clamp). clamped o lane Unknown) (get_or_past s.clamps k None free))
-      ∙ sym (ap (λ (o : Op). lane_given s lane (values_in wides lane) k (meaning o)) (get_or_past x.ops.items k op.Free out.1)))
-  | inr live ↦ (let Q : List NetId → Type 0 = λ l. Has settling.before k ⊎ Has (numbers_of l) k in
-      elim (subst Q (drop_all j x.order.items past) (settling.either k live.1)) [ inl older ↦ settling.done lane k within older | inr none ↦ absurd none ])
-]
+pub all_settled : (ops : List Op) (s : Situation) (order : List NetId) (wides : List Wide) (j : ℕ) → length order ≤ j → Settling ops s order wides j →
+    (lane k : ℕ) → lane < 512 → Has (numbers_of order) k → values_in wides lane k ≡ lane_given s lane (values_in wides lane) k (meaning (op_at ops k))
+all_settled ops s order wides j past settling lane k within has =
+    let Q : List NetId → Type 0 = λ l. Has settling.before k ⊎ Has (numbers_of l) k in
+    elim (subst Q (drop_all j order past) (settling.either k has)) [ inl older ↦ settling.done lane k within older | inr none ↦ absurd none ]

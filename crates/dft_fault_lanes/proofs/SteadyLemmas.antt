@@ -54,7 +54,7 @@ not_one Unknown is = absurd (let f : ⊥ = cc in f)
 -- ---- what is read
 
 -- the nets of one source, and of more
-cons_has : (needs : ℕ → Bool) (source : Source) (sources : List Source) → HasAll needs (nets_of (source ∷ [])) → HasAll needs (nets_of sources) → HasAll needs (nets_of (source ∷ sources))
+pub cons_has : (needs : ℕ → Bool) (source : Source) (sources : List Source) → HasAll needs (nets_of (source ∷ [])) → HasAll needs (nets_of sources) → HasAll needs (nets_of (source ∷ sources))
 cons_has needs (Net net) sources first rest = (first.0, rest)
 cons_has needs (Tied bit) sources first rest = rest
 cons_has needs (Loose i pin) sources first rest = rest
@@ -74,7 +74,7 @@ port_has needs Zero sources has = tt
 port_has needs One sources has = has
 port_has needs Unknown sources has = has
 
-force_has : (needs : ℕ → Bool) (force : Option Force) (ports : ℕ → Tri) (sources : List Source) → HasAll needs (nets_of sources) → HasAll needs (nets_of (forced_reads force ports sources))
+pub force_has : (needs : ℕ → Bool) (force : Option Force) (ports : ℕ → Tri) (sources : List Source) → HasAll needs (nets_of sources) → HasAll needs (nets_of (forced_reads force ports sources))
 force_has needs None ports sources has = has
 force_has needs (Some force) ports sources has = port_has needs (ports force.port) sources has
 
@@ -145,7 +145,7 @@ past_reads flops shown wides lane c ports far =
     subst Q (sym (cell_past flops c far)) tt
 
 pub all_steady : (flops : List FlipFlop) (rising : Bool) (pulsed : List Bool) (shown : List Shown) (wides : List Wide) (start now : Wide) (place : ℕ) → length flops ≤ place → Steady flops rising pulsed shown wides start now place →
-    KeepsSteady flops rising pulsed shown wides start now
+    KeepsSteady flops rising pulsed every shown wides start now
 all_steady flops rising pulsed shown wides start now place all steady lane within h = (
   steady.live lane within h,
   λ c changes ports. elim (leb_tells (length flops) c) [
@@ -165,7 +165,7 @@ none_more flops pulsed place flop up less read tells is_up before c within =
       | inr ne ↦ before c (omega (arith, within, ne))
     ]
 
-and_false : (b : Bool) → b && false ≡ false
+pub and_false : (b : Bool) → b && false ≡ false
 and_false true = refl
 and_false false = refl
 

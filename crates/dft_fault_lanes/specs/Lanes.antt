@@ -21,7 +21,6 @@ use Rattle.dft_logic.specs.Shows.{still_needs}
 use Rattle.dft_logic.specs.ShownTables.{shown_at}
 use Rattle.dft_logic.specs.declared.shown.Shown.{Shown}
 use Rattle.dft_logic.specs.declared.circuit.Circuit.{Circuit}
-use Rattle.dft_fault_laws.specs.Rounds.{every}
 use Rattle.dft_fault_laws.specs.Stuck.{with_fault}
 use Rattle.dft_fault_lanes.specs.declared.clamps.Clamp.{Clamp}
 use Rattle.dft_fault_lanes.specs.declared.sweeping.Setting.{Setting}
@@ -63,16 +62,16 @@ pub record Situation : Type 0 where
   pub clamps : List (Option Clamp)
 
 abbrev pub situation_of : Setting → Situation
-situation_of s = record { ports = s.ports.now; levels = s.levels.now; cells = s.cells.now; clamps = s.clamps.now }
+situation_of s = record { ports = s.ports.now; levels = s.levels.now; cells = s.cells.now.values; clamps = s.clamps.now }
 
 -- what a net has in a lane while clocks have these levels, where nets have these values
 abbrev pub lane_given : Situation → (lane : ℕ) → (values : ℕ → Tri) → (net : ℕ) → Meaning → Tri
 lane_given s lane values net m =
     clamped (clamp_at s.clamps net) lane (value_given (still_from (flag_at s.levels) (value_at s.ports) (values_in s.cells lane) values) values net m)
 
--- each net has its driver's value in each lane, and a stuck one its constant
-abbrev pub AreSettled : List Op → Situation → List Wide → Type 0
-AreSettled ops s wides = (lane net : ℕ) → lane < 512 → values_in wides lane net ≡ lane_given s lane (values_in wides lane) net (meaning (op_at ops net))
+-- each net of a set has its driver's value in each lane, and a stuck one its constant
+abbrev pub AreSettledOn : List Op → Situation → (needs : (net : ℕ) → Bool) → List Wide → Type 0
+AreSettledOn ops s needs wides = (lane net : ℕ) → lane < 512 → needs net ≡ true → values_in wides lane net ≡ lane_given s lane (values_in wides lane) net (meaning (op_at ops net))
 
 -- ---- cells
 
@@ -99,24 +98,24 @@ AreTaken flops rising pulsed ports wides old new =
 abbrev pub IsLive : Wide → (lane : ℕ) → Type 0
 IsLive live lane = value_in live lane ≡ One
 
--- in the lane each cell that takes a value reads nets that are still, by what they show
-abbrev pub AreSteady : List FlipFlop → (rising : Bool) → (pulsed : List Bool) → List Shown → List Wide → (lane : ℕ) → Type 0
-AreSteady flops rising pulsed shown wides lane =
+-- in the lane each cell that takes a value reads nets of a set that are still, by what they show
+abbrev pub AreSteady : List FlipFlop → (rising : Bool) → (pulsed : List Bool) → (needs : (net : ℕ) → Bool) → List Shown → List Wide → (lane : ℕ) → Type 0
+AreSteady flops rising pulsed needs shown wides lane =
     (c : ℕ) → is_changed (flop_at flops c) rising pulsed ≡ true → (ports : ℕ → Tri) →
-    HasAll (still_needs every (shown_at shown) (flop_at flops c).domain) (nets_of (next_reads (flop_at flops c) ports (value_from (values_in wides lane))))
+    HasAll (still_needs needs (shown_at shown) (flop_at flops c).domain) (nets_of (next_reads (flop_at flops c) ports (value_from (values_in wides lane))))
 
 -- a lane that is live yet was so before, and its cells read what is still
-abbrev pub KeepsSteady : List FlipFlop → (rising : Bool) → (pulsed : List Bool) → List Shown → List Wide → (old new : Wide) → Type 0
-KeepsSteady flops rising pulsed shown wides old new = (lane : ℕ) → lane < 512 → IsLive new lane → IsLive old lane × AreSteady flops rising pulsed shown wides lane
+abbrev pub KeepsSteady : List FlipFlop → (rising : Bool) → (pulsed : List Bool) → (needs : (net : ℕ) → Bool) → List Shown → List Wide → (old new : Wide) → Type 0
+KeepsSteady flops rising pulsed needs shown wides old new = (lane : ℕ) → lane < 512 → IsLive new lane → IsLive old lane × AreSteady flops rising pulsed needs shown wides lane
 
 -- ---- a vector
 
 abbrev pub vector_of : (ports : List Tri) → (pulsed : List Bool) → Vector
 vector_of ports pulsed = record { ports = value_at ports; pulsed = flag_at pulsed }
 
--- In the logic in which this net is stuck the vector has a round from the cells of the lane, with these values at the strobe, and its cells have these after it.
-abbrev pub HasLaneRound : Circuit → (ports : List Tri) → (pulsed : List Bool) → (before strobe after : List Wide) → (lane stuck : ℕ) → (value : Bool) → Type 0
-HasLaneRound x ports pulsed before strobe after lane stuck value =
+-- In the logic in which this net is stuck the vector has a round from the cells of the lane, with these values of a set of nets at the strobe, and its cells have these after it.
+abbrev pub HasLaneRound : Circuit → (needs : (net : ℕ) → Bool) → (ports : List Tri) → (pulsed : List Bool) → (before strobe after : List Wide) → (lane stuck : ℕ) → (value : Bool) → Type 0
+HasLaneRound x needs ports pulsed before strobe after lane stuck value =
     let l = with_fault stuck value (logic_at x) in
     let v = vector_of ports pulsed in
-    (r : Round) × ((r.strobe ≡ values_in strobe lane) × (IsRound l v (values_in before lane) r × ((c : ℕ) → after_round l v (values_in before lane) r c ≡ values_in after lane c)))
+    (r : Round) × (((net : ℕ) → needs net ≡ true → values_in strobe lane net ≡ r.strobe net) × (IsRound l v (values_in before lane) r × ((c : ℕ) → after_round l v (values_in before lane) r c ≡ values_in after lane c)))

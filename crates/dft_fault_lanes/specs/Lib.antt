@@ -5,3 +5,7 @@ pub mod Pulses
 pub mod Controls
 pub mod Laws
 pub mod Gathers
+pub mod Plans
+pub mod Seen
+pub mod Moves
+pub mod Made

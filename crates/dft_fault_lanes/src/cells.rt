@@ -1,17 +1,19 @@
 //! What cells take in each lane.
 
-ghost use Rattle.std.specs.Prelude.{◌≡◌, ◌<◌, ◌&&◌, ℕ, false, length, map, if◌then◌else◌};
+ghost use Rattle.std.specs.Prelude.{◌≡◌, ◌<◌, ℕ, false, length, true};
 ghost use Rattle.dft_base.specs.declared.tri.Tri.{Tri as ATri};
 ghost use Rattle.dft_abstract.specs.Cycle.{tri_forced_by};
-ghost use Rattle.dft_netlist.specs.Runs.{takes};
-ghost use Rattle.dft_logic.specs.Circuit.{cell_at, cell_of, flag_at, force_at, next_at, taken_at};
+ghost use Rattle.dft_netlist.specs.Orders.{Has};
+ghost use Rattle.dft_logic.specs.Circuit.{cell_of, force_at, next_at, taken_at};
 ghost use Rattle.dft_logic.specs.Values as spec;
-ghost use Rattle.dft_evaluator.specs.Wides.{AreWides, IsWide, values_in};
-ghost use Rattle.dft_fault_lanes.specs.Lanes.{AreActedOn, AreTaken};
+ghost use Rattle.dft_evaluator.specs.Wides.{AreWides, IsWide, value_in, values_in, wide_at as wide_of};
+ghost use Rattle.dft_fault_lanes.specs.Lanes.{AreActedOn, flop_at};
+ghost use Rattle.dft_fault_lanes.specs.Moves.{NoneActs};
 
 use crate::clamps::known_bit;
 use dft_base::Tri;
 use dft_evaluator::{all, operand, unknown};
+use dft_lane_registers::Cells;
 use dft_lanes::{Wide, wide_mux};
 use dft_logic::{Acting, FlipFlop, value_at};
 
@@ -66,40 +68,52 @@ fn may_act(force: Option<Acting>, ports: &[Tri]) -> bool
     }
 }
 
-/// Resets and sets act on their flip-flops, by the values of the input ports.
-pub fn act(flops: &[FlipFlop], ports: &[Tri], cells: &mut [Wide])
-    requires count { length cells.old ≡ length flops.now }
-    requires cells { AreWides cells.old }
-    ensures cells { AreWides cells.new }
-    ensures acted { AreActedOn flops.now ports.now cells.old cells.new }
+// Resets and sets act on all their flip-flops.
+fn act_all(flops: &[FlipFlop], ports: &[Tri], cells: &mut Cells)
+    requires count { length cells.old.values ≡ length flops.now }
+    requires cells { AreWides cells.old.values }
+    ensures cells { AreWides cells.new.values }
+    ensures layout { cells.new.layout ≡ cells.old.layout }
+    ensures count { length cells.new.values ≡ length cells.old.values }
+    ensures acted { AreActedOn flops.now ports.now cells.old.values cells.new.values }
 {
     for (place, flop) in flops.iter().enumerate() {
         if may_act(flop.force, ports) {
-            let wide = forced_wide(flop.force, ports, &cells[place]);
-            cells[place] = wide;
+            let wide = forced_wide(flop.force, ports, &cells.at(place));
+            cells.set(place, wide);
         }
     }
 }
 
-/// The cells whose clock pulses, at its rise or at its fall, take their next values.
-pub fn take(
-    flops: &[FlipFlop],
-    rising: bool,
-    pulsed: &[bool],
-    ports: &[Tri],
-    wides: &[Wide],
-    cells: &mut [Wide],
-)
-    requires count { length cells.old ≡ length flops.now }
-    requires wides { AreWides wides.now }
-    requires cells { AreWides cells.old }
-    ensures cells { AreWides cells.new }
-    ensures taken { AreTaken flops.now rising pulsed.now ports.now wides.now cells.old cells.new }
+/// Resets and sets act on their flip-flops, by the values of the input ports, unless it is known that none does.
+pub fn act(flops: &[FlipFlop], free: bool, ports: &[Tri], cells: &mut Cells)
+    requires free { free ≡ true → NoneActs flops.now ports.now }
+    requires count { length cells.old.values ≡ length flops.now }
+    requires cells { AreWides cells.old.values }
+    ensures cells { AreWides cells.new.values }
+    ensures layout { cells.new.layout ≡ cells.old.layout }
+    ensures count { length cells.new.values ≡ length cells.old.values }
+    ensures acted { AreActedOn flops.now ports.now cells.old.values cells.new.values }
 {
-    for (place, flop) in flops.iter().enumerate() {
-        if flop.changes(rising, pulsed) {
-            let wide = next_wide(flop, ports, wides);
-            cells[place] = wide;
-        }
+    if !free {
+        act_all(flops, ports, cells);
+    }
+}
+
+/// The cells at these places take their next values.
+pub fn take(flops: &[FlipFlop], places: &[usize], ports: &[Tri], wides: &[Wide], cells: &mut Cells)
+    requires live { (c : ℕ) → Has places.now c → c < length flops.now }
+    requires count { length cells.old.values ≡ length flops.now }
+    requires wides { AreWides wides.now }
+    requires rest { (c : ℕ) → (Has places.now c → ⊥) → IsWide (wide_of cells.old.values c) (value_in (wide_of cells.old.values c)) }
+    ensures cells { AreWides cells.new.values }
+    ensures layout { cells.new.layout ≡ cells.old.layout }
+    ensures count { length cells.new.values ≡ length cells.old.values }
+    ensures taken { (lane c : ℕ) → lane < 512 → Has places.now c → values_in cells.new.values lane c ≡ next_at (flop_at flops.now c) (spec.value_at ports.now) (values_in wides.now lane) }
+    ensures kept { (c : ℕ) → (Has places.now c → ⊥) → wide_of cells.new.values c ≡ wide_of cells.old.values c }
+{
+    for place in places {
+        let wide = next_wide(&flops[*place], ports, wides);
+        cells.set(*place, wide);
     }
 }

@@ -36,7 +36,7 @@ pub(crate) fn has_one(wide: &Wide) -> bool
 }
 
 // Whether a value is 1.
-fn is_one(value: Tri) -> bool
+pub(crate) fn is_one(value: Tri) -> bool
     ensures { result ≡ spec.is_one value }
 {
     match value {
@@ -85,7 +85,7 @@ fn compare_bit(
 }
 
 // The bit that an act compares, if it compares one.
-fn printed(act: Act) -> Option<bool>
+pub(crate) fn printed(act: Act) -> Option<bool>
     ensures { result ≡ vectors.printed act }
 {
     match act {

@@ -1,19 +1,21 @@
-//! All nets settled in each lane.
+//! Nets settled in each lane.
 
-ghost use Rattle.std.specs.Prelude.{◌≡◌, ℕ, length, if◌then◌else◌};
+ghost use Rattle.std.specs.Prelude.{◌≡◌, ◌<◌, [], ℕ, length, if◌then◌else◌};
 ghost use Rattle.dft_base.specs.Tri.{known};
+ghost use Rattle.dft_netlist.specs.Orders.{Has, numbers_of};
 ghost use Rattle.dft_netlist.specs.Settled as settled;
 ghost use Rattle.dft_netlist.specs.Settled.{inverse, value_given};
 ghost use Rattle.dft_logic.specs.Circuit as circuits;
-ghost use Rattle.dft_logic.specs.Circuit.{Fits, IsCircuit, meaning, op_at};
+ghost use Rattle.dft_logic.specs.Circuit.{AreOrdered, Fits, IsCircuit, meaning, op_at};
 ghost use Rattle.dft_logic.specs.Needs.{still_from};
 ghost use Rattle.dft_logic.specs.Values as spec;
 ghost use Rattle.dft_evaluator.specs.Wides.{AreWides, IsWide, values_in};
-ghost use Rattle.dft_fault_lanes.specs.Lanes.{AreClamps, AreSettled, situation_of};
+ghost use Rattle.dft_fault_lanes.specs.Lanes.{AreClamps, lane_given, situation_of};
 
 use crate::clamps::{Clamp, within};
 use dft_base::Tri;
-use dft_evaluator::{all, op_wide, operand, unknown, wide_at};
+use dft_evaluator::{all, op_wide, operand, unknown};
+use dft_lane_registers::Cells;
 use dft_lanes::{Wide, wide_not};
 use dft_logic::{Circuit, Op, flag_at, value_at};
 use dft_netlist::{InstanceId, NetId};
@@ -24,7 +26,7 @@ use dft_netlist::{InstanceId, NetId};
 pub struct Setting<'a> {
     pub ports: &'a [Tri],
     pub levels: &'a [bool],
-    pub cells: &'a [Wide],
+    pub cells: &'a Cells,
     pub clamps: &'a [Option<Clamp>],
 }
 
@@ -43,11 +45,11 @@ fn level_value(level: bool) -> Tri
 }
 
 // What a flip-flop's output can be, or its inverse.
-fn flop_wide(cells: &[Wide], instance: InstanceId, inverted: bool) -> Wide
-    requires { AreWides cells.now }
-    ensures { IsWide result (λ lane. if inverted then inverse (values_in cells.now lane instance.0) else values_in cells.now lane instance.0) }
+fn flop_wide(cells: &Cells, instance: InstanceId, inverted: bool) -> Wide
+    requires { AreWides cells.now.values }
+    ensures { IsWide result (λ lane. if inverted then inverse (values_in cells.now.values lane instance.0) else values_in cells.now.values lane instance.0) }
 {
-    let wide = wide_at(cells, instance.0);
+    let wide = cells.at(instance.0 as usize);
     if inverted { wide_not(&wide) } else { wide }
 }
 
@@ -55,8 +57,8 @@ fn flop_wide(cells: &[Wide], instance: InstanceId, inverted: bool) -> Wide
 fn given_wide(op: &Op, net: NetId, setting: Setting<'_>, wides: &[Wide]) -> Wide
     requires fits { Fits op.now }
     requires wides { AreWides wides.now }
-    requires cells { AreWides setting.cells.now }
-    ensures { IsWide result (λ lane. value_given (still_from (circuits.flag_at setting.entry.levels.now) (spec.value_at setting.entry.ports.now) (values_in setting.entry.cells.now lane) (values_in wides.now lane)) (values_in wides.now lane) net.0 (meaning op.now)) }
+    requires cells { AreWides setting.cells.now.values }
+    ensures { IsWide result (λ lane. value_given (still_from (circuits.flag_at setting.entry.levels.now) (spec.value_at setting.entry.ports.now) (values_in setting.entry.cells.now.values lane) (values_in wides.now lane)) (values_in wides.now lane) net.0 (meaning op.now)) }
 {
     match op {
         Op::Input => all(value_at(setting.ports, net.0)),
@@ -68,25 +70,26 @@ fn given_wide(op: &Op, net: NetId, setting: Setting<'_>, wides: &[Wide]) -> Wide
         ) {
             operand(source, wides)
         } else {
-            wide_at(setting.cells, instance.0)
+            setting.cells.at(instance.0 as usize)
         },
         Op::Gate(_, _) | Op::Joined(_) => op_wide(op, net, wides),
         Op::Free => unknown(),
     }
 }
 
-/// Settles all nets in each lane, in the circuit's order.
-pub fn settle(circuit: &Circuit, setting: Setting<'_>, wides: &mut [Wide])
+/// Settles these nets in each lane, whatever the values before.
+pub fn settle(circuit: &Circuit, setting: Setting<'_>, nets: &[NetId], wides: &mut [Wide])
     requires circuit { IsCircuit circuit.now }
     requires nets { length wides.old ≡ length circuit.now.ops.items }
     requires clamped { length setting.clamps.now ≡ length circuit.now.ops.items }
     requires wides { AreWides wides.old }
-    requires cells { AreWides setting.cells.now }
+    requires cells { AreWides setting.cells.now.values }
     requires clamps { AreClamps setting.clamps.now }
+    requires ordered { AreOrdered circuit.now.ops.items [] (numbers_of nets.now) }
     ensures wides { AreWides wides.new }
-    ensures settled { AreSettled circuit.now.ops.items (situation_of setting.entry) wides.new }
+    ensures settled { (lane k : ℕ) → lane < 512 → Has (numbers_of nets.now) k → values_in wides.new lane k ≡ lane_given (situation_of setting.entry) lane (values_in wides.new lane) k (meaning (op_at circuit.now.ops.items k)) }
 {
-    for net in &circuit.order {
+    for net in nets {
         let given = given_wide(&circuit.ops[net.0 as usize], *net, setting, wides);
         let wide = within(&setting.clamps[net.0 as usize], &given);
         wides[net.0 as usize] = wide;

@@ -23,7 +23,8 @@ fn set_by(act: Act, before: Tri) -> Tri
     }
 }
 
-fn is_pulse(act: Act) -> bool
+// Whether an act pulses its signal.
+pub(crate) fn is_pulse(act: Act) -> bool
     ensures { result ≡ rows.is_pulse act }
 {
     match act {
@@ -33,7 +34,7 @@ fn is_pulse(act: Act) -> bool
 }
 
 // Lowers all flags.
-fn lower(flags: &mut [bool])
+pub(crate) fn lower(flags: &mut [bool])
     ensures { (e : ℕ) → flag_at flags.new e ≡ false }
 {
     for place in 0..flags.len() {

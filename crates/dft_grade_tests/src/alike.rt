@@ -40,6 +40,13 @@ const RESETS: &str =
 const MOVES: &str =
     "module m (a, b, d, y, z); input a, b, d; output y, z; DFF f (.CK(a), .D(d), .Q(p)); XOR2 x (.A(p), .B(d), .Y(w)); DFF g (.CK(b), .D(w), .Q(y)); LOCKUP l (.CK(a), .D(p), .Q(n)); DFF h (.CK(b), .D(n), .Q(z)); endmodule";
 
+// A chain of ten cells, whose values move on together as they are shifted.
+const CHAIN: &str =
+    "module m (c, s, i, d, o); input c, s, i, d; output o; SDFF f0 (.CK(c), .D(w0), .SI(i), .SE(s), .Q(q0)); XOR2 x0 (.A(d), .B(q1), .Y(w0)); SDFF f1 (.CK(c), .D(w1), .SI(q0), .SE(s), .Q(q1)); XOR2 x1 (.A(q0), .B(q2), .Y(w1)); SDFF f2 (.CK(c), .D(w2), .SI(q1), .SE(s), .Q(q2)); XOR2 x2 (.A(q1), .B(q3), .Y(w2)); SDFF f3 (.CK(c), .D(w3), .SI(q2), .SE(s), .Q(q3)); XOR2 x3 (.A(q2), .B(q4), .Y(w3)); SDFF f4 (.CK(c), .D(w4), .SI(q3), .SE(s), .Q(q4)); XOR2 x4 (.A(q3), .B(q5), .Y(w4)); SDFF f5 (.CK(c), .D(w5), .SI(q4), .SE(s), .Q(q5)); XOR2 x5 (.A(q4), .B(q6), .Y(w5)); SDFF f6 (.CK(c), .D(w6), .SI(q5), .SE(s), .Q(q6)); XOR2 x6 (.A(q5), .B(q7), .Y(w6)); SDFF f7 (.CK(c), .D(w7), .SI(q6), .SE(s), .Q(q7)); XOR2 x7 (.A(q6), .B(q8), .Y(w7)); SDFF f8 (.CK(c), .D(w8), .SI(q7), .SE(s), .Q(q8)); XOR2 x8 (.A(q7), .B(o), .Y(w8)); SDFF f9 (.CK(c), .D(w9), .SI(q8), .SE(s), .Q(o)); XOR2 x9 (.A(q8), .B(d), .Y(w9)); endmodule";
+
+const CHAIN_ACTS: &str =
+    "P110 X P110 X P100 X P110 X P100 X P100 X P100 X P100 X P110 X P110 X P001 H P101 L P110 H P101 L P101 L P101 H P101 L P110 L P110 H P101 H P110 L P010 L P100 H P100 L P100 H P110 L P100 L P100 H P100 H P100 H P100 L P100 L";
+
 // Whether both tell the same.
 fn is_alike(alloc: Global, netlist: &str, patterns: &str) -> Result<bool, Fail> {
     let alone = grades_in(alloc, false, netlist, patterns)?;
@@ -80,6 +87,12 @@ fn both_edges_are_graded_alike(rt: HostRuntime) -> Result<(), Fail> {
 #[test]
 fn two_clocks_are_graded_alike(rt: HostRuntime) -> Result<(), Fail> {
     assert!(rt; is_alike(rt.alloc(), WATCH, WATCH_PATTERNS)?);
+    Ok(())
+}
+
+#[test]
+fn a_chain_is_graded_alike(rt: HostRuntime) -> Result<(), Fail> {
+    assert!(rt; is_alike_under(rt.alloc(), CHAIN, "c s i d", "o", CHAIN_ACTS)?);
     Ok(())
 }
 

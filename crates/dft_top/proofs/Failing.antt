@@ -6,7 +6,6 @@ use Rattle.dft_patterns.specs.Patterns.{Patterns}
 use Rattle.dft_replay.specs.declared.verdict.Verdict.{Verdict}
 use Rattle.dft_replay.specs.declared.verdict.Verdict.TheVariants.{Pass}
 use Rattle.dft_replay.specs.Fits.{first_misfit}
-use Rattle.dft_replay.specs.Verdicts.{HasVerdict}
 use Rattle.dft_replay.specs.Rows.{ports_of}
 use Rattle.dft_replay.proofs.Soundness.{verdict_holds}
 use Rattle.dft_compile_laws.proofs.Running.{sets_run}

@@ -1,9 +1,8 @@
 -- What a grading comes to.
-use Rattle.std.proofs.Common.{ℕ, ◌≡◌, ◌∙◌, ◌<◌, ◌≤◌, Bool, true, false, inl, inr, List, length, nat_lt, refl, sym, ap, subst, Option, None, Some, Ok, Result, Err, arith}
+use Rattle.std.proofs.Common.{ℕ, ◌≡◌, ◌∙◌, ◌<◌, ◌≤◌, true, false, inl, List, length, nat_lt, refl, sym, ap, subst, Option, None, Some, Ok, Result, Err, arith}
 use Rattle.std.specs.Prelude.{ℤ, if◌then◌else◌, pos}
 use Rattle.std.proofs.lemmas.Bool.Decides.{nat_tests}
 use Rattle.dft_files.specs.Outside.{Held}
-use Rattle.dft_cells.specs.declared.cell.Cell.{Cell}
 use Rattle.dft_netlist.specs.Netlist.{Netlist}
 use Rattle.dft_netlist.specs.Drivers.{IsOrdered}
 use Rattle.dft_patterns.specs.Patterns.{Patterns}

@@ -2,7 +2,6 @@
 use Rattle.std.proofs.Common.{◌≡◌, ◌∙◌, List, refl, ap, subst, ℕ}
 use Rattle.dft_cells.specs.declared.cell.Cell.{Cell}
 use Rattle.dft_cells.specs.Standard.{standard_cells}
-use Rattle.dft_netlist.specs.Netlist.{Netlist}
 use Rattle.dft_hier.specs.Laws.{Gives}
 use Rattle.dft_stil_text.specs.PatternText as pattern
 use Rattle.dft_compile_laws.specs.Passing.{set_of}

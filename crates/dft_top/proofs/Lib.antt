@@ -6,6 +6,8 @@ pub mod CubeCounts
 pub mod CompiledOnce
 pub mod CompileLemmas
 pub mod CertifyLemmas
+pub mod Configurings
+pub mod Sized
 pub mod Determined
 pub mod JobLemmas
 pub mod OneOutcome

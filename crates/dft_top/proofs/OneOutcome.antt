@@ -12,7 +12,7 @@ use Rattle.dft_replay.specs.Fits.{first_misfit}
 use Rattle.dft_replay.proofs.Uniqueness.{verdict_one}
 use Rattle.dft_scan.specs.declared.error.ScanError.{ScanError}
 use Rattle.dft_scan.specs.Refusals.{refusal}
-use Rattle.dft_command_line.specs.Words.{Command, Replay, Scan, Compile, Certify, Generate, Grade, ReplayFiles, ScanFiles, CompileFiles, CertifyFiles, GradeFiles, JobNumbers}
+use Rattle.dft_command_line.specs.Words.{Command, Replay, Scan, Compile, Certify, Generate, Grade, Configure, ReplayFiles, ScanFiles, CompileFiles, CertifyFiles, GradeFiles, ConfigureFiles, JobNumbers}
 use Rattle.dft_command_line.proofs.Understood.{for_once}
 use Rattle.dft_answers.specs.declared.answer.Refusal.{Refusal}
 use Rattle.dft_answers.specs.declared.outcome.Outcome.{Outcome}
@@ -21,13 +21,14 @@ use Rattle.dft_answers.specs.declared.outcome.Work.TheVariants.{Compiled}
 use Rattle.dft_top.specs.declared.limits.TheConstants.{MAX_CONFIG_BYTES, MAX_CUBE_BYTES, MAX_NETLIST_BYTES, MAX_PATTERN_BYTES, MAX_REPORT_BYTES}
 use Rattle.dft_answers.specs.Refusals.{scan_refusal}
 use Rattle.dft_top.specs.Checks.{ConfigGives, ConfigText, CubeText, CubesGive, NetlistGives, NetlistText, PatternText, ReportText}
-use Rattle.dft_top.specs.Outcomes.{IsOutcomeFor, IsOutcomeOfJob, IsOutcomeOfScanOf, IsOutcomeOn, IsReplayedOf, course_of, course_of_certify, course_of_compile, course_of_grade, course_of_replay, course_of_scan, generated, job_files, job_held, made_files, made_held, outcome_of}
+use Rattle.dft_top.specs.Outcomes.{IsOutcomeFor, IsOutcomeOfJob, IsOutcomeOfScanOf, IsOutcomeOn, IsReplayedOf, course_of, course_of_certify, course_of_compile, course_of_configure, course_of_grade, course_of_replay, course_of_scan, generated, job_files, job_held, made_files, made_held, outcome_of, wanted_of}
 use Rattle.dft_top.specs.Laws.{OutcomeIsOne}
 use Rattle.dft_top.proofs.CompileLemmas.{cubes_one}
 use Rattle.dft_top.proofs.Readings.{config_text_one, cube_text_one, design_gives_one, file_one, library_gives_one, netlist_text_one, pattern_text_one, plan_gives_one, report_text_one, text_of}
 use Rattle.dft_top.proofs.CertifyLemmas.{report_one, refusal_one}
 use Rattle.dft_top.proofs.Determined.{IsDetermined, reaches_one}
 use Rattle.dft_top.proofs.Gradings.{grading_one}
+use Rattle.dft_top.proofs.Configurings.{configuring_one}
 
 -- ---- a replay
 
@@ -73,6 +74,14 @@ grade_determined files held = (
       λ p _ a b x y. let ranked = ordered_of cells files.netlist held n given in grading_one n p ranked.0 a b (first_misfit n p.signals) ranked.1 x y,
     ),
   ),
+)
+
+-- ---- a made configuration
+
+configure_determined : (files : ConfigureFiles) (held : Held) → IsDetermined (course_of_configure files) held
+configure_determined files held = (
+  library_gives_one files.library held,
+  λ cells _. (netlist_one cells files.netlist held, λ n _ a b x y. configuring_one n (wanted_of files.numbers) a b x y),
 )
 
 -- ---- a scan
@@ -151,6 +160,7 @@ determined (Some (Compile files)) held = compile_determined files held
 determined (Some (Certify files)) held = certify_determined files held
 determined (Some (Generate numbers)) held = λ a b x y. job_one numbers a b x y
 determined (Some (Grade files)) held = grade_determined files held
+determined (Some (Configure files)) held = configure_determined files held
 
 pub outcome_one : OutcomeIsOne
 outcome_one words held a b x y =

@@ -22,7 +22,7 @@ use Rattle.dft_vectors.specs.PatternData.{PatternData}
 use Rattle.dft_encode.specs.Compiled.{ArePatterns, Placing}
 use Rattle.dft_stitch.specs.Planning.{Planned}
 use Rattle.dft_compile.specs.Refusals.{first_refusal}
-use Rattle.dft_command_line.specs.Words.{Command, Replay, Scan, Compile, Certify, Grade, ReplayFiles, ScanFiles, CompileFiles, CertifyFiles, GradeFiles}
+use Rattle.dft_command_line.specs.Words.{Command, Replay, Scan, Compile, Certify, Grade, Configure, ReplayFiles, ScanFiles, CompileFiles, CertifyFiles, GradeFiles}
 use Rattle.dft_command_line.proofs.Understood.{for_once}
 use Rattle.dft_answers.specs.declared.outcome.Outcome.{Outcome}
 use Rattle.dft_answers.specs.declared.outcome.Outcome.TheVariants.{Finished}
@@ -30,14 +30,15 @@ use Rattle.dft_answers.specs.declared.outcome.Work.TheVariants.{Scanned}
 use Rattle.dft_top.specs.declared.limits.TheConstants.{MAX_CONFIG_BYTES, MAX_CUBE_BYTES, MAX_NETLIST_BYTES, MAX_PATTERN_BYTES, MAX_REPORT_BYTES}
 use Rattle.dft_top.specs.Checks.{ConfigGives, ConfigText, CubeText, CubesGive, DesignGives, LibraryGives, NetlistGives, NetlistText, PatternText, PatternsGive, PlanGives, ReportGives, ReportText, plan_refusal}
 use Rattle.dft_top.specs.Courses.{Reaches, Then}
-use Rattle.dft_top.specs.Outcomes.{IsCompiled, IsOutcomeFor, IsOutcomeOfGrading, IsOutcomeOfReport, IsOutcomeOfTest, course_of_certify, course_of_compile, course_of_grade, course_of_replay, course_of_scan, IsOutcomeOfCubes, IsOutcomeOfScanOf, refusal_of, IsOutcomeOn}
-use Rattle.dft_top.specs.Laws.{PassingIsCertified, PassingIsCompiled, PassingIsGraded, PassingIsReplayed, PassingIsScanned}
+use Rattle.dft_top.specs.Outcomes.{IsCompiled, IsOutcomeFor, IsOutcomeOfConfiguring, IsOutcomeOfGrading, IsOutcomeOfReport, IsOutcomeOfTest, course_of_certify, course_of_compile, course_of_grade, course_of_replay, course_of_scan, IsOutcomeOfCubes, IsOutcomeOfScanOf, refusal_of, IsOutcomeOn, wanted_of}
+use Rattle.dft_top.specs.Laws.{PassingIsCertified, PassingIsCompiled, PassingIsConfigured, PassingIsGraded, PassingIsReplayed, PassingIsScanned}
 use Rattle.dft_top.proofs.CompileLemmas.{compiled_due}
 use Rattle.dft_top.proofs.Promised.{design_of}
 use Rattle.dft_top.proofs.CertifyLemmas.{report_over}
 use Rattle.dft_top.proofs.Gradings.{graded_due}
+use Rattle.dft_top.proofs.Configurings.{configured_due}
 use Rattle.dft_top.proofs.Readings.{config_text_one, cube_text_one, file_one, given_next, library_gives_one, netlist_text_one, pattern_text_one, report_text_one, accepted_or_refused}
-use Rattle.dft_top.proofs.Steps.{CertifyFor, CertifyOf, CertifyOn, CertifyOver, CertifyWith, CompileOf, CompileOn, CompileOver, CompileWith, GradeOn, GradeOver, ReplayOn, ReplayOver, ScanOn, ScanOver}
+use Rattle.dft_top.proofs.Steps.{CertifyFor, CertifyOf, CertifyOn, CertifyOver, CertifyWith, CompileOf, CompileOn, CompileOver, CompileWith, ConfigureOver, GradeOn, GradeOver, ReplayOn, ReplayOver, ScanOn, ScanOver}
 
 -- where a design is given, the patterns are next
 pub replay_read : (files : ReplayFiles) (held : Held) (cells : List Cell) (n : Netlist) (o : Outcome) → LibraryGives files.library held (Ok cells) → NetlistGives cells files.netlist held (Ok n) →
@@ -106,6 +107,13 @@ passing_graded words files held cells n p compared graded o is library netlist p
     let ranked = order_ranks n design.1.order design.1.sound design.1.ordered in
     let reached = subst (λ (command : Option Command). IsOutcomeFor command held o) (for_once words x.0 (Some (Grade files)) x.1.0 is) x.1.1 in
     graded_due n p ranked.0 compared graded o (first_misfit n p.signals) ranked.1 fit has are short (grade_due files held cells n p o library netlist patterns reached)
+
+pub passing_configured : PassingIsConfigured
+passing_configured words files held cells n configured o is library netlist made x =
+    let reached = subst (λ (command : Option Command). IsOutcomeFor command held o) (for_once words x.0 (Some (Configure files)) x.1.0 is) x.1.1 in
+    let over = given_next (LibraryGives files.library held) (ConfigureOver files held) o cells (library_gives_one files.library held) library reached in
+    let on = given_next (NetlistGives cells files.netlist held) (λ m. IsOutcomeOfConfiguring m (wanted_of files.numbers)) o n (file_one MAX_NETLIST_BYTES (codes "netlist") (NetlistText cells) (netlist_text_one cells) (file_at files.netlist held)) netlist over in
+    configured_due n (wanted_of files.numbers) configured o made on
 
 pub passing_replayed : PassingIsReplayed
 passing_replayed words files held cells n p o is library netlist patterns x =

@@ -1,9 +1,12 @@
 -- What Done says of the files of a command.
-use Rattle.std.proofs.Common.{ℕ, zero, suc, ◌≡◌, ◌∙◌, inl, inr, List, [], ◌∷◌, codes, length, nat_lt, refl, sym, ap, subst, Option, None, Some, Result, Ok}
+use Rattle.std.proofs.Common.{ℕ, zero, suc, ◌≡◌, ◌≤◌, ◌∙◌, inl, inr, option_map, List, [], ◌∷◌, codes, length, nat_lt, refl, sym, ap, subst, Option, None, Some, Result, Ok}
 use Rattle.dft_base.proofs.TextLemmas.{differ}
 use Rattle.dft_files.specs.Outside.{Held, Told, ToldChange, file_at}
 use Rattle.dft_cells.specs.declared.cell.Cell.{Cell}
 use Rattle.dft_config.specs.Config.{Config}
+use Rattle.dft_config.specs.Range.{IsInRange}
+use Rattle.dft_config.specs.Refusals.{IsConfig}
+use Rattle.dft_io.specs.Texts.{FileGives}
 use Rattle.dft_netlist.specs.Netlist.{Netlist}
 use Rattle.dft_netlist.specs.Drivers.{IsOrdered}
 use Rattle.dft_netlist.specs.Orders.{IsOrder}
@@ -18,7 +21,6 @@ use Rattle.dft_replay.specs.Fits.{first_misfit}
 use Rattle.dft_replay.specs.Rows.{ports_of}
 use Rattle.dft_replay.specs.Verdicts.{HasVerdict}
 use Rattle.dft_replay.proofs.Soundness.{pass_sound}
-use Rattle.dft_faults.specs.declared.fault.Fault.{Fault}
 use Rattle.dft_faults.specs.Faulty.{faulty}
 use Rattle.dft_faults.proofs.Finished.{order_stays}
 use Rattle.dft_grade.specs.declared.found.Graded.{Graded}
@@ -53,28 +55,33 @@ use Rattle.dft_compile_laws.proofs.Running.{ranked_run, sets_run}
 use Rattle.dft_vectors.specs.PatternData.{PatternData}
 use Rattle.dft_encode.specs.Compiled.{ArePatterns, Placing}
 use Rattle.dft_compile.specs.declared.error.CompileError.{CompileError}
-use Rattle.dft_compile.specs.Refusals.{first_refusal, too_long}
+use Rattle.dft_compile.specs.declared.error.CompileError.TheVariants.{Rules, Stitch, Insert}
+use Rattle.dft_compile.specs.Refusals.{first_failing, first_refusal, too_long}
+use Rattle.dft_configuring.specs.declared.configuring.Configured.{Configured}
+use Rattle.dft_configuring.specs.declared.wanted.Wanted.{Wanted}
+use Rattle.dft_configuring.specs.Configured.{Passes as PassesChecks}
 use Rattle.dft_compile.specs.Texts as compiled
-use Rattle.dft_command_line.specs.Words.{Command, Replay, Scan, Compile, Certify, Grade, ReplayFiles, ScanFiles, CompileFiles, CertifyFiles, GradeFiles, AreFor}
+use Rattle.dft_command_line.specs.Words.{Command, Replay, Scan, Compile, Certify, Grade, Configure, ReplayFiles, ScanFiles, CompileFiles, CertifyFiles, GradeFiles, ConfigureFiles, AreFor}
 use Rattle.dft_command_line.proofs.Understood.{for_once}
 use Rattle.dft_answers.specs.declared.answer.Answer.{Answer}
 use Rattle.dft_answers.specs.declared.answer.Refusal.{Refusal}
 use Rattle.dft_answers.specs.declared.answer.Status.TheVariants.{Done}
 use Rattle.dft_answers.specs.declared.outcome.Outcome.{Outcome}
 use Rattle.dft_answers.specs.declared.outcome.Outcome.TheVariants as outcome
-use Rattle.dft_top.specs.declared.limits.TheConstants.{MAX_CUBE_BYTES, MAX_NETLIST_BYTES, MAX_REPORT_BYTES}
+use Rattle.dft_top.specs.declared.limits.TheConstants.{MAX_CONFIG_BYTES, MAX_CUBE_BYTES, MAX_NETLIST_BYTES, MAX_REPORT_BYTES}
 use Rattle.dft_answers.specs.Answers.{status_of}
-use Rattle.dft_answers.specs.Refusals.{compile_refusal, report_refusal, scan_refusal}
+use Rattle.dft_answers.specs.Refusals.{compile_refusal, configure_refusal, report_refusal, scan_refusal}
 use Rattle.dft_answers.specs.Refusals as refusals
-use Rattle.dft_top.specs.Checks.{ConfigGives, CubeText, CubesGive, DesignGives, IsDesignOf, IsPlanned, LibraryGives, NetlistGives, NetlistText, PatternsGive, PlanGives, ReportGives}
+use Rattle.dft_top.specs.Checks.{ConfigGives, ConfigText, CubeText, CubesGive, DesignGives, IsDesignOf, IsPlanned, LibraryGives, NetlistGives, NetlistText, PatternsGive, PlanGives, ReportGives}
 use Rattle.dft_top.specs.Courses.{After, Reaches, Then}
-use Rattle.dft_top.specs.Outcomes.{course_of_certify, course_of_compile, course_of_grade, course_of_replay, course_of_scan, graded_as, IsCompiled, IsOutcomeOfGraded, IsOutcomeOfGrading, IsOutcomeOfReport, IsOutcomeOfVerdict, IsOutcomeOfTest, IsOutcomeOfCubes, IsOutcomeOfPlacing, IsOutcomeOfScanOf, IsOutcomeOn, IsRefusal, IsScanned, outcome_of, refusal_of}
-use Rattle.dft_top.specs.Promises.{Certifies, Compiles, EveryRunShows, FaultsRun, Grades, Passes, Scans}
-use Rattle.dft_top.specs.Run.{CertifiesTold, CompilesTold, EndsFor, GradesTold, IsDelivered, IsOutcomeTold, PassesTold, ScansTold, Seen}
+use Rattle.dft_top.specs.Outcomes.{course_of_certify, course_of_compile, course_of_configure, course_of_grade, course_of_replay, course_of_scan, graded_as, IsCompiled, IsOutcomeOfConfiguring, IsOutcomeOfGraded, IsOutcomeOfGrading, IsOutcomeOfReport, IsOutcomeOfVerdict, IsOutcomeOfTest, IsOutcomeOfCubes, IsOutcomeOfPlacing, IsOutcomeOfScanOf, IsOutcomeOn, IsRefusal, IsScanned, outcome_of, refusal_of, wanted_of}
+use Rattle.dft_top.specs.Outcomes as outcomes
+use Rattle.dft_top.specs.Promises.{Certifies, Compiles, Configures, EveryRunShows, FaultsRun, Grades, Passes, Scans}
+use Rattle.dft_top.specs.Run.{CertifiesTold, CompilesTold, ConfiguresTold, EndsFor, GradesTold, IsDelivered, IsOutcomeTold, PassesTold, ScansTold, Seen}
 use Rattle.dft_top.specs.Saves.{AreSaved, HaveSaved, Saving, savings}
 use Rattle.dft_top.proofs.Lengths.{late_short, within}
 use Rattle.dft_top.proofs.Readings.{text_of}
-use Rattle.dft_top.proofs.Steps.{CertifyFor, CertifyOf, CertifyOn, CertifyOver, CertifyWith, CompileOf, CompileOn, CompileOver, CompileWith, GradeOn, GradeOver, ReplayOn, ReplayOver, ScanOn, ScanOver}
+use Rattle.dft_top.proofs.Steps.{CertifyFor, CertifyOf, CertifyOn, CertifyOver, CertifyWith, CompileOf, CompileOn, CompileOver, CompileWith, GradeOn, GradeOver, ReplayOn, ReplayOver, ScanOn, ScanOver, ConfigureOver}
 
 not_done : (refusal : Refusal) (o : Outcome) → o ≡ outcome.Refused refusal → status_of o ≡ Done → ⊥
 not_done refusal o is done = let e = ap status_of is in cc
@@ -400,6 +407,43 @@ grades files old new o done h saved =
       run = faults_run n ranked.0 p graded ranked.1 (subst (AreFaults n) (sym d.are.faults) (listed_are n p));
     }
 
+-- ---- a made configuration
+
+configuring_done : (n : Netlist) (wanted : Wanted) (o : Outcome) → status_of o ≡ Done → IsOutcomeOfConfiguring n wanted o → outcomes.IsMade n wanted o
+configuring_done n wanted o done (inl made) = made
+configuring_done n wanted o done (inr unmade) = absurd (refusal_not_done (configure_refusal unmade.error) o unmade.is done)
+
+-- what is saved of it
+abbrev text_saving : (files : ConfigureFiles) → Configured → List Saving
+text_saving files configured = record { name = files.out; bytes = configured.text.items } ∷ []
+
+-- the saved text is read as the configuration, which no check refuses
+configuration_given : (name : List ℕ) (held : Held) (text : List ℕ) (config : Config) → file_at name held ≡ Some text → length text ≤ MAX_CONFIG_BYTES → IsConfig text config → IsInRange config → ConfigGives name held (Ok config)
+configuration_given name held text config at short stands range =
+    subst (λ (q : Option (List ℕ)). FileGives MAX_CONFIG_BYTES (codes "config") ConfigText q (Ok config)) (sym at) (short, record { stands = stands; range = range })
+
+-- a configuration that passes is accepted
+accepted_so : (n : Netlist) (config : Config) → PassesChecks n config → first_refusal n config ≡ None
+accepted_so n config passes = (λ i. first_failing (option_map Rules (passes.scanned i) ∷ option_map Stitch (passes.planned i) ∷ option_map Insert (passes.inserted i) ∷ []))
+
+configures : (files : ConfigureFiles) (old new : Held) (o : Outcome) → status_of o ≡ Done → Reaches (course_of_configure files) old o → HaveSaved (savings (Some (Configure files)) o) (Some old) (Some new) → Configures files old new
+configures files old new o done h saved =
+    let x = then_done (LibraryGives files.library old) (ConfigureOver files old) o done h in
+    let y = then_done (NetlistGives x.0 files.netlist old) (λ n. IsOutcomeOfConfiguring n (wanted_of files.numbers)) o done x.1.1 in
+    let d = configuring_done y.0 (wanted_of files.numbers) o done y.1.1 in
+    let left : AreSaved (text_saving files d.configured) old new = subst (λ (end : Outcome). HaveSaved (savings (Some (Configure files)) end) (Some old) (Some new)) d.is saved in record {
+      cells = x.0;
+      library = x.1.0;
+      netlist = y.0;
+      design = y.1.0;
+      configured = d.configured;
+      made = d.made;
+      out = left.whole.0;
+      others = λ name a. left.others name (differ files.out name (λ e. a (sym e)), tt);
+      settings = configuration_given files.out new d.configured.text.items d.configured.config left.whole.0 d.made.short d.made.read d.made.range;
+      accepted = accepted_so y.0 d.configured.config d.made.passes;
+    }
+
 -- ---- of a run
 
 -- what a run that answers Done came to
@@ -482,3 +526,14 @@ grades_for words command before after answer are ended files is done =
     let ends = subst (λ (command : Option Command). EndsFor command before after answer) (for_once words command (Some (Grade files)) are is) ended in
     let d = ends_done (Some (Grade files)) before after answer ends done in
     told_grades files before.held after.held d.o d.done d.told.told d.saved
+
+told_configures : (files : ConfigureFiles) (held held' : Option Held) (o : Outcome) → status_of o ≡ Done → Told (λ h. Reaches (course_of_configure files) h o) held → HaveSaved (savings (Some (Configure files)) o) held held' → ToldChange (Configures files) held held'
+told_configures files None held' o done told saved = saved_untold (savings (Some (Configure files)) o) held' saved
+told_configures files (Some old) None o done told saved = saved_lost (savings (Some (Configure files)) o) old saved
+told_configures files (Some old) (Some new) o done told saved = configures files old new o done told saved
+
+pub configures_for : (words : List (List ℕ)) (command : Option Command) (before after : Seen) (answer : Answer) → AreFor words command → EndsFor command before after answer → ConfiguresTold words before.held after.held answer
+configures_for words command before after answer are ended files is done =
+    let ends = subst (λ (command : Option Command). EndsFor command before after answer) (for_once words command (Some (Configure files)) are is) ended in
+    let d = ends_done (Some (Configure files)) before after answer ends done in
+    told_configures files before.held after.held d.o d.done d.told.told d.saved

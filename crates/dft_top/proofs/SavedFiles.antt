@@ -7,7 +7,6 @@ use Rattle.dft_netlist.specs.Netlist.{Netlist}
 use Rattle.dft_netlist.proofs.RankLemmas.{order_ranks}
 use Rattle.dft_patterns.specs.Patterns.{Patterns}
 use Rattle.dft_stil_text.specs.declared.limits.TheConstants.{MAX_VECTORS}
-use Rattle.dft_replay.specs.Fits.{first_misfit}
 use Rattle.dft_stitch.specs.Chains.{plan_of}
 use Rattle.dft_scan_hardware.specs.declared.style.Style.TheVariants.{Edt}
 use Rattle.dft_scan_hardware.specs.Statements.{scanned}

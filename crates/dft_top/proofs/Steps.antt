@@ -9,11 +9,11 @@ use Rattle.dft_scan.specs.Refusals.{refusal}
 use Rattle.dft_stitch.specs.Planning.{Planned}
 use Rattle.dft_cubes.specs.declared.cube.Cube.{Cube}
 use Rattle.dft_stitch.specs.Plans.{Plan}
-use Rattle.dft_command_line.specs.Words.{ReplayFiles, ScanFiles, CompileFiles, CertifyFiles, GradeFiles}
+use Rattle.dft_command_line.specs.Words.{ReplayFiles, ScanFiles, CompileFiles, CertifyFiles, GradeFiles, ConfigureFiles}
 use Rattle.dft_answers.specs.declared.outcome.Outcome.{Outcome}
 use Rattle.dft_top.specs.Checks.{ConfigGives, NetlistGives, PatternsGive}
 use Rattle.dft_top.specs.Courses.{Reaches, Then}
-use Rattle.dft_top.specs.Outcomes.{IsOutcomeOn, IsOutcomeOfGrading, IsOutcomeOfScanOf, course_of_certified, course_of_cubes, course_of_design, course_of_planned, course_of_report}
+use Rattle.dft_top.specs.Outcomes.{IsOutcomeOn, IsOutcomeOfGrading, IsOutcomeOfScanOf, course_of_certified, course_of_cubes, course_of_design, course_of_planned, course_of_report, IsOutcomeOfConfiguring, wanted_of}
 
 -- ---- behind each file of a replay
 
@@ -72,3 +72,8 @@ GradeOn files h n = Then (PatternsGive files.patterns h) (λ p. IsOutcomeOfGradi
 
 abbrev pub GradeOver : GradeFiles → Held → List Cell → Outcome → Type 0
 GradeOver files h cells = Then (NetlistGives cells files.netlist h) (GradeOn files h)
+
+-- ---- behind each file of a made configuration
+
+abbrev pub ConfigureOver : ConfigureFiles → Held → List Cell → Outcome → Type 0
+ConfigureOver files h cells = Then (NetlistGives cells files.netlist h) (λ n. IsOutcomeOfConfiguring n (wanted_of files.numbers))

@@ -1,5 +1,5 @@
 -- A command comes to a refusal, or to work of its own.
-use Rattle.std.proofs.Common.{ℕ, List, Option, None, Some, subst, sym}
+use Rattle.std.proofs.Common.{ℕ, inl, inr, List, Option, None, Some, subst, sym}
 use Rattle.dft_netlist.specs.Netlist.{Netlist}
 use Rattle.dft_patterns.specs.Patterns.{Patterns}
 use Rattle.dft_replay.specs.declared.verdict.Verdict.{Verdict}
@@ -22,15 +22,15 @@ use Rattle.dft_report.specs.declared.report.Report.{Report}
 use Rattle.dft_load_laws.specs.Loading.{rows_of}
 use Rattle.dft_certify.specs.declared.error.CertifyError.{CertifyError}
 use Rattle.dft_certify.specs.Certifying.{certify_refusal}
-use Rattle.dft_command_line.specs.Words.{Command, Replay, Scan, Compile, Certify, Generate, Grade, CertifyFiles, CompileFiles, GradeFiles, JobNumbers, ReplayFiles, ScanFiles}
+use Rattle.dft_command_line.specs.Words.{Command, Replay, Scan, Compile, Certify, Generate, Grade, Configure, CertifyFiles, CompileFiles, ConfigureFiles, GradeFiles, JobNumbers, ReplayFiles, ScanFiles}
 use Rattle.dft_answers.specs.declared.answer.Refusal.{Refusal}
 use Rattle.dft_answers.specs.declared.outcome.Outcome.{Outcome}
 use Rattle.dft_answers.specs.declared.outcome.Outcome.TheVariants.{Usage, Refused, Finished}
 use Rattle.dft_answers.specs.declared.outcome.Work.TheVariants.{Compiled, Replayed}
-use Rattle.dft_answers.specs.Refusals.{compile_refusal, report_refusal, scan_refusal}
+use Rattle.dft_answers.specs.Refusals.{compile_refusal, configure_refusal, report_refusal, scan_refusal}
 use Rattle.dft_answers.specs.Refusals as refusals
 use Rattle.dft_top.specs.Courses.{Allows}
-use Rattle.dft_top.specs.Outcomes.{IsOutcomeOfCubes, IsOutcomeOfGraded, IsOutcomeOfGrading, IsOutcomeOfPlacing, IsOutcomeOfVerdict, IsOutcomeOfReport, IsOutcomeOfScanOf, IsOutcomeOfTest, IsOutcomeOn, IsRefusal, IsReplayedOf, course_of, course_of_certify, course_of_compile, course_of_grade, course_of_replay, course_of_scan, generated, made_files, made_held, refusal_of}
+use Rattle.dft_top.specs.Outcomes.{IsOutcomeOfConfiguring, IsOutcomeOfCubes, IsOutcomeOfGraded, IsOutcomeOfGrading, IsOutcomeOfPlacing, IsOutcomeOfVerdict, IsOutcomeOfReport, IsOutcomeOfScanOf, IsOutcomeOfTest, IsOutcomeOn, IsRefusal, IsReplayedOf, course_of, course_of_certify, course_of_compile, course_of_configure, course_of_grade, course_of_replay, course_of_scan, generated, made_files, made_held, refusal_of, wanted_of}
 use Rattle.dft_top.specs.Run.{IsOf, Suits}
 use Rattle.dft_top.proofs.Following.{allowed_so, reaches_allows}
 
@@ -89,6 +89,13 @@ grade_ends files n p None o is = verdict_ends files n p is.0 o is.1.1
 grade_suits : (files : GradeFiles) (o : Outcome) → Allows (course_of_grade files) o → IsOf (Grade files) o
 grade_suits files o allowed = allowed_so (IsOf (Grade files)) (course_of_grade files) o (λ refusal. tt) (λ cells n p o is. grade_ends files n p (first_misfit n p.signals) o is) allowed
 
+configure_ends : (files : ConfigureFiles) (n : Netlist) (o : Outcome) → IsOutcomeOfConfiguring n (wanted_of files.numbers) o → IsOf (Configure files) o
+configure_ends files n o (inl made) = subst (IsOf (Configure files)) (sym made.is) tt
+configure_ends files n o (inr unmade) = refused_suits (Configure files) o (configure_refusal unmade.error) unmade.is
+
+configure_suits : (files : ConfigureFiles) (o : Outcome) → Allows (course_of_configure files) o → IsOf (Configure files) o
+configure_suits files o allowed = allowed_so (IsOf (Configure files)) (course_of_configure files) o (λ refusal. tt) (λ cells n o is. configure_ends files n o is) allowed
+
 -- a replay of what a compilation made
 generated_ends : (numbers : JobNumbers) (counts : Counts) (replay : Outcome) → IsOf (Replay made_files) replay → IsOf (Generate numbers) (generated counts replay)
 generated_ends numbers counts Usage suits = absurd suits
@@ -111,3 +118,4 @@ suits_of (Some (Compile files)) o allowed = compile_suits files o allowed
 suits_of (Some (Certify files)) o allowed = certify_suits files o allowed
 suits_of (Some (Generate numbers)) o allowed = replayed_ends numbers allowed.0 o allowed.1.1
 suits_of (Some (Grade files)) o allowed = grade_suits files o allowed
+suits_of (Some (Configure files)) o allowed = configure_suits files o allowed

@@ -23,12 +23,15 @@ use Rattle.dft_equations.specs.LoadRows.{LoadRows}
 use Rattle.dft_load_laws.specs.Loading.{AreRows, rows_of}
 use Rattle.dft_report.specs.declared.report.Report.{Report}
 use Rattle.dft_certify.specs.Certifying.{certify_refusal, unsolvable_in}
-use Rattle.dft_command_line.specs.Words.{ReplayFiles, ScanFiles, CompileFiles, CertifyFiles, GradeFiles, IsReplay, IsScan, IsCompile, IsCertify, IsGrade}
+use Rattle.dft_command_line.specs.Words.{ReplayFiles, ScanFiles, CompileFiles, CertifyFiles, GradeFiles, ConfigureFiles, IsReplay, IsScan, IsCompile, IsCertify, IsGrade, IsConfigure}
+use Rattle.dft_configuring.specs.declared.configuring.Configured.{Configured}
+use Rattle.dft_configuring.specs.Configured.{IsConfigured}
 use Rattle.dft_answers.specs.declared.outcome.Outcome.{Outcome}
 use Rattle.dft_answers.specs.declared.outcome.Outcome.TheVariants.{Finished}
 use Rattle.dft_answers.specs.declared.outcome.Work.TheVariants.{Scanned, Certified}
+use Rattle.dft_answers.specs.declared.outcome.Work.TheVariants as work
 use Rattle.dft_top.specs.Checks.{ConfigGives, CubesGive, LibraryGives, NetlistGives, PatternsGive, ReportGives, plan_refusal}
-use Rattle.dft_top.specs.Outcomes.{IsCompiled, IsOutcome, IsOutcomeOn, graded_as, refusal_of}
+use Rattle.dft_top.specs.Outcomes.{IsCompiled, IsOutcome, IsOutcomeOn, graded_as, refusal_of, wanted_of}
 
 abbrev pub OutcomeIsOne : Type 0
 OutcomeIsOne = (words : List (List ℕ)) (held : Held) (a b : Outcome) → IsOutcome words held a → IsOutcome words held b → a ≡ b
@@ -77,3 +80,10 @@ PassingIsGraded =
     (words : List (List ℕ)) (files : GradeFiles) (held : Held) (cells : List Cell) (n : Netlist) (p : Patterns) (compared : ℕ) (graded : List Graded) (o : Outcome) → IsGrade words files →
     LibraryGives files.library held (Ok cells) → NetlistGives cells files.netlist held (Ok n) → PatternsGive files.patterns held (Ok p) → first_misfit n p.signals ≡ None → HasVerdict n p (Pass compared) →
     AreGrades n p graded → too_long (fault_report n p graded) ≡ None → IsOutcome words held o → o ≡ graded_as n p graded
+
+-- where each file of a made configuration passes its checks, and one is made for the netlist, it is the outcome
+abbrev pub PassingIsConfigured : Type 0
+PassingIsConfigured =
+    (words : List (List ℕ)) (files : ConfigureFiles) (held : Held) (cells : List Cell) (n : Netlist) (configured : Configured) (o : Outcome) → IsConfigure words files →
+    LibraryGives files.library held (Ok cells) → NetlistGives cells files.netlist held (Ok n) → IsConfigured n (wanted_of files.numbers) configured → IsOutcome words held o →
+    o ≡ Finished (work.Configured configured.counts configured.text.items)

@@ -1,5 +1,5 @@
 -- What a command comes to, from its words and the files that are held.
-use Rattle.std.specs.Prelude.{ℕ, ◌<◌, ◌^◌, ◌≡◌, Bool, true, false, List, [], ◌∷◌, codes, length, Option, None, Some, option_map, Ok, slice_get}
+use Rattle.std.specs.Prelude.{ℕ, ◌<◌, ◌^◌, ◌≡◌, ◌⊎◌, Bool, true, false, List, [], ◌∷◌, codes, length, Option, None, Some, option_map, Ok, slice_get}
 use Rattle.dft_files.specs.Outside.{Held}
 use Rattle.dft_config.specs.Config.{Config}
 use Rattle.dft_scan_frame.specs.Statements.{IsReady}
@@ -37,12 +37,18 @@ use Rattle.dft_report.specs.declared.error.ReportError.{ReportError}
 use Rattle.dft_report.specs.declared.report.Report.{Report}
 use Rattle.dft_certify.specs.declared.error.CertifyError.{CertifyError}
 use Rattle.dft_certify.specs.Certifying.{certify_refusal, unsolvable_in}
+use Rattle.dft_configuring.specs.declared.configuring.Configured.{Configured}
+use Rattle.dft_configuring.specs.declared.error.ConfigureError.{ConfigureError}
+use Rattle.dft_configuring.specs.declared.wanted.Wanted.{Wanted}
+use Rattle.dft_configuring.specs.Configured.{IsConfigured}
+use Rattle.dft_configuring.specs.Refusals as unmade
+use Rattle.dft_configuring.specs.Wanted.{IsWanted}
 use Rattle.dft_generate.specs.Jobs.{IsSize}
 use Rattle.dft_generate.specs.Words.{words_of}
 use Rattle.dft_generate.specs.Netlists.{netlist_text as job_netlist}
 use Rattle.dft_generate.specs.Configurations.{configuration_text as job_configuration}
 use Rattle.dft_generate.specs.Cubes.{cubes_text as job_cubes}
-use Rattle.dft_command_line.specs.Words.{Command, Replay, Scan, Compile, Certify, Generate, Grade, ReplayFiles, ScanFiles, CompileFiles, CertifyFiles, GradeFiles, JobNumbers, AreFor}
+use Rattle.dft_command_line.specs.Words.{Command, Replay, Scan, Compile, Certify, Generate, Grade, ReplayFiles, ScanFiles, CompileFiles, CertifyFiles, GradeFiles, JobNumbers, HardwareNumbers, ConfigureFiles, Configure, AreFor}
 use Rattle.dft_answers.specs.declared.answer.Code.TheVariants.{P7}
 use Rattle.dft_answers.specs.declared.answer.Refusal.{Refusal}
 use Rattle.dft_answers.specs.declared.outcome.Outcome.{Outcome}
@@ -51,7 +57,7 @@ use Rattle.dft_answers.specs.declared.outcome.Replayed.{Replayed as ReplayEnd}
 use Rattle.dft_answers.specs.declared.outcome.Replayed.TheVariants.{Passed, Mismatch, Undetermined}
 use Rattle.dft_answers.specs.declared.outcome.Work.TheVariants.{Replayed, Scanned, Compiled, Certified, Generated}
 use Rattle.dft_answers.specs.declared.outcome.Work.TheVariants as work
-use Rattle.dft_answers.specs.Refusals.{named, scan_refusal, compile_refusal, report_refusal}
+use Rattle.dft_answers.specs.Refusals.{named, scan_refusal, compile_refusal, configure_refusal, report_refusal}
 use Rattle.dft_answers.specs.Refusals as refusals
 use Rattle.dft_top.specs.Checks.{LibraryGives, ConfigGives, NetlistGives, PatternsGive, DesignGives, CubesGive, PlanGives, ReportGives}
 use Rattle.dft_top.specs.Courses.{Course, Step, End, Reaches, Loads, TurnComes}
@@ -287,6 +293,35 @@ course_of_grade files =
     Step (Some files.patterns) (PatternsGive files.patterns) (λ p.
     End (IsOutcomeOfGrading n p (first_misfit n p.signals)))))
 
+-- ---- a made configuration
+
+-- what the numbers of the words wish
+abbrev pub wanted_of : HardwareNumbers → Wanted
+wanted_of numbers = record { chains = numbers.chains; length = numbers.longest; channels = numbers.channels; outputs = numbers.outputs; masks = numbers.masks }
+
+-- A configuration is made: the outcome has what is counted of it, and its text.
+pub record IsMade (n : Netlist) (wanted : Wanted) (o : Outcome) : Type 0 where
+  pub configured : Configured
+  pub made : IsConfigured n wanted configured
+  pub is : o ≡ Finished (work.Configured configured.counts configured.text.items)
+
+-- The first check that fails is refused.
+pub record IsUnmade (n : Netlist) (wanted : Wanted) (o : Outcome) : Type 0 where
+  pub error : ConfigureError
+  pub refused : unmade.IsRefused n wanted error
+  pub is : IsRefusal (configure_refusal error) o
+
+-- a configuration is made, or refused
+abbrev pub IsOutcomeOfConfiguring : Netlist → Wanted → Outcome → Type 0
+IsOutcomeOfConfiguring n wanted o = IsMade n wanted o ⊎ IsUnmade n wanted o
+
+-- the library, then the netlist, and then the configuration
+abbrev pub course_of_configure : ConfigureFiles → Course
+course_of_configure files =
+    Step files.library (LibraryGives files.library) (λ cells.
+    Step (Some files.netlist) (NetlistGives cells files.netlist) (λ n.
+    End (IsOutcomeOfConfiguring n (wanted_of files.numbers))))
+
 -- ---- of words
 
 -- what words are for: Usage, or what the command comes to
@@ -298,6 +333,7 @@ course_of (Some (Compile files)) = course_of_compile files
 course_of (Some (Certify files)) = course_of_certify files
 course_of (Some (Generate numbers)) = course_of_generate numbers
 course_of (Some (Grade files)) = course_of_grade files
+course_of (Some (Configure files)) = course_of_configure files
 
 abbrev pub IsOutcomeFor : Option Command → Held → Outcome → Type 0
 IsOutcomeFor command held o = Reaches (course_of command) held o
@@ -305,7 +341,7 @@ IsOutcomeFor command held o = Reaches (course_of command) held o
 abbrev pub IsOutcome : List (List ℕ) → Held → Outcome → Type 0
 IsOutcome words held o = (command : Option Command) × (AreFor words command × IsOutcomeFor command held o)
 
--- a job has as many cells as a job may have
+-- a job has as many cells as a job may have, and what is wished of a configuration is within its bounds
 abbrev pub IsSized : Option Command → Type 0
 IsSized None = Unit {0}
 IsSized (Some (Replay files)) = Unit {0}
@@ -314,6 +350,7 @@ IsSized (Some (Compile files)) = Unit {0}
 IsSized (Some (Certify files)) = Unit {0}
 IsSized (Some (Generate numbers)) = IsSize numbers.size
 IsSized (Some (Grade files)) = Unit {0}
+IsSized (Some (Configure files)) = IsWanted (wanted_of files.numbers)
 
 -- ---- which file is loaded
 

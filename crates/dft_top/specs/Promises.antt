@@ -50,11 +50,13 @@ use Rattle.dft_report.specs.declared.report.Report.{Report}
 use Rattle.dft_report.specs.declared.report.SumLine.{SumLine}
 use Rattle.dft_certify.specs.Certifying.{cube_named}
 use Rattle.dft_certify.specs.Laws.{AllCertified}
-use Rattle.dft_command_line.specs.Words.{ReplayFiles, ScanFiles, CompileFiles, CertifyFiles, GradeFiles}
+use Rattle.dft_command_line.specs.Words.{ReplayFiles, ScanFiles, CompileFiles, CertifyFiles, GradeFiles, ConfigureFiles}
+use Rattle.dft_configuring.specs.declared.configuring.Configured.{Configured}
+use Rattle.dft_configuring.specs.Configured.{IsConfigured}
 use Rattle.dft_top.specs.declared.limits.TheConstants.{MAX_PATTERN_BYTES, MAX_REPORT_BYTES}
 use Rattle.dft_top.specs.Checks.{LibraryGives, ConfigGives, NetlistGives, PatternsGive, CubesGive, PlanGives, ReportGives}
 use Rattle.dft_top.specs.Courses.{Reaches}
-use Rattle.dft_top.specs.Outcomes.{course_of_replay, outcome_of}
+use Rattle.dft_top.specs.Outcomes.{course_of_replay, outcome_of, wanted_of}
 
 -- every run of the netlist over the patterns shows each compared bit as printed
 abbrev pub EveryRunShows : Netlist → Patterns → Type 0
@@ -218,3 +220,21 @@ pub record Grades (files : GradeFiles) (old new : Held) : Type 0 where
   -- what holds of it
   pub fail : AllFail replay.netlist replay.patterns graded
   pub run : FaultsRun replay.netlist replay.patterns graded
+
+-- ---- a made configuration
+
+-- The netlist is that of the held text, over the cells of the library. A configuration is made for it, whose text is saved, and no other file is
+-- changed. The saved text is read as it, and no check of a compilation before its cubes refuses the netlist under it.
+pub record Configures (files : ConfigureFiles) (old new : Held) : Type 0 where
+  pub cells : List Cell
+  pub library : LibraryGives files.library old (Ok cells)
+  pub netlist : Netlist
+  pub design : NetlistGives cells files.netlist old (Ok netlist)
+  pub configured : Configured
+  pub made : IsConfigured netlist (wanted_of files.numbers) configured
+  -- what is saved
+  pub out : file_at files.out new ≡ Some configured.text.items
+  pub others : (name : List ℕ) → (name ≡ files.out → ⊥) → file_at name new ≡ file_at name old
+  -- what holds of it
+  pub settings : ConfigGives files.out new (Ok configured.config)
+  pub accepted : first_refusal netlist configured.config ≡ None

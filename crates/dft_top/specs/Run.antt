@@ -12,12 +12,12 @@ use Rattle.dft_answers.specs.declared.outcome.Outcome.TheVariants as outcome
 use Rattle.dft_answers.specs.declared.outcome.Replayed.{Replayed}
 use Rattle.dft_answers.specs.declared.outcome.Replayed.TheVariants.{Passed, Mismatch, Undetermined}
 use Rattle.dft_answers.specs.declared.outcome.Work.TheVariants as work
-use Rattle.dft_command_line.specs.Words.{Command, Replay, Scan, Compile, Certify, Generate, Grade, ReplayFiles, ScanFiles, CompileFiles, CertifyFiles, GradeFiles, JobNumbers, AreFor, IsFor, IsReplay, IsScan, IsCompile, IsCertify, IsGenerate, IsGrade}
+use Rattle.dft_command_line.specs.Words.{Command, Replay, Scan, Compile, Certify, Generate, Grade, Configure, ReplayFiles, ScanFiles, CompileFiles, CertifyFiles, GradeFiles, ConfigureFiles, JobNumbers, AreFor, IsFor, IsReplay, IsScan, IsCompile, IsCertify, IsGenerate, IsGrade, IsConfigure}
 use Rattle.dft_answers.specs.Answers.{answer_of, stopped}
 use Rattle.dft_answers.specs.Lines.{line_of}
 use Rattle.dft_top.specs.Courses.{IsPassing}
 use Rattle.dft_top.specs.Outcomes.{IsOutcomeFor, IsOutcomeOfJob, IsLoaded, HasTurn, course_of}
-use Rattle.dft_top.specs.Promises.{Passes, Fails, Scans, Compiles, Certifies, Grades, replay_of}
+use Rattle.dft_top.specs.Promises.{Passes, Fails, Scans, Compiles, Certifies, Grades, Configures, replay_of}
 use Rattle.dft_top.specs.Saves.{savings, HaveSaved, HaveSavedSome, SaveFailed, CountsSaves}
 
 -- what is seen of the files and of the output: what files are held, the name in the last call that failed, how many loads and saves
@@ -58,6 +58,7 @@ IsOf (Certify files) (outcome.Finished (work.Certified unsolvable)) = Unit {0}
 IsOf (Generate numbers) (outcome.Finished (work.Generated counts replay)) = Unit {0}
 IsOf (Grade files) (outcome.Finished (work.Replayed replay)) = IsUnpassed replay
 IsOf (Grade files) (outcome.Finished (work.Graded faults detected undetected report)) = Unit {0}
+IsOf (Configure files) (outcome.Finished (work.Configured counts text)) = Unit {0}
 IsOf command o = ⊥
 
 -- Usage is the outcome of exactly the words that are no command
@@ -74,6 +75,7 @@ ToldFor (Some (Compile files)) P held = Told P held
 ToldFor (Some (Certify files)) P held = Told P held
 ToldFor (Some (Generate numbers)) P held = (h : Held) → P h
 ToldFor (Some (Grade files)) P held = Told P held
+ToldFor (Some (Configure files)) P held = Told P held
 
 -- the outcome is one of the command, and that of the held files where they are told
 pub record IsOutcomeTold (command : Option Command) (held : Option Held) (o : Outcome) : Type 0 where
@@ -184,6 +186,10 @@ GradesTold words held held' answer = (files : GradeFiles) → IsGrade words file
 abbrev pub UngradedTold : List (List ℕ) → Option Held → Answer → Type 0
 UngradedTold words held answer = (files : GradeFiles) → IsGrade words files → answer.status ≡ NotPassed → Told (Fails (replay_of files)) held
 
+-- where the words ask for a configuration, one is made for the netlist and saved: it is read as what is made, and a compilation takes it
+abbrev pub ConfiguresTold : List (List ℕ) → (held held' : Option Held) → Answer → Type 0
+ConfiguresTold words held held' answer = (files : ConfigureFiles) → IsConfigure words files → answer.status ≡ Done → ToldChange (Configures files) held held'
+
 -- a refusal for size: the patterns have more vectors than are read, or the report would have more bytes than it may
 abbrev pub IsForSize : Refusal → Type 0
 IsForSize refusal = (refusal.code ≡ P4) ⊎ (refusal.code ≡ K6)
@@ -228,6 +234,7 @@ IsAnswered (Compile files) held status = status ≡ Done
 IsAnswered (Certify files) held status = status ≡ Done
 IsAnswered (Generate numbers) held status = status ≡ Done
 IsAnswered (Grade files) held status = IsByVerdict (replay_of files) held status
+IsAnswered (Configure files) held status = status ≡ Done
 
 -- Where the words are a command, whose checks the files that are told pass (those of a generated job, whatever is told), and no call of the outside failed, the command is answered. Want of memory
 -- is the one exception.
@@ -248,12 +255,15 @@ IsQuiet ReadFault = Unit {0}
 IsQuiet WriteFault = ⊥
 IsQuiet OutOfMemory = ⊥
 
--- the words are a scan, a compilation or a grading
+-- the words are a scan, a compilation or a grading, or ask for a configuration
 abbrev pub AreSaving : List (List ℕ) → Type 0
-AreSaving words = ((files : ScanFiles) × IsScan words files) ⊎ ((files : CompileFiles) × IsCompile words files) ⊎ ((files : GradeFiles) × IsGrade words files)
+AreSaving words =
+    ((files : ScanFiles) × IsScan words files)
+    ⊎ ((files : CompileFiles) × IsCompile words files)
+    ⊎ ((files : GradeFiles) × IsGrade words files)
+    ⊎ ((files : ConfigureFiles) × IsConfigure words files)
 
--- where the status is Usage, Refused, NotPassed or ReadFault, or the words are no scan, no compilation and no grading, no file is changed, and no save
--- has failed
+-- where the status is Usage, Refused, NotPassed or ReadFault, or the words are none of these, no file is changed, and no save has failed
 abbrev pub KeepsFiles : List (List ℕ) → (held held' : Option Held) → (write_faults write_faults' : ℕ) → Answer → Type 0
 KeepsFiles words held held' write_faults write_faults' answer =
     IsQuiet answer.status ⊎ (AreSaving words → ⊥) → (held' ≡ held) × (write_faults' ≡ write_faults)

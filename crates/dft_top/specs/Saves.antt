@@ -3,10 +3,10 @@ use Rattle.std.specs.Prelude.{ℕ, ◌≡◌, false, List, [], ◌∷◌, ◌++�
 use Rattle.std.specs.List.{AllByRecursion}
 use Rattle.std.specs.Str.{bytes_eq}
 use Rattle.dft_files.specs.Outside.{Held, LeavesPart, Rose, ToldChange, file_at}
-use Rattle.dft_command_line.specs.Words.{Command, Replay, Scan, Compile, Certify, Generate, Grade, OutputsDiffer}
+use Rattle.dft_command_line.specs.Words.{Command, Replay, Scan, Compile, Certify, Generate, Grade, Configure, OutputsDiffer}
 use Rattle.dft_answers.specs.declared.outcome.Outcome.{Outcome}
 use Rattle.dft_answers.specs.declared.outcome.Outcome.TheVariants.{Finished}
-use Rattle.dft_answers.specs.declared.outcome.Work.TheVariants.{Scanned, Compiled, Graded}
+use Rattle.dft_answers.specs.declared.outcome.Work.TheVariants.{Scanned, Compiled, Graded, Configured}
 
 -- a file that is to be saved: its name, and its bytes
 pub record Saving : Type 0 where
@@ -14,13 +14,14 @@ pub record Saving : Type 0 where
   pub bytes : List ℕ
 
 -- what a command saves, in order: of a scan the scanned netlist and the report, of a compilation the scanned netlist, the patterns and the report, of
--- a grading the report; of all else nothing
+-- a grading the report, of a made configuration its text; of all else nothing
 abbrev pub savings : Option Command → Outcome → List Saving
 savings (Some (Scan files)) (Finished (Scanned counts netlist report)) =
     record { name = files.out; bytes = netlist } ∷ record { name = files.report; bytes = report } ∷ []
 savings (Some (Compile files)) (Finished (Compiled counts netlist patterns report)) =
     record { name = files.out_netlist; bytes = netlist } ∷ record { name = files.out_patterns; bytes = patterns } ∷ record { name = files.out_report; bytes = report } ∷ []
 savings (Some (Grade files)) (Finished (Graded faults detected undetected report)) = record { name = files.out; bytes = report } ∷ []
+savings (Some (Configure files)) (Finished (Configured counts text)) = record { name = files.out; bytes = text } ∷ []
 savings command o = []
 
 -- the files that a command saves have different names
@@ -32,6 +33,7 @@ SavesApart (Some (Compile files)) = OutputsDiffer files
 SavesApart (Some (Certify files)) = Unit {0}
 SavesApart (Some (Generate numbers)) = Unit {0}
 SavesApart (Some (Grade files)) = Unit {0}
+SavesApart (Some (Configure files)) = Unit {0}
 
 -- these files have different names
 abbrev pub AreApart : List Saving → Type 0

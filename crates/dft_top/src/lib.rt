@@ -4,6 +4,7 @@
 mod certifying;
 mod command;
 mod compiling;
+mod configuring;
 mod generating;
 mod given;
 mod grading;

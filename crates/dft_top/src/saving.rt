@@ -28,7 +28,7 @@ impl<'a> Saving<'a> {
 }
 
 /// Saves what a command saves of its outcome, in order: of a scan the scanned netlist, and then the report; of a compilation the scanned
-/// netlist, the patterns, and then the report; of a grading the report.
+/// netlist, the patterns, and then the report; of a grading the report; of a made configuration its text.
 pub fn save_outcome<F: Files>(
     alloc: Global,
     command: Option<Command<'_>>,
@@ -77,6 +77,10 @@ pub fn save_outcome<F: Files>(
         (Some(Command::Grade(names)), Outcome::Finished(Work::Graded { report, .. })) => {
             let report = Saving::of(names.out, report.as_slice());
             save_all(alloc, &[report], files)
+        }
+        (Some(Command::Configure(names)), Outcome::Finished(Work::Configured { text, .. })) => {
+            let text = Saving::of(names.out, text.as_slice());
+            save_all(alloc, &[text], files)
         }
         _ => Ok(()),
     }

@@ -1,13 +1,13 @@
 -- Each command, and the words that are one.
-use Rattle.std.proofs.Common.{◌≡◌, ◌∙◌, Bool, true, false, List, [], ◌∷◌, codes, Option, Some, None, refl, sym, ap, ap₂, subst, arith}
+use Rattle.std.proofs.Common.{◌≡◌, ◌∙◌, ℕ, Bool, true, false, List, [], ◌∷◌, codes, Option, Some, None, refl, sym, ap, ap₂, subst, arith}
 use Rattle.std.specs.Prelude.{if◌then◌else◌}
 use Rattle.std.specs.Str.{bytes_eq}
 use Rattle.dft_base.proofs.TextLemmas.{bytes_eq-self, differ, same_text}
-use Rattle.dft_command_line.specs.Words.{Command, CertifyFiles, CompileFiles, GradeFiles, IsCertify, IsCompile, IsFor, IsGenerate, IsGrade, IsReplay, IsScan, JobNumbers, OutputsDiffer, ReplayFiles, ScanFiles, Replay, Scan, Compile, Certify, Generate, Grade, certify_options, compile_options, generate_options, grade_options, list_of, replay_options, scan_options}
-use Rattle.dft_explain.specs.Faults.{Fault, OneFile, Form, Text, certify_form, compile_form, fault_of_command, fault_of_first, fault_of_number, fault_of_options, fault_of_right_options, first_fault, generate_form, grade_form, missing, no_number, one_file, or_else, replay_form, scan_form, seed, size, wrong_option}
+use Rattle.dft_command_line.specs.Words.{AreNumbers, Command, CertifyFiles, CompileFiles, ConfigureFiles, GradeFiles, HardwareTexts, IsCertify, IsCompile, IsConfigure, IsFor, IsGenerate, IsGrade, IsOne, IsPerhapsWithin, IsReplay, IsScan, JobNumbers, OutputsDiffer, ReplayFiles, ScanFiles, Replay, Scan, Compile, Certify, Generate, Grade, Configure, certify_options, compile_options, configure_options, generate_options, grade_options, list_of, replay_options, scan_options}
+use Rattle.dft_explain.specs.Faults.{Fault, OneFile, Form, Pair, Range, Text, certify_form, chains, channels, compile_form, configure_form, fault_of_both, fault_of_command, fault_of_first, fault_of_number, fault_of_options, fault_of_right_options, first_fault, further_form, generate_form, grade_form, longest, masks, missing, no_number, not_one, one_file, or_else, outputs, replay_form, scan_form, seed, size, wrong_option}
 use Rattle.dft_explain.specs.Options.{compile_saves, grade_saves, is_text, scan_saves, value_of}
 use Rattle.dft_usage_laws.proofs.Forms.{Backed, all_there, backed, none_missing, plain_of, whole}
-use Rattle.dft_usage_laws.proofs.Numbers.{Number, number_seed, number_size, seed_number, size_number}
+use Rattle.dft_usage_laws.proofs.Numbers.{Number, chains_number, channels_number, longest_number, masks_number, number_chains, number_channels, number_longest, number_masks, number_outputs, number_seed, number_size, outputs_number, seed_number, size_number}
 use Rattle.dft_usage_laws.proofs.Taking.{IsPlain, or_both, or_none}
 use Rattle.dft_usage_laws.specs.Usage.{FaultsAreUsage, IsCommandLine}
 
@@ -16,24 +16,24 @@ use Rattle.dft_usage_laws.specs.Usage.{FaultsAreUsage, IsCommandLine}
 record Parts (form : Form) (words : List Text) : Type 0 where
   right : wrong_option form [] words ≡ None
   there : missing form.needed words ≡ None
-  numbers : no_number words ≡ None
+  pair : not_one form.pair words ≡ None
+  numbers : no_number form.numbers words ≡ None
   files : one_file form.saved words form.saved ≡ None
 
 parts_of : (form : Form) (words : List Text) → fault_of_options form words ≡ None → Parts form words
 parts_of form words e =
     let a = or_both (wrong_option form [] words) (fault_of_right_options form words) e in
-    let b = or_both (missing form.needed words) (or_else (no_number words) (one_file form.saved words form.saved)) a.1 in
-    let c = or_both (no_number words) (one_file form.saved words form.saved) b.1 in
-    record { right = a.0; there = b.0; numbers = c.0; files = c.1 }
+    let b = or_both (missing form.needed words) (or_else (not_one form.pair words) (or_else (no_number form.numbers words) (one_file form.saved words form.saved))) a.1 in
+    let c = or_both (not_one form.pair words) (or_else (no_number form.numbers words) (one_file form.saved words form.saved)) b.1 in
+    let d = or_both (no_number form.numbers words) (one_file form.saved words form.saved) c.1 in
+    record { right = a.0; there = b.0; pair = c.0; numbers = d.0; files = d.1 }
 
 no_parts : (form : Form) (words : List Text) → Parts form words → fault_of_options form words ≡ None
 no_parts form words p =
     or_none (wrong_option form [] words) (fault_of_right_options form words) p.right
-    ∙ (or_none (missing form.needed words) (or_else (no_number words) (one_file form.saved words form.saved)) p.there
-    ∙ (or_none (no_number words) (one_file form.saved words form.saved) p.numbers ∙ p.files))
-
-no_numbers : (words : List Text) → value_of (codes "seed") words ≡ None → value_of (codes "size") words ≡ None → no_number words ≡ None
-no_numbers words s z = ap₂ (λ a b. or_else (fault_of_number seed a) (fault_of_number size b)) s z
+    ∙ (or_none (missing form.needed words) (or_else (not_one form.pair words) (or_else (no_number form.numbers words) (one_file form.saved words form.saved))) p.there
+    ∙ (or_none (not_one form.pair words) (or_else (no_number form.numbers words) (one_file form.saved words form.saved)) p.pair
+    ∙ (or_none (no_number form.numbers words) (one_file form.saved words form.saved) p.numbers ∙ p.files)))
 
 none_some : {fault : Fault} → None ≡ Some fault → ⊥
 none_some e = absurd cc
@@ -81,7 +81,8 @@ replay_backed : (words : List Text) (files : ReplayFiles) → Backed replay_form
 replay_backed words files b = no_parts replay_form words (record {
   right = b.right;
   there = all_there (codes "netlist" ∷ codes "patterns" ∷ []) words ((files.netlist, b.values.0), ((files.patterns, b.values.1.0), tt));
-  numbers = no_numbers words (b.others (codes "seed") refl refl) (b.others (codes "size") refl refl);
+  pair = refl;
+  numbers = refl;
   files = refl;
 })
 
@@ -120,7 +121,8 @@ certify_backed words files b = no_parts certify_form words (record {
   right = b.right;
   there = all_there (codes "netlist" ∷ codes "config" ∷ codes "cubes" ∷ codes "report" ∷ []) words
       ((files.netlist, b.values.0), ((files.config, b.values.1.0), ((files.cubes, b.values.1.1.0), ((files.report, b.values.1.1.1.0), tt))));
-  numbers = no_numbers words (b.others (codes "seed") refl refl) (b.others (codes "size") refl refl);
+  pair = refl;
+  numbers = refl;
   files = refl;
 })
 
@@ -136,13 +138,15 @@ generate_plain : IsPlain generate_form
 generate_plain = plain_of generate_form ((refl, omega arith), ((refl, omega arith), tt))
 
 generate_words : (words : List Text) → fault_of_options generate_form words ≡ None → (job : JobNumbers) × IsGenerate (codes "generate" ∷ words) job
+unfolding seed size
 generate_words words e =
     let p = parts_of generate_form words e in
     let w = whole generate_form generate_plain words p.right in
     let m = none_missing (codes "seed" ∷ codes "size" ∷ []) words p.there in
-    let both = or_both (fault_of_number seed (value_of (codes "seed") words)) (fault_of_number size (value_of (codes "size") words)) p.numbers in
-    let s = seed_number m.0.0 (sym (ap (fault_of_number seed) m.0.1) ∙ both.0) in
-    let z = size_number m.1.0.0 (sym (ap (fault_of_number size) m.1.0.1) ∙ both.1) in (
+    let first = or_both (fault_of_number seed (value_of (codes "seed") words)) (or_else (fault_of_number size (value_of (codes "size") words)) None) p.numbers in
+    let second = or_both (fault_of_number size (value_of (codes "size") words)) None first.1 in
+    let s = seed_number m.0.0 (sym (ap (fault_of_number seed) m.0.1) ∙ first.0) in
+    let z = size_number m.1.0.0 (sym (ap (fault_of_number size) m.1.0.1) ∙ second.0) in (
       record { seed = s.number; size = z.number },
       record {
         seed = m.0.0;
@@ -156,10 +160,12 @@ generate_words words e =
     )
 
 generate_backed : (words : List Text) (job : JobNumbers) (seed_text size_text : Text) → Number 20 0 18446744073709551615 seed_text → Number 5 16 20000 size_text → Backed generate_form (generate_options seed_text size_text) words → fault_of_options generate_form words ≡ None
+unfolding seed size
 generate_backed words job seed_text size_text s z b = no_parts generate_form words (record {
   right = b.right;
   there = all_there (codes "seed" ∷ codes "size" ∷ []) words ((seed_text, b.values.0), ((size_text, b.values.1.0), tt));
-  numbers = ap₂ (λ v w. or_else (fault_of_number seed v) (fault_of_number size w)) b.values.0 b.values.1.0 ∙ ap₂ or_else (number_seed seed_text s) (number_size size_text z);
+  pair = refl;
+  numbers = ap₂ (λ v w. or_else (fault_of_number seed v) (or_else (fault_of_number size w) None)) b.values.0 b.values.1.0 ∙ ap₂ (λ v w. or_else v (or_else w None)) (number_seed seed_text s) (number_size size_text z);
   files = refl;
 })
 
@@ -213,7 +219,8 @@ grade_backed : (words : List Text) (files : GradeFiles) → Backed grade_form (g
 grade_backed words files b = no_parts grade_form words (record {
   right = b.right;
   there = all_there (codes "netlist" ∷ codes "patterns" ∷ codes "out" ∷ []) words ((files.netlist, b.values.0), ((files.patterns, b.values.1.0), ((files.out, b.values.1.1.0), tt)));
-  numbers = no_numbers words (b.others (codes "seed") refl refl) (b.others (codes "size") refl refl);
+  pair = refl;
+  numbers = refl;
   files = grade_apart words files.out b.values.1.1.0;
 })
 
@@ -222,6 +229,144 @@ grade_is [] files is = absurd (no_word _ _ is.are.written)
 grade_is (name ∷ words) files is =
     subst (λ (n : Text). first_fault (n ∷ words) ≡ None) (sym (same_first _ _ _ _ is.are.written))
     (grade_backed words files (backed grade_form grade_plain (grade_options files) refl (refl, (refl, (refl, (refl, tt)))) words is.given (same_others _ _ _ _ is.are.written) is.are.values is.are.known is.each))
+
+-- ---- configure
+
+configure_plain : IsPlain configure_form
+configure_plain =
+    plain_of configure_form ((refl, omega arith), ((refl, omega arith), ((refl, omega arith), ((refl, omega arith), ((refl, omega arith), ((refl, omega arith), ((refl, omega arith), ((refl, omega arith), tt))))))))
+
+-- an option that may be left out, and its number
+record MayBe (digits most : ℕ) (value : Option Text) : Type 0 where
+  number : Option ℕ
+  is : IsPerhapsWithin digits most value number
+
+may_be : (range : Range) (digits most : ℕ) → ((text : Text) → fault_of_number range (Some text) ≡ None → Number digits 1 most text) → (value : Option Text) → fault_of_number range value ≡ None → MayBe digits most value
+may_be range digits most tells None e = record { number = None; is = tt }
+may_be range digits most tells (Some text) e =
+    let n = tells text e in record { number = Some n.number; is = record { is = n.is; low = n.low; high = n.high } }
+
+was : (range : Range) (digits most : ℕ) → ((text : Text) → Number digits 1 most text → fault_of_number range (Some text) ≡ None) → (value : Option Text) (number : Option ℕ) → IsPerhapsWithin digits most value number → fault_of_number range value ≡ None
+was range digits most tells None None is = refl
+was range digits most tells None (Some number) is = absurd is
+was range digits most tells (Some text) None is = absurd is
+was range digits most tells (Some text) (Some number) is = tells text (record { number = number; is = is.is; low = is.low; high = is.high })
+
+-- just one of the pair is there
+one_of_pair : (pair : Pair) (digits most others_digits others_most : ℕ) (one other : Option Text) (first second : Option ℕ) → IsPerhapsWithin digits most one first → IsPerhapsWithin others_digits others_most other second
+    → fault_of_both pair one other ≡ None → IsOne first second
+one_of_pair pair d m p q (Some one) None (Some first) None a b e = tt
+one_of_pair pair d m p q None (Some other) None (Some second) a b e = tt
+one_of_pair pair d m p q (Some one) (Some other) first second a b e = absurd cc
+one_of_pair pair d m p q None None first second a b e = absurd cc
+one_of_pair pair d m p q (Some one) None None second a b e = absurd a
+one_of_pair pair d m p q (Some one) None (Some first) (Some second) a b e = absurd b
+one_of_pair pair d m p q None (Some other) (Some first) second a b e = absurd a
+one_of_pair pair d m p q None (Some other) None None a b e = absurd b
+
+pair_of_one : (pair : Pair) (digits most others_digits others_most : ℕ) (one other : Option Text) (first second : Option ℕ) → IsPerhapsWithin digits most one first → IsPerhapsWithin others_digits others_most other second
+    → IsOne first second → fault_of_both pair one other ≡ None
+pair_of_one pair d m p q (Some one) None first second a b is = refl
+pair_of_one pair d m p q None (Some other) first second a b is = refl
+pair_of_one pair d m p q (Some one) (Some other) (Some first) (Some second) a b is = absurd is
+pair_of_one pair d m p q (Some one) (Some other) None second a b is = absurd a
+pair_of_one pair d m p q (Some one) (Some other) (Some first) None a b is = absurd b
+pair_of_one pair d m p q None None None None a b is = absurd is
+pair_of_one pair d m p q None None (Some first) second a b is = absurd a
+pair_of_one pair d m p q None None None (Some second) a b is = absurd b
+
+configure_words : (words : List Text) → fault_of_options configure_form words ≡ None → (files : ConfigureFiles) × IsConfigure (codes "configure" ∷ words) files
+unfolding channels chains longest outputs masks
+configure_words words e =
+    let p = parts_of configure_form words e in
+    let w = whole configure_form configure_plain words p.right in
+    let m = none_missing (codes "netlist" ∷ codes "channels" ∷ codes "out" ∷ []) words p.there in
+    let at = λ (option : Text). value_of option words in
+    let masks_alone = or_else (fault_of_number masks (at (codes "masks"))) None in
+    let outputs_on = or_else (fault_of_number outputs (at (codes "outputs"))) masks_alone in
+    let longest_on = or_else (fault_of_number longest (at (codes "length"))) outputs_on in
+    let chains_on = or_else (fault_of_number chains (at (codes "chains"))) longest_on in
+    let f1 = or_both (fault_of_number channels (at (codes "channels"))) chains_on p.numbers in
+    let f2 = or_both (fault_of_number chains (at (codes "chains"))) longest_on f1.1 in
+    let f3 = or_both (fault_of_number longest (at (codes "length"))) outputs_on f2.1 in
+    let f4 = or_both (fault_of_number outputs (at (codes "outputs"))) masks_alone f3.1 in
+    let f5 = or_both (fault_of_number masks (at (codes "masks"))) None f4.1 in
+    let b = channels_number m.1.0.0 (sym (ap (fault_of_number channels) m.1.0.1) ∙ f1.0) in
+    let c = may_be chains 4 1024 chains_number (at (codes "chains")) f2.0 in
+    let l = may_be longest 5 65536 longest_number (at (codes "length")) f3.0 in
+    let o = may_be outputs 2 32 outputs_number (at (codes "outputs")) f4.0 in
+    let k = may_be masks 2 32 masks_number (at (codes "masks")) f5.0 in (
+      record {
+        library = at (codes "library");
+        netlist = m.0.0;
+        out = m.1.1.0.0;
+        numbers = record { channels = b.number; chains = c.number; longest = l.number; outputs = o.number; masks = k.number };
+      },
+      record {
+        texts = record { channels = m.1.0.0; chains = at (codes "chains"); longest = at (codes "length"); outputs = at (codes "outputs"); masks = at (codes "masks") };
+        written = record {
+          given = w.given;
+          are = w.are;
+          each = (
+            w.each (codes "netlist") refl ∙ ap list_of m.0.1,
+            (
+              w.each (codes "channels") refl ∙ ap list_of m.1.0.1,
+              (
+                w.each (codes "out") refl ∙ ap list_of m.1.1.0.1,
+                (
+                  w.each (codes "chains") refl,
+                  (w.each (codes "length") refl, (w.each (codes "outputs") refl, (w.each (codes "masks") refl, (w.each (codes "library") refl, tt)))),
+                ),
+              ),
+            ),
+          );
+        };
+        numbers = record {
+          channels = record { is = b.is; low = b.low; high = b.high };
+          chains = c.is;
+          longest = l.is;
+          outputs = o.is;
+          masks = k.is;
+          one = one_of_pair (record { first = codes "chains"; second = codes "length" }) 4 1024 5 65536 (at (codes "chains")) (at (codes "length")) c.number l.number c.is l.is p.pair;
+        };
+      },
+    )
+
+-- the faults of five numbers, by their values
+abbrev five : (b c l o k : Option Text) → Option Fault
+five b c l o k = or_else (fault_of_number channels b) (or_else (fault_of_number chains c) (or_else (fault_of_number longest l) (or_else (fault_of_number outputs o) (or_else (fault_of_number masks k) None))))
+
+abbrev five_faults : (b c l o k : Option Fault) → Option Fault
+five_faults b c l o k = or_else b (or_else c (or_else l (or_else o (or_else k None))))
+
+configure_backed : (words : List Text) (files : ConfigureFiles) (texts : HardwareTexts) → AreNumbers texts files.numbers → Backed configure_form (configure_options files texts) words → fault_of_options configure_form words ≡ None
+unfolding channels chains longest outputs masks
+configure_backed words files texts are b =
+    let v = b.values in
+    let c = v.1.1.1.0 in
+    let l = v.1.1.1.1.0 in
+    let o = v.1.1.1.1.1.0 in
+    let k = v.1.1.1.1.1.1.0 in
+    let n = are.channels in
+    no_parts configure_form words (record {
+      right = b.right;
+      there = all_there (codes "netlist" ∷ codes "channels" ∷ codes "out" ∷ []) words ((files.netlist, v.0), ((texts.channels, v.1.0), ((files.out, v.1.1.0), tt)));
+      pair =
+          ap₂ (fault_of_both (record { first = codes "chains"; second = codes "length" })) c l
+          ∙ pair_of_one (record { first = codes "chains"; second = codes "length" }) 4 1024 5 65536 texts.chains texts.longest files.numbers.chains files.numbers.longest are.chains are.longest are.one;
+      numbers =
+          (λ i. five (v.1.0 i) (c i) (l i) (o i) (k i))
+          ∙ (λ i. five_faults (number_channels texts.channels (record { number = files.numbers.channels; is = n.is; low = n.low; high = n.high }) i) (was chains 4 1024 number_chains texts.chains files.numbers.chains are.chains i)
+          (was longest 5 65536 number_longest texts.longest files.numbers.longest are.longest i) (was outputs 2 32 number_outputs texts.outputs files.numbers.outputs are.outputs i) (was masks 2 32 number_masks texts.masks files.numbers.masks are.masks i));
+      files = grade_apart words files.out v.1.1.0;
+    })
+
+configure_is : (words : List Text) (files : ConfigureFiles) → IsConfigure words files → first_fault words ≡ None
+configure_is [] files is = absurd (no_word _ _ is.written.are.written)
+configure_is (name ∷ words) files is =
+    subst (λ (n : Text). first_fault (n ∷ words) ≡ None) (sym (same_first _ _ _ _ is.written.are.written))
+    (configure_backed words files is.texts is.numbers
+    (backed configure_form configure_plain (configure_options files is.texts) refl (refl, (refl, (refl, (refl, (refl, (refl, (refl, (refl, tt)))))))) words is.written.given (same_others _ _ _ _ is.written.are.written) is.written.are.values is.written.are.known is.written.each))
 
 -- ---- scan
 
@@ -285,7 +430,8 @@ scan_backed words files apart b = no_parts scan_form words (record {
   right = b.right;
   there = all_there (codes "netlist" ∷ codes "config" ∷ codes "out" ∷ codes "report" ∷ []) words
       ((files.netlist, b.values.0), ((files.config, b.values.1.0), ((files.out, b.values.1.1.0), ((files.report, b.values.1.1.1.0), tt))));
-  numbers = no_numbers words (b.others (codes "seed") refl refl) (b.others (codes "size") refl refl);
+  pair = refl;
+  numbers = refl;
   files = scan_apart words files.out files.report b.values.1.1.0 b.values.1.1.1.0 apart;
 })
 
@@ -401,7 +547,8 @@ compile_backed words files apart b =
       right = b.right;
       there = all_there (codes "netlist" ∷ codes "config" ∷ codes "cubes" ∷ codes "out-netlist" ∷ codes "out-patterns" ∷ codes "out-report" ∷ []) words
           ((files.netlist, v.0), ((files.config, v.1.0), ((files.cubes, v.1.1.0), ((files.out_netlist, v.1.1.1.0), ((files.out_patterns, v.1.1.1.1.0), ((files.out_report, v.1.1.1.1.1.0), tt))))));
-      numbers = no_numbers words (b.others (codes "seed") refl refl) (b.others (codes "size") refl refl);
+      pair = refl;
+      numbers = refl;
       files = compile_apart words files.out_netlist files.out_patterns files.out_report (record { netlist = v.1.1.1.0; patterns = v.1.1.1.1.0; report = v.1.1.1.1.1.0 }) apart.patterns apart.report apart.both;
     })
 
@@ -420,24 +567,27 @@ usage words (Compile files) is = compile_is words files is
 usage words (Certify files) is = certify_is words files is
 usage words (Generate job) is = generate_is words job is
 usage words (Grade files) is = grade_is words files is
+usage words (Configure files) is = configure_is words files is
 
-by_name : (name : Text) (words : List Text) (a b c d e h : Bool) → bytes_eq name (codes "replay") ≡ a → bytes_eq name (codes "scan") ≡ b → bytes_eq name (codes "compile") ≡ c → bytes_eq name (codes "certify") ≡ d → bytes_eq name (codes "generate") ≡ e
-    → bytes_eq name (codes "grade") ≡ h
-    → fault_of_command name (if a then Some replay_form else (if b then Some scan_form else (if c then Some compile_form else (if d then Some certify_form else (if e then Some generate_form else (if h then Some grade_form else None)))))) words ≡ None
+further_by_name : (name : Text) (words : List Text) (a b c : Bool) → bytes_eq name (codes "generate") ≡ a → bytes_eq name (codes "grade") ≡ b → bytes_eq name (codes "configure") ≡ c
+    → fault_of_command name (if a then Some generate_form else (if b then Some grade_form else (if c then Some configure_form else None))) words ≡ None → IsCommandLine (name ∷ words)
+further_by_name name words true b c i j k f = let r = generate_words words f in (Generate r.0, subst (λ (t : Text). IsGenerate (t ∷ words) r.0) (sym (same_text name (codes "generate") i)) r.1)
+further_by_name name words false true c i j k f = let r = grade_words words f in (Grade r.0, subst (λ (t : Text). IsGrade (t ∷ words) r.0) (sym (same_text name (codes "grade") j)) r.1)
+further_by_name name words false false true i j k f = let r = configure_words words f in (Configure r.0, subst (λ (t : Text). IsConfigure (t ∷ words) r.0) (sym (same_text name (codes "configure") k)) r.1)
+further_by_name name words false false false i j k f = absurd cc
+
+by_name : (name : Text) (words : List Text) (a b c d : Bool) → bytes_eq name (codes "replay") ≡ a → bytes_eq name (codes "scan") ≡ b → bytes_eq name (codes "compile") ≡ c → bytes_eq name (codes "certify") ≡ d
+    → fault_of_command name (if a then Some replay_form else (if b then Some scan_form else (if c then Some compile_form else (if d then Some certify_form else further_form name)))) words ≡ None
     → IsCommandLine (name ∷ words)
-by_name name words true b c d e h i j k l m n f = let r = replay_words words f in (Replay r.0, subst (λ (t : Text). IsReplay (t ∷ words) r.0) (sym (same_text name (codes "replay") i)) r.1)
-by_name name words false true c d e h i j k l m n f = let r = scan_words words f in (Scan r.0, subst (λ (t : Text). IsScan (t ∷ words) r.0) (sym (same_text name (codes "scan") j)) r.1)
-by_name name words false false true d e h i j k l m n f = let r = compile_words words f in (Compile r.0, subst (λ (t : Text). IsCompile (t ∷ words) r.0) (sym (same_text name (codes "compile") k)) r.1)
-by_name name words false false false true e h i j k l m n f = let r = certify_words words f in (Certify r.0, subst (λ (t : Text). IsCertify (t ∷ words) r.0) (sym (same_text name (codes "certify") l)) r.1)
-by_name name words false false false false true h i j k l m n f = let r = generate_words words f in (Generate r.0, subst (λ (t : Text). IsGenerate (t ∷ words) r.0) (sym (same_text name (codes "generate") m)) r.1)
-by_name name words false false false false false true i j k l m n f = let r = grade_words words f in (Grade r.0, subst (λ (t : Text). IsGrade (t ∷ words) r.0) (sym (same_text name (codes "grade") n)) r.1)
-by_name name words false false false false false false i j k l m n f = absurd cc
+by_name name words true b c d i j k l f = let r = replay_words words f in (Replay r.0, subst (λ (t : Text). IsReplay (t ∷ words) r.0) (sym (same_text name (codes "replay") i)) r.1)
+by_name name words false true c d i j k l f = let r = scan_words words f in (Scan r.0, subst (λ (t : Text). IsScan (t ∷ words) r.0) (sym (same_text name (codes "scan") j)) r.1)
+by_name name words false false true d i j k l f = let r = compile_words words f in (Compile r.0, subst (λ (t : Text). IsCompile (t ∷ words) r.0) (sym (same_text name (codes "compile") k)) r.1)
+by_name name words false false false true i j k l f = let r = certify_words words f in (Certify r.0, subst (λ (t : Text). IsCertify (t ∷ words) r.0) (sym (same_text name (codes "certify") l)) r.1)
+by_name name words false false false false i j k l f = further_by_name name words (bytes_eq name (codes "generate")) (bytes_eq name (codes "grade")) (bytes_eq name (codes "configure")) refl refl refl f
 
 command : (words : List Text) → first_fault words ≡ None → IsCommandLine words
 command [] e = absurd cc
-command (name ∷ words) e =
-    by_name name words (bytes_eq name (codes "replay")) (bytes_eq name (codes "scan")) (bytes_eq name (codes "compile")) (bytes_eq name (codes "certify")) (bytes_eq name (codes "generate")) (bytes_eq name (codes "grade"))
-    refl refl refl refl refl refl e
+command (name ∷ words) e = by_name name words (bytes_eq name (codes "replay")) (bytes_eq name (codes "scan")) (bytes_eq name (codes "compile")) (bytes_eq name (codes "certify")) refl refl refl refl e
 
 -- words have no fault exactly where they are a command
 pub faults_are_usage : FaultsAreUsage

@@ -10,7 +10,7 @@ use Rattle.std.specs.Str.Parse.{digits_value}
 use Rattle.dft_command_line.specs.CommandLine as line
 use Rattle.dft_command_line.specs.Words.{IsDecimal}
 use Rattle.dft_command_line.proofs.JobWords.{decimal_is, is_decimal_of}
-use Rattle.dft_explain.specs.Faults.{NoNumber, Range, Text, decimal_of, fault_of_number, is_between, is_in, seed, size}
+use Rattle.dft_explain.specs.Faults.{NoNumber, Range, Text, chains, channels, decimal_of, fault_of_number, is_between, is_in, longest, masks, outputs, seed, size}
 
 not_less : (a b : ℕ) → b ≤ a → nat_lt a b ≡ false
 not_less a b p = grind (arith, nat_tests, p)
@@ -93,3 +93,43 @@ number_seed text n = no_fault seed text (number_in 20 0 18446744073709551615 tex
 pub number_size : (text : Text) → Number 5 16 20000 text → fault_of_number size (Some text) ≡ None
 unfolding size
 number_size text n = no_fault size text (number_in 5 16 20000 text n)
+
+pub channels_number : (text : Text) → fault_of_number channels (Some text) ≡ None → Number 2 1 32 text
+unfolding channels
+channels_number text e = number_by 2 1 32 text (nat_lt 2 (length text)) refl (in_range channels text (is_in channels text) e)
+
+pub number_channels : (text : Text) → Number 2 1 32 text → fault_of_number channels (Some text) ≡ None
+unfolding channels
+number_channels text n = no_fault channels text (number_in 2 1 32 text n)
+
+pub chains_number : (text : Text) → fault_of_number chains (Some text) ≡ None → Number 4 1 1024 text
+unfolding chains
+chains_number text e = number_by 4 1 1024 text (nat_lt 4 (length text)) refl (in_range chains text (is_in chains text) e)
+
+pub number_chains : (text : Text) → Number 4 1 1024 text → fault_of_number chains (Some text) ≡ None
+unfolding chains
+number_chains text n = no_fault chains text (number_in 4 1 1024 text n)
+
+pub longest_number : (text : Text) → fault_of_number longest (Some text) ≡ None → Number 5 1 65536 text
+unfolding longest
+longest_number text e = number_by 5 1 65536 text (nat_lt 5 (length text)) refl (in_range longest text (is_in longest text) e)
+
+pub number_longest : (text : Text) → Number 5 1 65536 text → fault_of_number longest (Some text) ≡ None
+unfolding longest
+number_longest text n = no_fault longest text (number_in 5 1 65536 text n)
+
+pub outputs_number : (text : Text) → fault_of_number outputs (Some text) ≡ None → Number 2 1 32 text
+unfolding outputs
+outputs_number text e = number_by 2 1 32 text (nat_lt 2 (length text)) refl (in_range outputs text (is_in outputs text) e)
+
+pub number_outputs : (text : Text) → Number 2 1 32 text → fault_of_number outputs (Some text) ≡ None
+unfolding outputs
+number_outputs text n = no_fault outputs text (number_in 2 1 32 text n)
+
+pub masks_number : (text : Text) → fault_of_number masks (Some text) ≡ None → Number 2 1 32 text
+unfolding masks
+masks_number text e = number_by 2 1 32 text (nat_lt 2 (length text)) refl (in_range masks text (is_in masks text) e)
+
+pub number_masks : (text : Text) → Number 2 1 32 text → fault_of_number masks (Some text) ≡ None
+unfolding masks
+number_masks text n = no_fault masks text (number_in 2 1 32 text n)

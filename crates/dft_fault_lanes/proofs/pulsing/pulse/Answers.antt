@@ -1,8 +1,25 @@
 -- The rises and the falls give a round in each live lane.
-use Rattle.dft_fault_lanes.proofs.RoundLemmas.{are_pulsed}
+use Rattle.std.proofs.Common.{◌∙◌, sym, subst}
+use Rattle.dft_lane_registers.specs.Layout.{Layout}
+use Rattle.dft_fault_lanes.specs.Made.{IsPlan}
+use Rattle.dft_fault_lanes.proofs.RoundLemmas.{seen_pulsed}
 use Rattle.dft_fault_lanes.proofs.pulsing.pulse.Goals as goal
+
+pub fall-requires-clause-plan : goal.fall-requires-clause-plan
+fall-requires-clause-plan c =
+    let P : Layout → Type 0 = λ l. IsPlan c.args.play.circuit.now c.args.play.clamps.now l c.requires.plan.0 c.args.play.plan.now in
+    (c.requires.plan.0, subst P (sym c.rise.ensures.layout) c.requires.plan.1)
+
+pub fall-requires-clause-count : goal.fall-requires-clause-count
+fall-requires-clause-count c = c.rise.ensures.count ∙ c.requires.count
+
+pub returns-clause-layout : goal.returns-clause-layout
+returns-clause-layout c = c.fall.ensures.layout ∙ c.rise.ensures.layout
+
+pub returns-clause-count : goal.returns-clause-count
+returns-clause-count c = c.fall.ensures.count ∙ c.rise.ensures.count
 
 pub returns-clause-pulsed : goal.returns-clause-pulsed
 returns-clause-pulsed c =
-    are_pulsed c.args.play.circuit.now c.args.play.ports.now c.args.play.pulsed.now c.args.play.clamps.now c.args.wides.now c.args.cells.now c.phase.new.cells c.fall.new.cells c.args.live.now c.phase.new.live c.fall.new.live
-    c.requires.circuit c.phase.ensures.phase c.fall.ensures.fall
+    seen_pulsed c.args.play.circuit.now c.args.play.plan.now.marked.items c.args.play.ports.now c.args.play.plan.now.pulsed.items c.args.play.clamps.now c.args.wides.now c.args.cells.now.values c.rise.new.cells.values c.fall.new.cells.values
+    c.args.live.now c.rise.new.live c.fall.new.live c.requires.circuit c.requires.plan.1.closed c.requires.strobe c.rise.ensures.phase c.fall.ensures.fall

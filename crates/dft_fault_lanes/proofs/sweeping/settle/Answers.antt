@@ -1,14 +1,13 @@
 -- One net more is settled.
-use Rattle.std.proofs.Common.{◌∙◌, ap, length, arith}
+use Rattle.std.proofs.Common.{◌∙◌, refl}
 use Rattle.dft_fault_lanes.specs.Lanes.{situation_of}
 use Rattle.dft_fault_lanes.proofs.Settling.{step, all_settled}
 use Rattle.dft_fault_lanes.proofs.sweeping.settle.Goals as goal
 
 pub loop-net-preserved : goal.loop-net-preserved
 loop-net-preserved c =
-    step c.args.circuit.now.ops.items (situation_of c.args.setting) c.args.circuit.now.order.items c.deref-net-items.result.now c.loop-net.wides c.loop-net.net-index _ _ _
-    c.deref-net-items.ensures.value c.loop-net-test.true (c.loop-net.auto.wides ∙ c.requires.nets) c.loop-net.invariant c.index.ensures c.given_wide-given.ensures c.within-wide.ensures
+    step c.args.circuit.now.ops.items (situation_of c.args.setting) c.args.nets.now c.args.nets.now c.loop-net.wides c.loop-net.net-index _ _ _
+    refl c.loop-net-test.true (c.loop-net.auto.wides ∙ c.requires.nets) c.loop-net.invariant c.index.ensures c.given_wide-given.ensures c.within-wide.ensures
 
 pub returns-clause-settled : goal.returns-clause-settled
-returns-clause-settled c =
-    all_settled c.args.circuit.now (situation_of c.args.setting) c.loop-net.wides c.loop-net.net-index (omega (arith, ap length c.deref-net-items.ensures.value)) (c.loop-net.auto.wides ∙ c.requires.nets) c.requires.clamped c.loop-net.invariant
+returns-clause-settled c = all_settled c.args.circuit.now.ops.items (situation_of c.args.setting) c.args.nets.now c.loop-net.wides c.loop-net.net-index c.loop-net-test.false c.loop-net.invariant

@@ -1,6 +1,4 @@
 use Rattle.std.proofs.Common.{◌≡◌, Err, Ok, rules}
-use Rattle.dft_netlist.specs.Netlist.{Netlist}
-use Rattle.dft_config.specs.Config.{Config}
 use Rattle.dft_stitch.specs.Chains.{plan_of}
 use Rattle.dft_top.specs.Checks.{PlanGives}
 use Rattle.dft_top.proofs.Following.{given_takes, step_follows, stop_follows}

@@ -1,11 +1,11 @@
 -- What passes is graded, and all else is the outcome of the replay.
-use Rattle.std.proofs.Common.{◌≡◌, ◌∙◌, Err, List, Option, rules, subst, sym, true, false, ℕ}
+use Rattle.std.proofs.Common.{◌≡◌, ◌∙◌, Err, List, Option, rules, subst, sym, ℕ}
 use Rattle.dft_netlist.specs.Netlist.{Netlist}
 use Rattle.dft_patterns.specs.Patterns.{Patterns}
 use Rattle.dft_replay.specs.Fits.{first_misfit}
 use Rattle.dft_answers.specs.declared.outcome.Outcome.{Outcome}
 use Rattle.dft_top.specs.Follows.{ComesTo}
-use Rattle.dft_top.specs.Outcomes.{IsOutcomeOfGrading, is_pass}
+use Rattle.dft_top.specs.Outcomes.{IsOutcomeOfGrading}
 use Rattle.dft_top.proofs.Gradings.{passed_comes, passed_on, stops_grading, unpassed_is}
 use Rattle.dft_top.proofs.grading.outcome_of_patterns.Goals as goal
 

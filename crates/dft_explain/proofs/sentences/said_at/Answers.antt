@@ -1,4 +1,0 @@
-use Rattle.dft_explain.proofs.sentences.said_at.Goals as goal
-
-pub returns : goal.returns
-returns c = c.said_in.ensures

@@ -1,0 +1,33 @@
+-- One cell more is listed, if it changes and is not carried.
+use Rattle.std.proofs.Common.{ℕ, Bool, ◌<◌, ◌≡◌, ◌∙◌, ap, length, length-append}
+use Rattle.std.specs.Prelude.{◌&&◌, nat_lt}
+use Rattle.std.proofs.lemmas.List.{get_or_default}
+use Rattle.dft_lane_registers.specs.declared.layout.Place.{Place}
+use Rattle.dft_logic.specs.Circuit.{flag_at}
+use Rattle.dft_fault_lanes.specs.Moves.{is_carried}
+use Rattle.dft_fault_lanes.proofs.MarkLemmas.{placing_more, placing_rests, placing_ends}
+use Rattle.dft_fault_lanes.proofs.plans.list_places.Goals.{then-is_taker, else-is_taker}
+use Rattle.dft_fault_lanes.proofs.plans.list_places.Goals as goal
+
+pub loop-place-preserved : goal.loop-place-preserved
+loop-place-preserved c =
+    let flops = c.args.flops.now in
+    let place : ℕ = c.loop-place.place in
+    let less : place < length flops = c.loop-place-test.true in
+    let left : ℕ → Bool = is_carried c.args.cells.now.layout c.args.moves.now in
+    let tells : c.is_carried-carried.result ≡ left place = c.is_carried-carried.ensures ∙ ap (λ (p : Place). flag_at c.args.moves.now p.register && nat_lt 0 p.index) c.place.ensures.at in
+    elim c.if-is_taker.branch [
+      | then-is_taker w ↦ rw w.list-is (
+        placing_more flops c.args.rising c.args.pulsed.now left c.loop-place.list.items _ place _ c.is_carried-carried.result less (get_or_default flops place _ _ less) tells (c.is_taker.ensures.up w.if-is_taker.true) w.push_reserved.ensures.items
+            (ap length w.push_reserved.ensures.items ∙ length-append c.loop-place.list.items _) c.loop-place.invariant.0,
+        w.push_reserved.ensures.capacity ∙ c.loop-place.invariant.1,
+      )
+      | else-is_taker w ↦ rw w.list-is (
+        placing_rests flops c.args.rising c.args.pulsed.now left c.loop-place.list.items place _ c.is_carried-carried.result less (get_or_default flops place _ _ less) tells (c.is_taker.ensures.down w.if-is_taker.false) c.loop-place.invariant.0,
+        c.loop-place.invariant.1,
+      )
+    ]
+
+pub returns-clause-places : goal.returns-clause-places
+returns-clause-places c =
+    placing_ends c.args.flops.now c.args.rising c.args.pulsed.now (is_carried c.args.cells.now.layout c.args.moves.now) c.loop-place.list.items c.loop-place.place c.loop-place-test.false c.loop-place.auto.place-end c.loop-place.invariant.0

@@ -1,0 +1,3 @@
+pub mod ListLemmas
+pub mod LayoutLemmas
+pub mod CellLemmas

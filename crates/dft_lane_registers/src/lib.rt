@@ -1,0 +1,9 @@
+//! The values of cells, which lie in shift registers: a shift moves where a register begins.
+#![tactic(auto)]
+
+mod cells;
+mod layout;
+mod registers;
+
+pub use cells::Cells;
+pub use layout::Place;
