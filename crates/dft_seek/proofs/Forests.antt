@@ -2,15 +2,10 @@
 use Rattle.std.proofs.Common.{ℕ, ◌+◌, ◌≡◌, Bool, true, false, List, [], ◌∷◌, ◌++◌, length, Option, None, Some, subst, arith}
 use Rattle.dft_seek.specs.Searches.{Search}
 use Rattle.dft_seek.specs.Walks.{Cone}
+use Rattle.dft_seek.specs.Turns.{Forest, End, First, Next}
 use Rattle.dft_seek.specs.Laws.{CanSeek}
 use Rattle.dft_seek.proofs.TreeLemmas.{SomeTree, tree_from}
 use Rattle.dft_seek.specs.Trees.{Dead, Found, Open, Looks, Tree, Hit, Miss, Left, Right}
-
--- the dead nodes before the first found one below these nodes in turn, and that one; or all dead nodes, and None
-pub data Forest (s : Search) (cone : Cone) : (nodes : List (List Bool)) → (dead : ℕ) → (found : Option (List Bool)) → Type 0 where
-  End : Forest s cone [] 0 None
-  First : {bits : List Bool} {nodes : List (List Bool)} {dead : ℕ} {found : List Bool} → Tree s cone bits dead (Some found) → Forest s cone (bits ∷ nodes) dead (Some found)
-  Next : {bits : List Bool} {nodes : List (List Bool)} {dead more : ℕ} {found : Option (List Bool)} → Tree s cone bits dead None → Forest s cone nodes more found → Forest s cone (bits ∷ nodes) (dead + more) found
 
 -- a node that the search goes on from gives way to the two below it
 pub at_open : (s : Search) (cone : Cone) (bits : List Bool) (nodes : List (List Bool)) (dead : ℕ) (found : Option (List Bool)) → Looks s cone bits Open →

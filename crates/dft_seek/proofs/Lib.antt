@@ -11,3 +11,17 @@ pub mod ListingLemmas
 pub mod SoughtLemmas
 pub mod Telling
 pub mod Forests
+pub mod MarkLemmas
+pub mod TurnLemmas
+pub mod PinsKept
+pub mod NodeLemmas
+pub mod ConeLemmas
+pub mod RigLemmas
+pub mod Chosen
+pub mod AssignLemmas
+pub mod EvaluateLemmas
+pub mod StepLemmas
+pub mod Filled
+pub mod CubeLemmas
+pub mod PreparedLemmas
+pub mod ShownLemmas

@@ -67,11 +67,11 @@ next_stays n f values c =
 
 -- ---- what is among nets
 
-or_left : (a b : Bool) → a ≡ true → (a || b) ≡ true
+pub or_left : (a b : Bool) → a ≡ true → (a || b) ≡ true
 or_left true b is = refl
 or_left false b is = absurd cc
 
-or_right : (a b : Bool) → b ≡ true → (a || b) ≡ true
+pub or_right : (a b : Bool) → b ≡ true → (a || b) ≡ true
 or_right true b is = refl
 or_right false b is = is
 
@@ -90,7 +90,7 @@ pub among_right : (net : ℕ) (xs ys : List ℕ) → is_among net ys ≡ true �
 among_right net [] ys is = is
 among_right net (x ∷ xs) ys is = or_right (x == net) (is_among net (xs ++ ys)) (among_right net xs ys is)
 
-nets-append : (xs ys : List Source) → nets_of (xs ++ ys) ≡ nets_of xs ++ nets_of ys
+pub nets-append : (xs ys : List Source) → nets_of (xs ++ ys) ≡ nets_of xs ++ nets_of ys
 nets-append [] ys = refl
 nets-append (Net net ∷ xs) ys = ap (λ (nets : List ℕ). net ∷ nets) (nets-append xs ys)
 nets-append (Tied bit ∷ xs) ys = nets-append xs ys

@@ -5,3 +5,14 @@ pub mod Laws
 pub mod SoughtFaults
 pub mod Sought
 pub mod Examples
+pub mod Pins
+pub mod Marks
+pub mod Assigned
+pub mod Rigs
+pub mod Cones
+pub mod Nodes
+pub mod Turns
+pub mod Seeking
+pub mod SeekerShown
+pub mod Steps
+pub mod Prepared

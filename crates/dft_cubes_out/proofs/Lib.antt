@@ -1,0 +1,4 @@
+mod WordLemmas
+mod NameLemmas
+mod TakeLemmas
+mod ReadLemmas

@@ -1,0 +1,6 @@
+use Rattle.std.proofs.Common.{◌≡◌, ◌++◌, flat_map, drop}
+use Rattle.dft_cubes_out.specs.Written.{port_line}
+use Rattle.dft_cubes_out.proofs.lines.add_ports.Given as goal
+
+abbrev pub invariant-loop-given : goal.invariant-loop-given
+invariant-loop-given l = l.out.items ++ flat_map (port_line l.design) (drop l.given-index l.ports) ≡ l.fn.out.items ++ flat_map (port_line l.design) l.ports

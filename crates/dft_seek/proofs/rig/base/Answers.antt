@@ -1,0 +1,18 @@
+-- No value is known first, and each net is marked.
+use Rattle.std.proofs.Common.{ℕ, List, true, ◌∙◌, sym, subst, ap, length}
+use Rattle.std.specs.Prelude.{replicate}
+use Rattle.std.proofs.lemmas.List.{length-replicate}
+use Rattle.dft_base.specs.declared.tri.Tri.{Tri}
+use Rattle.dft_base.specs.declared.tri.Tri.TheVariants.{Unknown}
+use Rattle.dft_seek.specs.Rigs.{IsBase}
+use Rattle.dft_seek.proofs.Filled.{filled}
+use Rattle.dft_seek.proofs.rig.base.Goals as goal
+
+pub settle_base-requires-clause-values : goal.settle_base-requires-clause-values
+settle_base-requires-clause-values c = ap (λ (l : List Tri). length l) (c.deref_mut.ensures.value ∙ c.in_ok-values.ensures) ∙ length-replicate c.len.result Unknown ∙ c.len.ensures ∙ c.args.circuit.now.ops.ok.0
+
+pub settle_base-requires-clause-marked : goal.settle_base-requires-clause-marked
+settle_base-requires-clause-marked c = c.deref_mut-2.ensures.value ∙ c.in_ok-marked.ensures ∙ ap (λ (n : ℕ). replicate n true) (c.len-2.ensures ∙ c.args.circuit.now.ops.ok.0)
+
+pub returns : goal.returns
+returns c = subst (IsBase c.args.circuit.now) (sym (filled c.in_ok-values.values c.settle_base.new.values c.deref_mut.result.now c.settle_base.auto.values c.deref_mut.ensures.value)) c.settle_base.ensures

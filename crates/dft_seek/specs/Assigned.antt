@@ -1,0 +1,16 @@
+-- The bits that lists give cells and ports: of two for one the first one counts.
+use Rattle.std.specs.Prelude.{ℕ, Bool, ◌==◌, List, [], ◌∷◌, Option, None, Some, if◌then◌else◌}
+use Rattle.dft_base.specs.declared.tri.Tri.{Tri}
+use Rattle.dft_base.specs.Tri.{known}
+use Rattle.dft_netlist.specs.declared.ids.NetId.{NetId}
+
+-- the bit that a list gives a net, where the nets stand in this order
+abbrev pub bit_of_net : List NetId → List Bool → (net : ℕ) → Option Bool
+bit_of_net [] bits net = None
+bit_of_net (port ∷ ports) [] net = None
+bit_of_net (port ∷ ports) (bit ∷ bits) net = if port.0 == net then Some bit else bit_of_net ports bits net
+
+-- the value of a bit, or another one where there is none
+abbrev pub value_or : Option Bool → Tri → Tri
+value_or None other = other
+value_or (Some bit) other = known bit

@@ -1,0 +1,268 @@
+//! What a node of a search is.
+
+ghost use Rattle.std.specs.Prelude.{◌≡◌, ◌||◌, ℕ, ◌<◌, ◌^◌, length};
+ghost use Rattle.std.specs.List.{list_all, list_any};
+ghost use Rattle.dft_logic.specs.Values as values_of;
+ghost use Rattle.dft_seek.specs.Nodes as spec;
+ghost use Rattle.dft_seek.specs.Nodes.{AreSettledFor, IsNear, IsSettled};
+ghost use Rattle.dft_seek.specs.Pins.{next_by, pins_at};
+ghost use Rattle.dft_seek.specs.Rigs.{IsRig};
+ghost use Rattle.dft_seek.specs.Searches as searches;
+ghost use Rattle.dft_seek.specs.Trees as trees;
+
+use crate::cones::Cone;
+use crate::pins::Pins;
+use crate::rig::Rig;
+use dft_base::Tri;
+use dft_faults::Fault;
+use dft_logic::{flag_at, value_at};
+use dft_netlist::{InstanceId, NetId};
+use dft_sweep::{Field, Sources, Stuck, settle};
+
+// What a node is: found, dead, or one that the search goes on from.
+#[derive(Clone, Copy)]
+pub(crate) enum Verdict {
+    Found,
+    Dead,
+    Open,
+}
+
+// The values of all nets, and which of them are marked because they may lack theirs: none between nodes.
+#[derive(Drop)]
+pub(crate) struct Table {
+    pub values: Vec<Tri>,
+    pub marked: Vec<bool>,
+}
+
+// The values of a node: those of cells and of ports, those of cells after the clock has risen, and those of nets in the design
+// and in the design with the fault, before the clock rises and before it falls.
+#[derive(Drop)]
+pub(crate) struct Values {
+    pub cells: Vec<Tri>,
+    pub ports: Vec<Tri>,
+    pub risen: Vec<Tri>,
+    pub good: Table,
+    pub bad: Table,
+    pub good_after: Table,
+    pub bad_after: Table,
+}
+
+// ---- values
+
+// Whether two values are known and differ.
+fn differ(one: Tri, other: Tri) -> bool
+    ensures { result ≡ searches.differ one other }
+{
+    match (one, other) {
+        (Tri::Zero, Tri::One) | (Tri::One, Tri::Zero) => true,
+        _ => false,
+    }
+}
+
+// Whether two values are known and the same.
+fn agree(one: Tri, other: Tri) -> bool
+    ensures { result ≡ searches.agree one other }
+{
+    match (one, other) {
+        (Tri::Zero, Tri::Zero) | (Tri::One, Tri::One) => true,
+        _ => false,
+    }
+}
+
+// Whether a value is known to be this bit.
+fn is_bit(bit: bool, value: Tri) -> bool
+    ensures { result ≡ trees.is_bit bit value }
+{
+    match (bit, value) {
+        (false, Tri::Zero) | (true, Tri::One) => true,
+        _ => false,
+    }
+}
+
+// The next value of the flip-flop of an instance.
+fn next_at(pins: &[Pins], cell: u32, values: &[Tri]) -> Tri
+    ensures { result ≡ next_by (pins_at pins.now cell) (values_of.value_at values.now) }
+{
+    match pins.get(cell as usize) {
+        Some(pins) => pins.next(values),
+        None => Tri::Unknown,
+    }
+}
+
+// ---- points
+
+// What is read of a design at a node: the values of its nets before the clock rises and before it falls.
+#[derive(Clone, Copy)]
+pub(crate) struct Sight<'a> {
+    pub first: &'a [Tri],
+    pub second: &'a [Tri],
+}
+
+impl Rig<'_> {
+    // What a cell captures.
+    fn captured(&self, cell: InstanceId, sight: &Sight<'_>) -> Tri
+        ensures { result ≡ spec.captured_at self.now sight.now.first.now sight.now.second.now cell.0 }
+    {
+        if flag_at(&self.falls, cell.0) {
+            next_at(&self.pins, cell.0, sight.second)
+        } else {
+            next_at(&self.pins, cell.0, sight.first)
+        }
+    }
+
+    // Whether a cell detects the fault.
+    fn detects(&self, cells: &[InstanceId], good: &Sight<'_>, bad: &Sight<'_>) -> bool
+        ensures { result ≡ list_any (λ cell. searches.differ (spec.captured_at self.now good.now.first.now good.now.second.now cell.0) (spec.captured_at self.now bad.now.first.now bad.now.second.now cell.0)) cells.now }
+    {
+        for cell in cells {
+            if differ(self.captured(*cell, good), self.captured(*cell, bad)) {
+                return true;
+            }
+        }
+        false
+    }
+
+    // Whether all cells agree.
+    fn agrees(&self, cells: &[InstanceId], good: &Sight<'_>, bad: &Sight<'_>) -> bool
+        ensures { result ≡ list_all (λ cell. searches.agree (spec.captured_at self.now good.now.first.now good.now.second.now cell.0) (spec.captured_at self.now bad.now.first.now bad.now.second.now cell.0)) cells.now }
+    {
+        for cell in cells {
+            if !agree(self.captured(*cell, good), self.captured(*cell, bad)) {
+                return false;
+            }
+        }
+        true
+    }
+}
+
+// Whether the value of one of the nets differs.
+fn any_differs(nets: &[NetId], good: &[Tri], bad: &[Tri]) -> bool
+    ensures { result ≡ list_any (λ net. searches.differ (values_of.value_at good.now net.0) (values_of.value_at bad.now net.0)) nets.now }
+{
+    for net in nets {
+        if differ(value_at(good, net.0), value_at(bad, net.0)) {
+            return true;
+        }
+    }
+    false
+}
+
+// Whether the values of all nets agree.
+fn all_agree(nets: &[NetId], good: &[Tri], bad: &[Tri]) -> bool
+    ensures { result ≡ list_all (λ net. searches.agree (values_of.value_at good.now net.0) (values_of.value_at bad.now net.0)) nets.now }
+{
+    for net in nets {
+        if !agree(value_at(good, net.0), value_at(bad, net.0)) {
+            return false;
+        }
+    }
+    true
+}
+
+// ---- the verdict
+
+// What a node is, by whether a point detects the fault and whether the search ends there.
+fn verdict_of(found: bool, dead: bool) -> Verdict
+    ensures { spec.verdict result ≡ trees.verdict_of found dead }
+{
+    if found {
+        Verdict::Found
+    } else if dead {
+        Verdict::Dead
+    } else {
+        Verdict::Open
+    }
+}
+
+impl Rig<'_> {
+    // Whether the stuck net is known to have the fault's value.
+    fn stays(&self, fault: Fault, good: &Sight<'_>) -> bool
+        ensures { result ≡ spec.stays_at self.now fault good.now.first.now good.now.second.now }
+    {
+        is_bit(fault.value, value_at(good.first, fault.net.0))
+            && (!self.any_falls || is_bit(fault.value, value_at(good.second, fault.net.0)))
+    }
+
+    // Whether a point detects the fault.
+    fn is_found(&self, cone: &Cone, good: &Sight<'_>, bad: &Sight<'_>) -> bool
+        ensures { result ≡ spec.found_at self.now cone.now good.now.first.now good.now.second.now bad.now.first.now bad.now.second.now }
+    {
+        any_differs(&cone.outputs, good.first, bad.first)
+            || self.detects(&cone.responses, good, bad)
+    }
+
+    // Whether all points agree.
+    fn is_same(&self, cone: &Cone, good: &Sight<'_>, bad: &Sight<'_>) -> bool
+        ensures { result ≡ spec.same_at self.now cone.now good.now.first.now good.now.second.now bad.now.first.now bad.now.second.now }
+    {
+        all_agree(&cone.outputs, good.first, bad.first) && self.agrees(&cone.responses, good, bad)
+    }
+
+    // What a node is, by what is read at it, and whether every variable has a bit there.
+    pub(crate) fn verdict(
+        &self,
+        fault: Fault,
+        cone: &Cone,
+        whole: bool,
+        good: &Sight<'_>,
+        bad: &Sight<'_>,
+    ) -> Verdict
+        ensures { spec.verdict result ≡ trees.verdict_of (spec.found_at self.now cone.now good.now.first.now good.now.second.now bad.now.first.now bad.now.second.now) (spec.stays_at self.now fault good.now.first.now good.now.second.now || (spec.same_at self.now cone.now good.now.first.now good.now.second.now bad.now.first.now bad.now.second.now || whole)) }
+    {
+        let found = self.is_found(cone, good, bad);
+        let dead = self.stays(fault, good) || (self.is_same(cone, good, bad) || whole);
+        verdict_of(found, dead)
+    }
+}
+
+// ---- the values of a node
+
+impl Rig<'_> {
+    // The values of cells after the clock has risen.
+    pub(crate) fn rise(&self, cells: &[Tri], values: &[Tri], risen: &mut [Tri])
+        requires { length risen.old < 2 ^ 32 }
+        ensures size { length risen.new ≡ length risen.old }
+        ensures each { (c : ℕ) → c < length risen.old → values_of.value_at risen.new c ≡ spec.risen_at self.now cells.now values.now c }
+    {
+        for cell in 0..risen.len() {
+            risen[cell] = self.risen(cells, values, cell as u32);
+        }
+    }
+
+    // The value of a cell after the clock has risen.
+    fn risen(&self, cells: &[Tri], values: &[Tri], cell: u32) -> Tri
+        ensures { result ≡ spec.risen_at self.now cells.now values.now cell }
+    {
+        if flag_at(&self.rises, cell) {
+            next_at(&self.pins, cell, values)
+        } else {
+            value_at(cells, cell)
+        }
+    }
+
+    // Settles a table of the design, with a stuck net if there is one, for these values of ports and cells.
+    pub(crate) fn settle(
+        &self,
+        stuck: Option<Stuck>,
+        ports: &[Tri],
+        cells: &[Tri],
+        table: &mut Table,
+    )
+        requires rig { IsRig self.now }
+        requires near { IsNear self.now stuck table.old }
+        ensures table { IsSettled self.now stuck table.new }
+        ensures given { AreSettledFor self.now stuck (values_of.value_at ports.now) (values_of.value_at cells.now) table.new.values.items }
+    {
+        let field = Field {
+            circuit: &self.circuit,
+            stuck,
+            sources: Sources {
+                ports,
+                resets: &self.resets,
+                cells,
+                holds: &self.holds,
+            },
+        };
+        settle(&field, &mut table.values, &mut table.marked);
+    }
+}

@@ -1,0 +1,5 @@
+mod KeptLemmas
+mod GatherLemmas
+mod SearchLemmas
+mod EndLemmas
+pub mod OneLemmas

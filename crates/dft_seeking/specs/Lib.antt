@@ -1,0 +1,5 @@
+pub mod Told
+pub mod Written
+pub mod Refusals
+pub mod Gathers
+pub mod Laws

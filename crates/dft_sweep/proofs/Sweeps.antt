@@ -1,0 +1,221 @@
+-- Marked nets are evaluated one after another; every net that is not marked has its value.
+use Rattle.std.proofs.Common.{ℕ, zero, suc, Bool, true, false, List, [], ◌∷◌, ◌≡◌, ◌<◌, ◌≤◌, ◌+◌, ◌≢◌, ◌⊎◌, inl, inr, Option, None, Some, length, drop, drop-cons, add-one, refl, sym, ap, ◌∙◌, subst, get_or, slice_set, get_or-set_same, get_or-set_other, true≢false, arith}
+use Rattle.std.specs.List.{AllByRecursion}
+use Rattle.std.proofs.lemmas.Bool.Decides.{eqb_tells, leb_tells}
+use Rattle.std.proofs.lemmas.List.{get_or_past, drop_all}
+use Rattle.dft_base.specs.declared.tri.Tri.{Tri}
+use Rattle.dft_base.specs.declared.tri.Tri.TheVariants.{Unknown}
+use Rattle.dft_cells.specs.Gates.{tri_of}
+use Rattle.dft_netlist.specs.declared.ids.NetId.{NetId}
+use Rattle.dft_netlist.specs.Logic.{Meaning, Input, Clock, Gate, Joined, Flop, Lockup, Free, reads}
+use Rattle.dft_netlist.specs.Settled.{TriSources, value_given}
+use Rattle.dft_netlist.specs.Orders.{Has, numbers_of}
+use Rattle.dft_netlist.proofs.RankLemmas.{has_all}
+use Rattle.dft_logic.specs.declared.circuit.Op.{Op}
+use Rattle.dft_logic.specs.declared.circuit.Op.TheVariants as op
+use Rattle.dft_logic.specs.declared.circuit.Circuit.{Circuit}
+use Rattle.dft_logic.specs.Values.{value_at}
+use Rattle.dft_logic.specs.Circuit.{meaning, op_at, AreOrdered, IsCircuit, flag_at, source_places}
+use Rattle.dft_logic.specs.Tables.{list_at}
+use Rattle.dft_logic.proofs.Settlings.{all_more, inputs_agree, source_agree}
+use Rattle.dft_sweep.specs.Fields.{IsGivenBy, with_bit}
+
+-- ---- marks
+
+-- these nets that are not before a place of a list are marked
+pub record Marking (nets : List ℕ) (start marked : List Bool) (j : ℕ) : Type 0 where
+  pub lowered : (k : ℕ) → flag_at marked k ≡ false → (flag_at start k ≡ false) × (Has nets k → Has (drop j nets) k)
+  pub raised : (k : ℕ) → flag_at marked k ≡ true → (flag_at start k ≡ true) ⊎ Has nets k
+
+pub has_item : (xs : List ℕ) (j : ℕ) (d : ℕ) → j < length xs → Has xs (get_or xs j d)
+has_item xs j d less = at xs j less where
+  at : (ys : List ℕ) (i : ℕ) → i < length ys → Has ys (get_or ys i d)
+  at [] i h = absurd (omega arith)
+  at (y ∷ ys) zero h = inl refl
+  at (y ∷ ys) (suc i) h = inr (at ys i (omega arith))
+
+-- the numbers from a place on
+pub has_front : (xs : List ℕ) (j d k : ℕ) → j < length xs → Has (drop j xs) k → (k ≡ get_or xs j d) ⊎ Has (drop (j + 1) xs) k
+has_front xs j d k less has = (let P : List ℕ → Type 0 = λ l. Has l k in rw (add-one) (subst P (drop-cons xs j d less) has))
+
+pub marking_starts : (nets : List ℕ) (start : List Bool) → Marking nets start start 0
+marking_starts nets start = record { lowered = λ k down. (down, λ h. h); raised = λ k up. inl up }
+
+pub marking_more : (nets : List ℕ) (start marked : List Bool) (j net d : ℕ) → net ≡ get_or nets j d → j < length nets → net < length marked → Marking nets start marked j → Marking nets start (slice_set marked net true) (j + 1)
+marking_more nets start marked j net d is less live m = record {
+  lowered = λ k down. elim (eqb_tells k net) [
+    | inl q ↦ (let F : ℕ → Bool = λ n. flag_at (slice_set marked net true) n in absurd (true≢false (sym (get_or-set_same marked net true false live) ∙ sym (ap F q.1) ∙ down)))
+    | inr q ↦ (let was = m.lowered k (sym (get_or-set_other marked net k true false q.1) ∙ down) in
+        (was.0, λ h. elim (has_front nets j d k less (was.1 h)) [ inl e ↦ absurd (q.1 (e ∙ sym is)) | inr rest ↦ rest ]))
+  ];
+  raised = λ k up. elim (eqb_tells k net) [
+    | inl q ↦ (let P : ℕ → Type 0 = λ n. Has nets n in inr (subst P (sym is ∙ sym q.1) (has_item nets j d less)))
+    | inr q ↦ m.raised k (sym (get_or-set_other marked net k true false q.1) ∙ up)
+  ];
+}
+
+pub marking_ends : (nets : List ℕ) (start marked : List Bool) (j k : ℕ) → length nets ≤ j → Marking nets start marked j → flag_at marked k ≡ false → (flag_at start k ≡ false) × (Has nets k → ⊥)
+marking_ends nets start marked j k past m down = (let was = m.lowered k down in let P : List ℕ → Type 0 = λ l. Has l k in (was.0, λ h. subst P (drop_all j nets past) (was.1 h)))
+
+-- ---- one net gets its value
+
+all_other : (net : ℕ) (xs : List ℕ) → (Has xs net → ⊥) → AllByRecursion (λ m. m ≢ net) xs
+all_other net [] none = tt
+all_other net (x ∷ xs) none = (λ e. none (inl (sym e)), all_other net xs (λ h. none (inr h)))
+
+-- a value hangs on what it reads
+pub value_agree : (P : ℕ → Type 0) (sources : TriSources) (v w : ℕ → Tri) (net : ℕ) (m : Meaning) → AllByRecursion P (reads m) → ((k : ℕ) → P k → v k ≡ w k) → value_given sources v net m ≡ value_given sources w net m
+value_agree P sources v w net Input all same = refl
+value_agree P sources v w net Clock all same = refl
+value_agree P sources v w net (Gate kind inputs) all same = ap (tri_of kind) (inputs_agree P v w inputs all same)
+value_agree P sources v w net (Joined source) all same = source_agree P v w source all same
+value_agree P sources v w net (Flop c inverted) all same = refl
+value_agree P sources v w net (Lockup c e high source) all same = refl
+value_agree P sources v w net Free all same = refl
+
+-- nets that do not read it keep their values
+pub written : (means : ℕ → Meaning) (sources : TriSources) (values : List Tri) (net k : ℕ) (t : Tri) → net < length values → t ≡ value_given sources (value_at values) net (means net) → (Has (reads (means k)) net → ⊥) →
+    (k ≡ net) ⊎ IsGivenBy means sources values k → IsGivenBy means sources (slice_set values net t) k
+written means sources values net k t live given blind before =
+    let now : List Tri = slice_set values net t in
+    let P : ℕ → Type 0 = λ m. m ≢ net in
+    let same : (m : ℕ) → m ≢ net → value_at values m ≡ value_at now m = λ m ne. sym (get_or-set_other values net m t Unknown ne) in
+    let agree : value_given sources (value_at values) k (means k) ≡ value_given sources (value_at now) k (means k) =
+    value_agree P sources (value_at values) (value_at now) k (means k) (all_other net (reads (means k)) blind) same in
+    let fresh : k ≡ net → IsGivenBy means sources now k =
+    λ q. (let F : ℕ → Tri = value_at now in let G : ℕ → Tri = λ n. value_given sources (value_at values) n (means n) in
+    ap F q ∙ get_or-set_same values net t Unknown live ∙ given ∙ sym (ap G q) ∙ agree) in
+    elim (eqb_tells k net) [
+      | inl q ↦ fresh q.1
+      | inr q ↦ elim before [ inl e ↦ absurd (q.1 e) | inr is ↦ sym (same k q.1) ∙ is ∙ agree ]
+    ]
+
+-- what is not written because it is the same, is given too
+pub kept : (means : ℕ → Meaning) (sources : TriSources) (values : List Tri) (net k : ℕ) (t : Tri) → t ≡ value_given sources (value_at values) net (means net) → t ≡ value_at values net → (k ≡ net) ⊎ IsGivenBy means sources values k → IsGivenBy means sources values k
+kept means sources values net k t given same before = elim before [
+  | inl q ↦ (let F : ℕ → Tri = value_at values in let G : ℕ → Tri = λ n. value_given sources (value_at values) n (means n) in ap F q ∙ sym same ∙ given ∙ sym (ap G q))
+  | inr is ↦ is
+]
+
+-- a net that is none of the readers does not read it, nor where it is stuck
+pub blind : (x : Circuit) (net k : ℕ) (readers : List ℕ) → IsCircuit x → net < length x.ops.items → readers ≡ list_at x.readers net → (Has readers k → ⊥) → Has (reads (meaning (op_at x.ops.items k))) net → ⊥
+blind x net k readers is live e none h = elim (leb_tells (length x.ops.items) k) [
+  | inl out ↦ (let P : Op → Type 0 = λ o. Has (reads (meaning o)) net in subst P (get_or_past x.ops.items k op.Free out.1) h)
+  | inr less ↦ (let Q : List ℕ → Type 0 = λ l. Has l k in none (subst Q (sym e) (is.tables.readers.each net k less.1 live h)))
+]
+
+pub reads_with : (o : Option Bool) (m : Meaning) (net : ℕ) → Has (reads (with_bit o m)) net → Has (reads m) net
+reads_with None m net has = has
+reads_with (Some bit) m net has = absurd has
+
+-- ---- the order
+
+-- the nets before a place of the order are not marked, and each net that is not marked has its value
+pub record Sweeping (ops : List Op) (means : ℕ → Meaning) (sources : TriSources) (order : List NetId) (values : List Tri) (marked : List Bool) (j : ℕ) : Type 0 where
+  pub before : List ℕ
+  pub rest : AreOrdered ops before (numbers_of (drop j order))
+  pub closed : (k : ℕ) → Has before k → AllByRecursion (Has before) (reads (meaning (op_at ops k)))
+  pub clean : (k : ℕ) → Has before k → flag_at marked k ≡ false
+  pub given : (k : ℕ) → flag_at marked k ≡ false → IsGivenBy means sources values k
+  pub either : (k : ℕ) → k < length ops → Has before k ⊎ Has (numbers_of (drop j order)) k
+
+pub sweeping_starts : (x : Circuit) (means : ℕ → Meaning) (sources : TriSources) (values : List Tri) (marked : List Bool) → IsCircuit x →
+    ((k : ℕ) → flag_at marked k ≡ false → IsGivenBy means sources values k) → Sweeping x.ops.items means sources x.order.items values marked 0
+sweeping_starts x means sources values marked is given = record { before = []; rest = is.after; closed = λ k h. absurd h; clean = λ k h. absurd h; given = given; either = λ k less. inr (is.whole k less) }
+
+front : (ops : List Op) (means : ℕ → Meaning) (sources : TriSources) (order : List NetId) (values : List Tri) (marked : List Bool) (j : ℕ) (net d : NetId) → j < length order → net ≡ get_or order j d →
+    Sweeping ops means sources order values marked j → drop j order ≡ net ∷ drop (j + 1) order
+front ops means sources order values marked j net d less is s = rw (add-one) (drop-cons order j d less ∙ ap (λ (n : NetId). n ∷ drop (suc j) order) (sym is))
+
+pub swept_live : (ops : List Op) (means : ℕ → Meaning) (sources : TriSources) (order : List NetId) (values : List Tri) (marked : List Bool) (j : ℕ) (net d : NetId) → j < length order → net ≡ get_or order j d →
+    Sweeping ops means sources order values marked j → net.0 < length ops
+swept_live ops means sources order values marked j net d less is s = (let P : List NetId → Type 0 = λ l. AreOrdered ops s.before (numbers_of l) in (subst P (front ops means sources order values marked j net d less is s) s.rest).1)
+
+pub sweeping_more : (ops : List Op) (means : ℕ → Meaning) (sources : TriSources) (order : List NetId) (values new : List Tri) (marked now : List Bool) (j : ℕ) (net d : NetId) → (less : j < length order) → (is : net ≡ get_or order j d) →
+    Sweeping ops means sources order values marked j → (given : ((k : ℕ) → flag_at now k ≡ false → IsGivenBy means sources new k)) →
+    (raised : ((k : ℕ) → flag_at now k ≡ true → ((flag_at marked k ≡ true) × (k ≡ net.0 → ⊥)) ⊎ Has (reads (meaning (op_at ops k))) net.0)) → Sweeping ops means sources order new now (j + 1)
+sweeping_more ops means sources order values new marked now j net d less is s given raised =
+    let e = front ops means sources order values marked j net d less is s in
+    let P : List NetId → Type 0 = λ l. AreOrdered ops s.before (numbers_of l) in
+    let Q : List NetId → Type 0 = λ l. (k : ℕ) → k < length ops → Has s.before k ⊎ Has (numbers_of l) k in
+    let here = subst P e s.rest in
+    let later = subst Q e s.either in
+    record {
+      before = net.0 ∷ s.before;
+      rest = here.3;
+      closed = λ k h. elim h [
+        | inl q ↦ (let R : ℕ → Type 0 = λ n. AllByRecursion (Has (net.0 ∷ s.before)) (reads (meaning (op_at ops n))) in subst R (sym q) (all_more s.before net.0 (reads (meaning (op_at ops net.0))) here.2))
+        | inr older ↦ all_more s.before net.0 (reads (meaning (op_at ops k))) (s.closed k older)
+      ];
+      clean = λ k h. down k (flag_at now k) refl (λ up. elim (raised k up) [
+        | inl was ↦ elim h [ inl q ↦ was.1 q | inr older ↦ true≢false (sym was.0 ∙ s.clean k older) ]
+        | inr reader ↦ elim h [
+          | inl q ↦ (let R : ℕ → Type 0 = λ n. Has (reads (meaning (op_at ops n))) net.0 in here.0 (has_all (Has s.before) (reads (meaning (op_at ops net.0))) net.0 here.2 (subst R q reader)))
+          | inr older ↦ here.0 (has_all (Has s.before) (reads (meaning (op_at ops k))) net.0 (s.closed k older) reader)
+        ]
+      ]);
+      given = given;
+      either = λ k h. elim (later k h) [
+        | inl older ↦ inl (inr older)
+        | inr now ↦ elim now [ inl q ↦ inl (inl q) | inr rest ↦ inr rest ]
+      ];
+    } where
+      down : (k : ℕ) (b : Bool) → flag_at now k ≡ b → (flag_at now k ≡ true → ⊥) → flag_at now k ≡ false
+      down k false is never = is
+      down k true is never = absurd (never is)
+
+pub swept : (x : Circuit) (means : ℕ → Meaning) (sources : TriSources) (values : List Tri) (marked : List Bool) (j : ℕ) → length x.order.items ≤ j → length marked ≡ length x.ops.items →
+    Sweeping x.ops.items means sources x.order.items values marked j → (k : ℕ) → flag_at marked k ≡ false
+swept x means sources values marked j past len s k = elim (leb_tells (length x.ops.items) k) [
+  | inl out ↦ (let far : length marked ≤ k = omega (arith, out.1) in get_or_past marked k false far)
+  | inr live ↦ (let Q : List NetId → Type 0 = λ l. Has s.before k ⊎ Has (numbers_of l) k in
+      elim (subst Q (drop_all j x.order.items past) (s.either k live.1)) [ inl older ↦ s.clean k older | inr none ↦ absurd none ])
+]
+
+-- ---- these nets, one after another
+
+-- where each net that is not marked has its value or is one of these, it has it now, or is one that is left
+abbrev pub Refreshing : (means : ℕ → Meaning) (sources : TriSources) (nets : List ℕ) (start values : List Tri) (first marked : List Bool) (j : ℕ) → Type 0
+Refreshing means sources nets start values first marked j =
+    ((k : ℕ) → flag_at first k ≡ false → Has nets k ⊎ IsGivenBy means sources start k) → (k : ℕ) → flag_at marked k ≡ false → Has (drop j nets) k ⊎ IsGivenBy means sources values k
+
+pub refreshed_more : (means : ℕ → Meaning) (sources : TriSources) (nets : List ℕ) (start values new : List Tri) (first marked now : List Bool) (j net d : ℕ) → (less : j < length nets) → (is : net ≡ get_or nets j d) →
+    Refreshing means sources nets start values first marked j → (given : ((k : ℕ) → flag_at now k ≡ false → (k ≡ net) ⊎ IsGivenBy means sources values k → IsGivenBy means sources new k)) →
+    (lowered : ((k : ℕ) → flag_at now k ≡ false → flag_at marked k ≡ false)) → Refreshing means sources nets start new first now (j + 1)
+refreshed_more means sources nets start values new first marked now j net d less is s given lowered near k down =
+    elim (s near k (lowered k down)) [
+      | inl left ↦ elim (has_front nets j d k less left) [ inl e ↦ inr (given k down (inl (e ∙ sym is))) | inr rest ↦ inl rest ]
+      | inr right ↦ inr (given k down (inr right))
+    ]
+
+pub refreshed_all : (means : ℕ → Meaning) (sources : TriSources) (nets : List ℕ) (start values : List Tri) (first marked : List Bool) (j : ℕ) → length nets ≤ j → Refreshing means sources nets start values first marked j →
+    ((k : ℕ) → flag_at first k ≡ false → Has nets k ⊎ IsGivenBy means sources start k) → (k : ℕ) → flag_at marked k ≡ false → IsGivenBy means sources values k
+refreshed_all means sources nets start values first marked j past s near k down =
+    let P : List ℕ → Type 0 = λ l. Has l k in
+    elim (s near k down) [ inl left ↦ absurd (subst P (drop_all j nets past) left) | inr is ↦ is ]
+
+-- ---- other sources
+
+none_listed : (places : List ℕ) → places ≡ 0 ∷ [] → length places ≡ 0 → ⊥
+none_listed [] is empty = absurd cc
+none_listed (place ∷ places) is empty = absurd (omega (arith, empty))
+
+-- a net that means a source is listed as one
+source : (x : Circuit) (k : ℕ) (m : Meaning) → IsCircuit x → meaning (op_at x.ops.items k) ≡ m → source_places m ≡ 0 ∷ [] → Has (list_at x.sources 0) k
+source x k m is e places =
+    let own : source_places (meaning (op_at x.ops.items k)) ≡ 0 ∷ [] = ap source_places e ∙ places in
+    elim (leb_tells (length x.ops.items) k) [
+      | inl out ↦ (let P : Op → Type 0 = λ o. source_places (meaning o) ≡ 0 ∷ [] in absurd (none_listed [] (subst P (get_or_past x.ops.items k op.Free out.1) own) refl))
+      | inr less ↦ is.tables.sources.each 0 k less.1 (omega arith) (let Q : List ℕ → Type 0 = λ l. Has l 0 in subst Q (sym own) (inl refl))
+    ]
+
+-- what a net means that is no source does not hang on the sources
+pub given_any : (x : Circuit) (o : Option Bool) (a b : TriSources) (k : ℕ) (v : ℕ → Tri) (m : Meaning) → IsCircuit x → meaning (op_at x.ops.items k) ≡ m → Has (list_at x.sources 0) k ⊎ (value_given a v k (with_bit o m) ≡ value_given b v k (with_bit o m))
+given_any x (Some bit) a b k v m is e = inr refl
+given_any x None a b k v Input is e = inl (source x k Input is e refl)
+given_any x None a b k v Clock is e = inl (source x k Clock is e refl)
+given_any x None a b k v (Gate kind inputs) is e = inr refl
+given_any x None a b k v (Joined from) is e = inr refl
+given_any x None a b k v (Flop c inverted) is e = inl (source x k (Flop c inverted) is e refl)
+given_any x None a b k v (Lockup c d high from) is e = inl (source x k (Lockup c d high from) is e refl)
+given_any x None a b k v Free is e = inr refl
