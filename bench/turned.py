@@ -1,17 +1,17 @@
 #!/usr/bin/env python3
-"""Makes a compiled job that moves at other edges, to time `dft replay` on: turned.py NETLIST PATTERNS KIND FOLDER
+"""Makes a compiled job that moves at other edges, to time `dft replay` on: turned.py NETLIST PATTERNS KIND FOLDER [TIMES]
 
 KIND says what becomes of the job, which `compile` wrote: `rising`, nothing; `falling`, every second cell of each chain is
 behind an inverter of its clock; `four`, the chains of each clock are given to two clocks by turns, or to four where the
 design has one, which pulse as it did in loads and by turns in captures; `lockups`, a lock-up of a cell's own clock stands
 before the second cell of the first chain, and one of the inverted clock before the third. The patterns compare nothing, so
-that all vectors are replayed. The files are FOLDER/turned.v and FOLDER/turned.stil.
+that all vectors are replayed; they come TIMES times, one after another (1). The files are FOLDER/turned.v and FOLDER/turned.stil.
 """
 import itertools
 import re
 import sys
 
-TEST = "edt_clock"
+SHIFT = "scan_enable"
 CELL = re.compile(r"^\s*SDFF\w* .*$", re.M)
 PINS = {name: re.compile(rf"\.{name}\(([^()]+)\)") for name in ("CK", "SI", "Q")}
 
@@ -78,7 +78,7 @@ def four(netlist, chains, copies):
 
 
 def pulses(patterns, copies):
-    """Each clock's character, and those of its copies: the same where the test clock pulses too, else by turns."""
+    """Each clock's character, and those of its copies: the same while chains shift, else by turns."""
     inputs = re.search(r"^ins = '(.*)';", patterns, re.M)[1].replace('"', "").split("+")
     turns = {name: itertools.cycle(range(len(names))) for name, names in copies.items()}
 
@@ -86,7 +86,7 @@ def pulses(patterns, copies):
         acts = dict(zip(inputs, found[1]))
         added = ""
         for name, names in copies.items():
-            if acts[name] != "P" or acts[TEST] == "P":
+            if acts[name] != "P" or acts[SHIFT] == "1":
                 added += acts[name] * (len(names) - 1)
                 continue
             bits = ["P" if place == turn else "0" for turn in [next(turns[name])] for place in range(len(names))]
@@ -100,8 +100,15 @@ def pulses(patterns, copies):
     return patterns.replace("Signals {\n", "Signals {\n" + "".join(f'"{name}" In;\n' for name in names), 1)
 
 
+def repeated(patterns, times):
+    """The patterns with their vectors so many times."""
+    head, body = re.match(r"(.*?^W w;\n)(.*)^}", patterns, re.M | re.S).groups()
+    return head + body * times + patterns[len(head) + len(body):]
+
+
 def main():
     kind, folder = sys.argv[3], sys.argv[4]
+    times = int(sys.argv[5]) if len(sys.argv) > 5 else 1
     with open(sys.argv[1]) as file:
         netlist = file.read()
     with open(sys.argv[2]) as file:
@@ -120,7 +127,7 @@ def main():
     with open(f"{folder}/turned.v", "w") as out:
         out.write(netlist)
     with open(f"{folder}/turned.stil", "w") as out:
-        out.write(patterns)
+        out.write(repeated(patterns, times))
 
 
 if __name__ == "__main__":

@@ -27,6 +27,7 @@ work_status (work.Certified unsolvable) = Done
 work_status (work.Generated counts replay) = replayed_status replay
 work_status (work.Graded faults detected undetected report) = Done
 work_status (work.Configured counts text) = Done
+work_status (work.Sought counts cubes report) = Done
 
 abbrev pub status_of : Outcome → Status
 status_of outcome.Usage = Usage
@@ -55,6 +56,7 @@ work_unpassed (work.Certified unsolvable) = None
 work_unpassed (work.Generated counts replay) = replayed_unpassed replay
 work_unpassed (work.Graded faults detected undetected report) = None
 work_unpassed (work.Configured counts text) = None
+work_unpassed (work.Sought counts cubes report) = None
 
 abbrev pub unpassed_of : Outcome → Option Unpassed
 unpassed_of outcome.Usage = None

@@ -5,8 +5,9 @@ use Rattle.dft_base.specs.declared.place.Place.{Place}
 use Rattle.dft_scan.specs.declared.texts.Counts.{Counts}
 use Rattle.dft_compile.specs.declared.texts.Counts as compiled
 use Rattle.dft_configuring.specs.declared.counting.MadeCounts.{MadeCounts}
+use Rattle.dft_seeking.specs.declared.counting.SeekCounts.{SeekCounts}
 use Rattle.dft_answers.specs.declared.answer.Code.{Code}
-use Rattle.dft_answers.specs.declared.answer.Code.TheVariants.{F1, L1, L2, L3, L4, L5, L6, L7, C1, C2, C3, C4, C5, C6, V1, V2, V3, V4, V5, V6, V7, V8, V9, V10, V11, V12, H1, H2, H3, H4, H5, N1, N2, N3, N4, G1, G2, G3, G4, G5, G6, G7, P1, P2, P3, P4, P5, P6, P7, P8, P9, P10, Q1, Q2, Q3, Q4, Q5, Q6, Q7, Q8, Q9, K1, K2, K3, K4, K5, K6, X2, X3, X4}
+use Rattle.dft_answers.specs.declared.answer.Code.TheVariants.{F1, L1, L2, L3, L4, L5, L6, L7, C1, C2, C3, C4, C5, C6, V1, V2, V3, V4, V5, V6, V7, V8, V9, V10, V11, V12, H1, H2, H3, H4, H5, N1, N2, N3, N4, G1, G2, G3, G4, G5, G6, G7, P1, P2, P3, P4, P5, P6, P7, P8, P9, P10, Q1, Q2, Q3, Q4, Q5, Q6, Q7, Q8, Q9, K1, K2, K3, K4, K5, K6, X1, X2, X3, X4}
 use Rattle.dft_answers.specs.declared.answer.Refusal.{Refusal}
 use Rattle.dft_answers.specs.declared.outcome.Outcome.{Outcome}
 use Rattle.dft_answers.specs.declared.outcome.Outcome.TheVariants.{Usage, Refused, Finished}
@@ -83,6 +84,7 @@ code_text K3 = codes "K3"
 code_text K4 = codes "K4"
 code_text K5 = codes "K5"
 code_text K6 = codes "K6"
+code_text X1 = codes "X1"
 code_text X2 = codes "X2"
 code_text X3 = codes "X3"
 code_text X4 = codes "X4"
@@ -105,7 +107,7 @@ number_part (Some number) = codes " " ++ signed_decimal number
 -- ---- lines
 
 abbrev pub usage_line : List ℕ
-usage_line = codes "usage: dft replay, scan, compile, certify, generate, grade or configure, each option once as --name value\n"
+usage_line = codes "usage: dft replay, scan, compile, certify, generate, grade, seek or configure, each option once as --name value\n"
 
 abbrev pub refused_line : Refusal → List ℕ
 refused_line refusal =
@@ -162,6 +164,10 @@ output_part counts =
 abbrev pub configured_line : MadeCounts → List ℕ
 configured_line counts = flip_flop_part counts ++ (chain_part counts ++ (output_part counts ++ codes "\n"))
 
+abbrev pub sought_line : SeekCounts → List ℕ
+sought_line counts =
+    codes "seek faults " ++ (decimal counts.faults ++ (codes " cubes " ++ (decimal counts.cubes ++ (codes " not-testable " ++ (decimal counts.not_testable ++ (codes " aborted " ++ (decimal counts.aborted ++ codes "\n")))))))
+
 -- what a replay comes to
 abbrev pub replayed_line : Replayed → List ℕ
 replayed_line (replayed.Passed vectors compared) = passed_line vectors compared
@@ -181,6 +187,7 @@ work_line (work.Certified unsolvable) = certified_line unsolvable
 work_line (work.Generated counts replay) = generated_lines counts replay
 work_line (work.Graded faults detected undetected report) = graded_line faults detected undetected
 work_line (work.Configured counts text) = configured_line counts
+work_line (work.Sought counts cubes report) = sought_line counts
 
 abbrev pub line_of : Outcome → List ℕ
 line_of Usage = usage_line

@@ -39,6 +39,9 @@ use Rattle.dft_configuring.specs.declared.error.ConfigureError.{ConfigureError}
 use Rattle.dft_configuring.specs.declared.error.ConfigureError.TheVariants as configure
 use Rattle.dft_configuring.specs.declared.error.Limited.{Limited}
 use Rattle.dft_configuring.specs.declared.error.Limited.TheVariants as limited
+use Rattle.dft_cubes.specs.declared.limits.TheConstants.{MAX_CUBES}
+use Rattle.dft_seeking.specs.declared.error.SeekError.{SeekError}
+use Rattle.dft_seeking.specs.declared.error.SeekError.TheVariants as seek
 use Rattle.dft_report_reader.specs.declared.error.ReadError.{ReadError}
 use Rattle.dft_report_reader.specs.declared.error.ReadError.TheVariants as read
 use Rattle.dft_certify.specs.declared.error.CertifyError.{CertifyError}
@@ -220,9 +223,18 @@ configure_refusal configure.NoClock = Some (plain X2)
 configure_refusal (configure.TooMany what most) = Some (numbered X3 (limited_text what) most)
 configure_refusal (configure.Rules error) = rule_refusal error
 configure_refusal configure.NoRing = Some (plain X4)
+configure_refusal (configure.LongText bytes) = Some (measured K6 bytes)
 configure_refusal (configure.Stitch error) = stitch_refusal error
 configure_refusal (configure.Insert error) = insert_refusal error
 configure_refusal (configure.Memory error) = None
+
+-- ---- the refusal of a search
+
+abbrev pub seek_refusal : SeekError → Option Refusal
+seek_refusal seek.TooManyCubes = Some (numbered N4 (codes "cubes") (pos MAX_CUBES))
+seek_refusal (seek.LongCubes bytes) = Some (measured K6 bytes)
+seek_refusal (seek.LongReport bytes) = Some (measured K6 bytes)
+seek_refusal (seek.Memory error) = None
 
 -- ---- the refusal of a test of certificates
 

@@ -8,7 +8,7 @@ use dft_base::{Name, Place};
 #[derive(Clone, Copy, Debug, PartialEq, Eq)]
 pub enum Status {
     /// It did what it is for: patterns passed, those of a generated job among them; the files of a scan, of a compilation, of a
-    /// grading or of a made configuration are saved; or a report's certificates hold.
+    /// grading, of a made configuration or of a search are saved; or a report's certificates hold.
     Done,
     /// The patterns do not pass: a bit differs, or is not determined.
     NotPassed,
@@ -162,8 +162,10 @@ pub enum Code {
     K4,
     /// A cube that is reported unsolvable is not in the cube file.
     K5,
-    /// A report is longer than its limit. Its part is how many bytes it would have.
+    /// A report, a cube file that is sought, or a made configuration is longer than its limit. Its part is how many bytes it would have.
     K6,
+    /// A clock is no domain of the configuration. Its part is its name, with `?` for each byte that no name has.
+    X1,
     /// A netlist has no scan clock. It has no part.
     X2,
     /// There would be more than the chains, or than the most of them. Its parts are what is counted, and the most.
@@ -256,7 +258,8 @@ impl Answer {
             | Work::Compiled { .. }
             | Work::Certified { .. }
             | Work::Graded { .. }
-            | Work::Configured { .. } => Answer::stopped(Status::Done),
+            | Work::Configured { .. }
+            | Work::Sought { .. } => Answer::stopped(Status::Done),
         }
     }
 

@@ -12,5 +12,6 @@ pub use outcome::{Outcome, Replayed, Work};
 pub use printing::{code_text, line};
 pub use refusing::{
     certify_refusal, compile_refusal, config_refusal, configure_refusal, cube_refusal,
-    design_refusal, library_refusal, read_refusal, report_refusal, scan_refusal, stil_refusal,
+    design_refusal, library_refusal, read_refusal, report_refusal, scan_refusal, seek_refusal,
+    stil_refusal,
 };

@@ -3,6 +3,7 @@ use dft_base::{Listed, Name};
 use dft_compile::Counts as CompileCounts;
 use dft_configuring::MadeCounts;
 use dft_scan::Counts;
+use dft_seeking::SeekCounts;
 
 /// What a replay comes to. Vectors are numbered from 0.
 #[derive(Debug, Drop)]
@@ -55,6 +56,12 @@ pub enum Work {
     Configured {
         counts: MadeCounts,
         text: Listed<u8>,
+    },
+    /// Test cubes are sought: what is counted, and the texts of the cubes and of the report, to be saved.
+    Sought {
+        counts: SeekCounts,
+        cubes: Listed<u8>,
+        report: Listed<u8>,
     },
 }
 

@@ -9,10 +9,11 @@ use dft_base::{Name, Place};
 use dft_compile::Counts as CompileCounts;
 use dft_configuring::MadeCounts;
 use dft_scan::Counts;
+use dft_seeking::SeekCounts;
 use std::alloc::{AllocError, Global};
 
 const USAGE: &str =
-    "usage: dft replay, scan, compile, certify, generate, grade or configure, each option once as --name value\n";
+    "usage: dft replay, scan, compile, certify, generate, grade, seek or configure, each option once as --name value\n";
 
 /// A code as it is printed.
 pub fn code_text(code: Code) -> &'static str
@@ -86,6 +87,7 @@ pub fn code_text(code: Code) -> &'static str
         Code::K4 => "K4",
         Code::K5 => "K5",
         Code::K6 => "K6",
+        Code::X1 => "X1",
         Code::X2 => "X2",
         Code::X3 => "X3",
         Code::X4 => "X4",
@@ -120,7 +122,18 @@ fn work_line(alloc: Global, work: &Work) -> Result<Vec<u8>, AllocError>
             ..
         } => graded_line(alloc, *faults, *detected, *undetected),
         Work::Configured { counts, .. } => configured_line(alloc, *counts),
+        Work::Sought { counts, .. } => sought_line(alloc, *counts),
     }
+}
+
+fn sought_line(alloc: Global, counts: SeekCounts) -> Result<Vec<u8>, AllocError>
+    ensures { IfOk result (λ line. line.items ≡ spec.sought_line counts) }
+{
+    let line = format!(in alloc;
+        "seek faults {} cubes {} not-testable {} aborted {}\n",
+        counts.faults, counts.cubes, counts.not_testable, counts.aborted
+    )?;
+    Ok(line.into_bytes())
 }
 
 fn refused_line(alloc: Global, refusal: &Refusal) -> Result<Vec<u8>, AllocError>

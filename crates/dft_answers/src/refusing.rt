@@ -1,4 +1,4 @@
-//! What the errors of readers, of a scan, of a compilation, of a made configuration and of a test of certificates come to.
+//! What the errors of readers, of a scan, of a compilation, of a made configuration, of a search and of a test of certificates come to.
 
 ghost use Rattle.std.specs.Prelude.{◌≡◌, IfOk, Some, pos};
 ghost use Rattle.dft_answers.specs.Refusals as spec;
@@ -10,7 +10,7 @@ use dft_certify::CertifyError;
 use dft_compile::CompileError;
 use dft_config::ConfigError;
 use dft_configuring::{ConfigureError, Limited};
-use dft_cubes::CubeError;
+use dft_cubes::{CubeError, MAX_CUBES};
 use dft_hier::HierError;
 use dft_netlist::{Counted, NetlistError};
 use dft_netlist_reader::DesignError;
@@ -19,6 +19,7 @@ use dft_report_reader::ReadError;
 use dft_rules::RuleError;
 use dft_scan::ScanError;
 use dft_scan_frame::InsertError;
+use dft_seeking::SeekError;
 use dft_stil_text::StilError;
 use dft_stitch::{Counted as Planned, StitchError};
 use dft_verilog::{ModulesError, VerilogError};
@@ -223,9 +224,26 @@ pub fn configure_refusal(alloc: Global, error: ConfigureError) -> Result<Refusal
         )),
         ConfigureError::Rules(error) => rule_refusal(error),
         ConfigureError::NoRing => Ok(Refusal::plain(Code::X4)),
+        ConfigureError::LongText { first } => Ok(Refusal::measured(Code::K6, first)),
         ConfigureError::Stitch(error) => stitch_refusal(alloc, error),
         ConfigureError::Insert(error) => insert_refusal(alloc, error),
         ConfigureError::Memory(error) => Err(error),
+    }
+}
+
+/// The refusal of the cubes of a search.
+pub fn seek_refusal(alloc: Global, error: SeekError) -> Result<Refusal, AllocError>
+    ensures { IfOk result (λ refusal. spec.seek_refusal error ≡ Some refusal) }
+{
+    match error {
+        SeekError::TooManyCubes => Ok(Refusal::numbered(
+            Code::N4,
+            Name::from_slice(alloc, b"cubes")?,
+            MAX_CUBES as i64,
+        )),
+        SeekError::LongCubes { first } => Ok(Refusal::measured(Code::K6, first)),
+        SeekError::LongReport { first } => Ok(Refusal::measured(Code::K6, first)),
+        SeekError::Memory(error) => Err(error),
     }
 }
 

@@ -7,7 +7,7 @@ use dft_top::Status;
 use std::test::Fail;
 
 const USAGE: &str =
-    "usage: dft replay, scan, compile, certify, generate, grade or configure, each option once as --name value\n";
+    "usage: dft replay, scan, compile, certify, generate, grade, seek or configure, each option once as --name value\n";
 
 // Words that are no test of certificates. An empty word stands between two blanks.
 static NO_TESTS: [&str; 12] = [

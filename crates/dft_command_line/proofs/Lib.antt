@@ -9,4 +9,5 @@ pub mod Taken
 pub mod Values
 pub mod JobWords
 pub mod ConfigureWords
+pub mod SeekWords
 pub mod Understood

@@ -10,14 +10,15 @@ use Rattle.clap.specs.declared.error.Error.{Error}
 use Rattle.clap.specs.declared.error.kind.ErrorKind.TheVariants as kind
 use Rattle.clap.specs.Simple.{subcommand_of}
 use Rattle.clap.specs.Walk.{Row}
-use Rattle.dft_command_line.specs.Words.{AreFor, Certify, CertifyFiles, Command, Compile, CompileFiles, Configure, ConfigureFiles, Generate, Grade, GradeFiles, IsCommand, IsFor, JobNumbers, OutputsDiffer, Replay, ReplayFiles, Scan, ScanFiles, Text, Valued, certify_options, compile_options, configure_options, generate_options, grade_options, replay_options, scan_options}
-use Rattle.dft_command_line.specs.CommandLine.{Form, certify_form, certify_in, command_from, command_in, compile_form, compile_from, compile_in, configure_form, configure_in, dft_app, generate_form, generate_in, grade_form, grade_in, may_stand, outputs_differ, perhaps_in, replay_form, replay_from, replay_in, scan_form, scan_from, scan_in, value_in}
+use Rattle.dft_command_line.specs.Words.{AreFor, Certify, CertifyFiles, Command, Compile, CompileFiles, Configure, ConfigureFiles, Generate, Grade, GradeFiles, IsCommand, IsFor, JobNumbers, OutputsDiffer, Replay, ReplayFiles, Scan, ScanFiles, Seek, SeekFiles, Text, Valued, certify_options, compile_options, configure_options, generate_options, grade_options, replay_options, scan_options, seek_options}
+use Rattle.dft_command_line.specs.CommandLine.{Form, certify_form, certify_in, command_from, command_in, compile_form, compile_from, compile_in, configure_form, configure_in, dft_app, generate_form, generate_in, grade_form, grade_in, may_stand, outputs_differ, perhaps_in, replay_form, replay_from, replay_in, scan_form, scan_from, scan_in, seek_form, seek_in, value_in}
 use Rattle.dft_command_line.proofs.Options.{names}
 use Rattle.dft_command_line.proofs.FirstWords.{find_form}
 use Rattle.dft_command_line.proofs.Rows.{rows}
 use Rattle.dft_command_line.proofs.Taken.{Shows, Taken, TakesOptions, command_taken, labels, taken, takes_command}
 use Rattle.dft_command_line.proofs.Values.{perhaps_shown, shown_perhaps, shown_value, value_shown}
 use Rattle.dft_command_line.proofs.ConfigureWords.{configure_shows, shows_configure}
+use Rattle.dft_command_line.proofs.SeekWords.{seek_shows, shows_seek}
 use Rattle.dft_command_line.proofs.JobWords.{certify_shows, generate_shows, grade_shows, shows_certify, shows_generate, shows_grade}
 
 -- ---- replay
@@ -237,6 +238,9 @@ for_taken words (Grade files) s =
 for_taken words (Configure files) s =
     is_taken (codes "configure") (configure_options files s.texts) words (Configure files) (takes_command configure_form (configure_options files s.texts) words refl refl s.written)
     (λ rs all. ap (option_map Configure) (shows_configure rs files s.texts all s.numbers))
+for_taken words (Seek files) s =
+    is_taken (codes "seek") (seek_options files s.limit) words (Seek files) (takes_command seek_form (seek_options files s.limit) words refl refl s.written)
+    (λ rs all. ap (option_map Seek) (shows_seek rs files s.limit all s.is s.most s.differ))
 
 -- a command that is found by its name has the form of that name
 form_named : (words : List Text) (t : Taken words) (f : Form) → find_form f.command ≡ Some f → t.form.command ≡ f.command → t.form ≡ f
@@ -295,8 +299,15 @@ found_configure words t c (Some files) same is e =
     subst (IsFor words) (same_Some (Configure files) c e)
     (record { texts = found.texts; written = as_form words t configure_form (configure_options files found.texts) same refl found.shows; numbers = found.are })
 
+found_seek : (words : List Text) (t : Taken words) (c : Command) (q : Option SeekFiles) → t.form ≡ seek_form → seek_in (rows t.given) ≡ q → option_map Seek q ≡ Some c → IsFor words c
+found_seek words t c None same is e = absurd cc
+found_seek words t c (Some files) same is e =
+    let found = seek_shows (rows t.given) files is in
+    subst (IsFor words) (same_Some (Seek files) c e)
+    (record { limit = found.limit; written = as_form words t seek_form (seek_options files found.limit) same refl found.shows; is = found.is; most = found.most; differ = found.differ })
+
 -- by the tests of the names
-record Named (t_form : Form) (replay scan compile certify generate grade configure : Bool) : Type 0 where
+record Named (t_form : Form) (replay scan compile certify generate grade configure seek : Bool) : Type 0 where
   is_replay : replay ≡ true → t_form ≡ replay_form
   is_scan : scan ≡ true → t_form ≡ scan_form
   is_compile : compile ≡ true → t_form ≡ compile_form
@@ -304,29 +315,33 @@ record Named (t_form : Form) (replay scan compile certify generate grade configu
   is_generate : generate ≡ true → t_form ≡ generate_form
   is_grade : grade ≡ true → t_form ≡ grade_form
   is_configure : configure ≡ true → t_form ≡ configure_form
+  is_seek : seek ≡ true → t_form ≡ seek_form
 
-found_is : (words : List Text) (t : Taken words) (c : Command) (replay scan compile certify generate grade configure : Bool) → Named t.form replay scan compile certify generate grade configure →
+found_is : (words : List Text) (t : Taken words) (c : Command) (replay scan compile certify generate grade configure seek : Bool) → Named t.form replay scan compile certify generate grade configure seek →
     (if replay then option_map Replay (replay_in (rows t.given))
     else (if scan then option_map Scan (scan_in (rows t.given))
     else (if compile then option_map Compile (compile_in (rows t.given))
     else (if certify then option_map Certify (certify_in (rows t.given))
     else (if generate then option_map Generate (generate_in (rows t.given))
     else (if grade then option_map Grade (grade_in (rows t.given))
-    else (if configure then option_map Configure (configure_in (rows t.given)) else None))))))) ≡ Some c → IsFor words c
-found_is words t c true scan compile certify generate grade configure named e = found_replay words t c (replay_in (rows t.given)) (named.is_replay refl) refl e
-found_is words t c false true compile certify generate grade configure named e = found_scan words t c (scan_in (rows t.given)) (named.is_scan refl) refl e
-found_is words t c false false true certify generate grade configure named e = found_compile words t c (compile_in (rows t.given)) (named.is_compile refl) refl e
-found_is words t c false false false true generate grade configure named e = found_certify words t c (certify_in (rows t.given)) (named.is_certify refl) refl e
-found_is words t c false false false false true grade configure named e = found_generate words t c (generate_in (rows t.given)) (named.is_generate refl) refl e
-found_is words t c false false false false false true configure named e = found_grade words t c (grade_in (rows t.given)) (named.is_grade refl) refl e
-found_is words t c false false false false false false true named e = found_configure words t c (configure_in (rows t.given)) (named.is_configure refl) refl e
-found_is words t c false false false false false false false named e = absurd cc
+    else (if configure then option_map Configure (configure_in (rows t.given))
+    else (if seek then option_map Seek (seek_in (rows t.given)) else None)))))))) ≡ Some c → IsFor words c
+found_is words t c true scan compile certify generate grade configure seek named e = found_replay words t c (replay_in (rows t.given)) (named.is_replay refl) refl e
+found_is words t c false true compile certify generate grade configure seek named e = found_scan words t c (scan_in (rows t.given)) (named.is_scan refl) refl e
+found_is words t c false false true certify generate grade configure seek named e = found_compile words t c (compile_in (rows t.given)) (named.is_compile refl) refl e
+found_is words t c false false false true generate grade configure seek named e = found_certify words t c (certify_in (rows t.given)) (named.is_certify refl) refl e
+found_is words t c false false false false true grade configure seek named e = found_generate words t c (generate_in (rows t.given)) (named.is_generate refl) refl e
+found_is words t c false false false false false true configure seek named e = found_grade words t c (grade_in (rows t.given)) (named.is_grade refl) refl e
+found_is words t c false false false false false false true seek named e = found_configure words t c (configure_in (rows t.given)) (named.is_configure refl) refl e
+found_is words t c false false false false false false false true named e = found_seek words t c (seek_in (rows t.given)) (named.is_seek refl) refl e
+found_is words t c false false false false false false false false named e = absurd cc
 
 -- words that are taken are those of the command that is found
 taken_for : (words : List Text) (c : Command) → Taken words → command_in (subcommand_of dft_app words) ≡ Some c → IsFor words c
 taken_for words c t is =
     found_is words t c (bytes_eq t.form.command (codes "replay")) (bytes_eq t.form.command (codes "scan")) (bytes_eq t.form.command (codes "compile"))
     (bytes_eq t.form.command (codes "certify")) (bytes_eq t.form.command (codes "generate")) (bytes_eq t.form.command (codes "grade")) (bytes_eq t.form.command (codes "configure"))
+    (bytes_eq t.form.command (codes "seek"))
     (record {
       is_replay = λ e. form_named words t replay_form refl ((bytes_eq-Decides t.form.command (codes "replay")).0 e);
       is_scan = λ e. form_named words t scan_form refl ((bytes_eq-Decides t.form.command (codes "scan")).0 e);
@@ -335,6 +350,7 @@ taken_for words c t is =
       is_generate = λ e. form_named words t generate_form refl ((bytes_eq-Decides t.form.command (codes "generate")).0 e);
       is_grade = λ e. form_named words t grade_form refl ((bytes_eq-Decides t.form.command (codes "grade")).0 e);
       is_configure = λ e. form_named words t configure_form refl ((bytes_eq-Decides t.form.command (codes "configure")).0 e);
+      is_seek = λ e. form_named words t seek_form refl ((bytes_eq-Decides t.form.command (codes "seek")).0 e);
     })
     (ap command_in (sym t.shown) ∙ is)
 

@@ -7,7 +7,7 @@ use Rattle.std.specs.Str.Parse.{digits_value}
 use Rattle.clap.specs.Words.{App, Rule, Shape, new_app, new_rule, with_rule, with_subcommand}
 use Rattle.clap.specs.Simple.{new_shape, on_top}
 use Rattle.clap.specs.Walk.{Row, first_of}
-use Rattle.dft_command_line.specs.Words.{Text, ReplayFiles, ScanFiles, CompileFiles, CertifyFiles, GradeFiles, JobNumbers, HardwareNumbers, ConfigureFiles, Command, Replay, Scan, Compile, Certify, Generate, Grade, Configure}
+use Rattle.dft_command_line.specs.Words.{Text, ReplayFiles, ScanFiles, CompileFiles, CertifyFiles, GradeFiles, JobNumbers, HardwareNumbers, ConfigureFiles, SeekFiles, Command, Replay, Scan, Compile, Certify, Generate, Grade, Configure, Seek}
 
 -- ---- the forms of commands
 
@@ -65,8 +65,17 @@ configure_form = record {
       ∷ optional (codes "library") ∷ [];
 }
 
+abbrev pub seek_form : Form
+seek_form = record {
+  command = codes "seek";
+  options =
+      needed (codes "netlist") ∷ needed (codes "config") ∷ needed (codes "clock") ∷ needed (codes "limit")
+      ∷ needed (codes "out-cubes") ∷ needed (codes "out-report")
+      ∷ optional (codes "library") ∷ [];
+}
+
 abbrev pub forms : List Form
-forms = replay_form ∷ scan_form ∷ compile_form ∷ certify_form ∷ generate_form ∷ grade_form ∷ configure_form ∷ []
+forms = replay_form ∷ scan_form ∷ compile_form ∷ certify_form ∷ generate_form ∷ grade_form ∷ configure_form ∷ seek_form ∷ []
 
 -- ---- what `clap` is told
 
@@ -242,11 +251,33 @@ configure_from _ _ _ _ = None
 abbrev pub configure_in : List Row → Option ConfigureFiles
 configure_in rows = configure_from (perhaps_in (codes "library") rows) (value_in (codes "netlist") rows) (value_in (codes "out") rows) (numbers_in rows)
 
+-- the limit is no greater than it may be, and the files that are saved differ
+abbrev pub limited : SeekFiles → Option SeekFiles
+limited files = if nat_le files.limit 1000000 && not (bytes_eq files.out_cubes files.out_report) then Some files else None
+
+abbrev pub seek_from : (library : Option (Option Text)) → (netlist config clock : Option Text) → (limit : Option ℕ) → (out_cubes out_report : Option Text) → Option SeekFiles
+seek_from (Some library) (Some netlist) (Some config) (Some clock) (Some limit) (Some out_cubes) (Some out_report) = limited (record {
+  library = library;
+  netlist = netlist;
+  config = config;
+  clock = clock;
+  limit = limit;
+  out_cubes = out_cubes;
+  out_report = out_report;
+})
+seek_from _ _ _ _ _ _ _ = None
+
+abbrev pub seek_in : List Row → Option SeekFiles
+seek_in rows =
+    seek_from (perhaps_in (codes "library") rows) (value_in (codes "netlist") rows) (value_in (codes "config") rows) (value_in (codes "clock") rows)
+    (decimal_in 7 (codes "limit") rows) (value_in (codes "out-cubes") rows) (value_in (codes "out-report") rows)
+
 abbrev pub further_from : (name : Text) → List Row → Option Command
 further_from name rows =
     if bytes_eq name (codes "generate") then option_map Generate (generate_in rows)
     else (if bytes_eq name (codes "grade") then option_map Grade (grade_in rows)
-    else (if bytes_eq name (codes "configure") then option_map Configure (configure_in rows) else None))
+    else (if bytes_eq name (codes "configure") then option_map Configure (configure_in rows)
+    else (if bytes_eq name (codes "seek") then option_map Seek (seek_in rows) else None)))
 
 abbrev pub command_from : (name : Text) → List Row → Option Command
 command_from name rows =

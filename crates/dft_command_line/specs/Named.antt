@@ -10,6 +10,7 @@ use Rattle.dft_command_line.specs.declared.commands.JobNumbers.{JobNumbers}
 use Rattle.dft_command_line.specs.declared.commands.GradeFiles.{GradeFiles}
 use Rattle.dft_command_line.specs.declared.commands.HardwareNumbers.{HardwareNumbers}
 use Rattle.dft_command_line.specs.declared.commands.ConfigureFiles.{ConfigureFiles}
+use Rattle.dft_command_line.specs.declared.commands.SeekFiles.{SeekFiles}
 use Rattle.dft_command_line.specs.Words as words
 
 abbrev pub replay_files_of : ReplayFiles → words.ReplayFiles
@@ -56,6 +57,17 @@ hardware_of numbers = record { channels = numbers.channels; chains = numbers.cha
 abbrev pub configure_files_of : ConfigureFiles → words.ConfigureFiles
 configure_files_of files = record { library = option_map (λ name. name.now) files.library; netlist = files.netlist.now; out = files.out.now; numbers = hardware_of files.numbers }
 
+abbrev pub seek_files_of : SeekFiles → words.SeekFiles
+seek_files_of files = record {
+  library = option_map (λ name. name.now) files.library;
+  netlist = files.netlist.now;
+  config = files.config.now;
+  clock = files.clock.now;
+  limit = files.limit;
+  out_cubes = files.out_cubes.now;
+  out_report = files.out_report.now;
+}
+
 abbrev pub command_of : Command → words.Command
 command_of (command.Replay files) = words.Replay (replay_files_of files)
 command_of (command.Scan files) = words.Scan (scan_files_of files)
@@ -64,3 +76,4 @@ command_of (command.Certify files) = words.Certify (certify_files_of files)
 command_of (command.Generate job) = words.Generate (numbers_of job)
 command_of (command.Grade files) = words.Grade (grade_files_of files)
 command_of (command.Configure files) = words.Configure (configure_files_of files)
+command_of (command.Seek files) = words.Seek (seek_files_of files)

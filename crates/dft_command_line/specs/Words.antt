@@ -238,6 +238,32 @@ pub record IsConfigure (words : List Text) (files : ConfigureFiles) : Type 0 whe
   pub written : IsCommand (codes "configure") (configure_options files texts) words
   pub numbers : AreNumbers texts files.numbers
 
+-- ---- sought cubes
+
+-- the files of a search, of which three are loaded and two are saved, its clock, and its limit of dead nodes
+pub record SeekFiles : Type 0 where
+  pub library : Option Text
+  pub netlist : Text
+  pub config : Text
+  pub clock : Text
+  pub limit : ℕ
+  pub out_cubes : Text
+  pub out_report : Text
+
+abbrev pub seek_options : SeekFiles → (limit : Text) → List Valued
+seek_options files limit =
+    (codes "netlist", Some files.netlist) ∷ (codes "config", Some files.config) ∷ (codes "clock", Some files.clock) ∷ (codes "limit", Some limit)
+    ∷ (codes "out-cubes", Some files.out_cubes) ∷ (codes "out-report", Some files.out_report)
+    ∷ (codes "library", files.library) ∷ []
+
+-- the limit is written with 7 digits at most and is at most 1,000,000, and the two files that are saved have different names
+pub record IsSeek (words : List Text) (files : SeekFiles) : Type 0 where
+  pub limit : Text
+  pub written : IsCommand (codes "seek") (seek_options files limit) words
+  pub is : IsDecimal 7 limit files.limit
+  pub most : files.limit ≤ 1000000
+  pub differ : files.out_cubes ≡ files.out_report → ⊥
+
 -- ---- what words are
 
 pub data Command : Type 0 where
@@ -248,6 +274,7 @@ pub data Command : Type 0 where
   Generate : JobNumbers → Command
   Grade : GradeFiles → Command
   Configure : ConfigureFiles → Command
+  Seek : SeekFiles → Command
 
 abbrev pub IsFor : List Text → Command → Type 0
 IsFor words (Replay files) = IsReplay words files
@@ -257,6 +284,7 @@ IsFor words (Certify files) = IsCertify words files
 IsFor words (Generate job) = IsGenerate words job
 IsFor words (Grade files) = IsGrade words files
 IsFor words (Configure files) = IsConfigure words files
+IsFor words (Seek files) = IsSeek words files
 
 -- what words are: a command, or no command
 abbrev pub AreFor : List Text → Option Command → Type 0

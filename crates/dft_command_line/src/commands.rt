@@ -77,6 +77,19 @@ pub struct ConfigureFiles<'a> {
     pub numbers: HardwareNumbers,
 }
 
+/// The files of a search of cubes, of which three are read and two are saved, the clock of its captures, and its limit of dead nodes,
+/// at most 1,000,000.
+#[derive(Clone, Copy, Debug)]
+pub struct SeekFiles<'a> {
+    pub library: Option<&'a str>,
+    pub netlist: &'a str,
+    pub config: &'a str,
+    pub clock: &'a str,
+    pub limit: u32,
+    pub out_cubes: &'a str,
+    pub out_report: &'a str,
+}
+
 /// A command with its files, or with its numbers.
 #[derive(Clone, Copy, Debug)]
 pub enum Command<'a> {
@@ -87,4 +100,5 @@ pub enum Command<'a> {
     Generate(JobNumbers),
     Grade(GradeFiles<'a>),
     Configure(ConfigureFiles<'a>),
+    Seek(SeekFiles<'a>),
 }

@@ -5,12 +5,12 @@ ghost use Rattle.clap.specs.Words.{subcommand_rows_of};
 ghost use Rattle.clap.specs.Matches.{found_of};
 ghost use Rattle.clap.specs.Walk.{first_of, rows_of};
 ghost use Rattle.dft_command_line.specs.CommandLine as spec;
-ghost use Rattle.dft_command_line.specs.CommandLine.{certify_in, command_from, command_in, compile_in, configure_in, decimal_in, further_from, generate_in, grade_in, number_in, numbers_in, perhaps_in, perhaps_number_in, replay_in, scan_in, value_in};
-ghost use Rattle.dft_command_line.specs.Named.{certify_files_of, command_of, compile_files_of, configure_files_of, grade_files_of, hardware_of, numbers_of, replay_files_of, scan_files_of};
+ghost use Rattle.dft_command_line.specs.CommandLine.{certify_in, command_from, command_in, compile_in, configure_in, decimal_in, further_from, generate_in, grade_in, number_in, numbers_in, perhaps_in, perhaps_number_in, replay_in, scan_in, seek_in, value_in};
+ghost use Rattle.dft_command_line.specs.Named.{certify_files_of, command_of, compile_files_of, configure_files_of, grade_files_of, hardware_of, numbers_of, replay_files_of, scan_files_of, seek_files_of};
 
 use crate::commands::{
     CertifyFiles, Command, CompileFiles, ConfigureFiles, GradeFiles, HardwareNumbers, JobNumbers,
-    ReplayFiles, ScanFiles,
+    ReplayFiles, ScanFiles, SeekFiles,
 };
 use crate::numbers::{decimal, ranged};
 use clap::ArgMatches;
@@ -52,6 +52,8 @@ fn further_found<'a>(name: &str, options: &ArgMatches<'a>) -> Option<Command<'a>
         Some(Command::Grade(grade_found(options)?))
     } else if name == "configure" {
         Some(Command::Configure(configure_found(options)?))
+    } else if name == "seek" {
+        Some(Command::Seek(seek_found(options)?))
     } else {
         None
     }
@@ -168,6 +170,31 @@ fn configure_found<'a>(found: &ArgMatches<'a>) -> Option<ConfigureFiles<'a>>
         out,
         numbers,
     })
+}
+
+fn seek_found<'a>(found: &ArgMatches<'a>) -> Option<SeekFiles<'a>>
+    ensures { option_map seek_files_of result ≡ seek_in (rows_of (found_of found.now)) }
+{
+    let library = perhaps(found, "library")?;
+    let netlist = value(found, "netlist")?;
+    let config = value(found, "config")?;
+    let clock = value(found, "clock")?;
+    let limit = number(found, "limit", 7)?;
+    let out_cubes = value(found, "out-cubes")?;
+    let out_report = value(found, "out-report")?;
+    if limit <= 1_000_000 && out_cubes != out_report {
+        Some(SeekFiles {
+            library,
+            netlist,
+            config,
+            clock,
+            limit: limit as u32,
+            out_cubes,
+            out_report,
+        })
+    } else {
+        None
+    }
 }
 
 fn hardware_found(found: &ArgMatches<'_>) -> Option<HardwareNumbers>

@@ -9,6 +9,6 @@ mod words;
 
 pub use commands::{
     CertifyFiles, Command, CompileFiles, ConfigureFiles, GradeFiles, HardwareNumbers, JobNumbers,
-    ReplayFiles, ScanFiles,
+    ReplayFiles, ScanFiles, SeekFiles,
 };
 pub use words::command;

@@ -52,6 +52,19 @@ pub(crate) fn matches<'a>(alloc: Global, words: &'a [String]) -> Result<ArgMatch
             "configure",
             &["netlist", "channels", "out"],
             &["chains", "length", "outputs", "masks", "library"],
+        )?)?
+        .subcommand(form(
+            alloc,
+            "seek",
+            &[
+                "netlist",
+                "config",
+                "clock",
+                "limit",
+                "out-cubes",
+                "out-report",
+            ],
+            &["library"],
         )?)?;
     dft.try_get_matches_from(words)
 }

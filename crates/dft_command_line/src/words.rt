@@ -19,7 +19,8 @@ use std::alloc::{AllocError, Global};
 /// `library` where it is given, and so does `grade`, which has `netlist`, `patterns` and `out`, and so does `configure`, which has
 /// `netlist`, `out`, `channels` and just one of `chains` and `length`, and may have `outputs` and `masks`: `channels`, `outputs` and
 /// `masks` are 1 or 2 decimal digits of a number from 1 to 32, `chains` 1 to 4 of one from 1 to 1,024, `length` 1 to 5 of one from 1
-/// to 65,536. `generate` has `seed`, 1 to 20
+/// to 65,536; and so does `seek`, which has `netlist`, `config`, `clock`, `limit`, 1 to 7 decimal digits of a number up to 1,000,000,
+/// `out-cubes` and `out-report`, of which the last two differ. `generate` has `seed`, 1 to 20
 /// decimal digits of a number below 2^64, and `size`, 1 to 5 digits of a number from 16 to 20,000. A value that is a word of its
 /// own is `-` or does not begin with `-`, and no value is empty. No other words are understood.
 pub fn command<'a>(alloc: Global, words: &'a [String]) -> Result<Option<Command<'a>>, AllocError>

@@ -74,7 +74,7 @@ fn two_cells_make_no_three_chains(rt: HostRuntime) -> Result<(), Fail> {
 }
 
 const USAGE: &str =
-    "usage: dft replay, scan, compile, certify, generate, grade or configure, each option once as --name value\n";
+    "usage: dft replay, scan, compile, certify, generate, grade, seek or configure, each option once as --name value\n";
 
 // Words, and what is printed.
 static WORDS: [(&str, Status, &str); 8] = [

@@ -7,7 +7,6 @@ use Rattle.dft_netlist.specs.Netlist.{Netlist}
 use Rattle.dft_config.specs.Config.{Config}
 use Rattle.dft_config.specs.declared.config.RingConfig.{RingConfig}
 use Rattle.dft_equations.specs.LoadRows.{AreLoadEquations, IsCell, LoadRows, row_of}
-use Rattle.dft_stitch.specs.declared.error.StitchError.{StitchError}
 use Rattle.dft_config_out.specs.declared.made.Made.{Made}
 use Rattle.dft_config_out.specs.Written.{config_of}
 use Rattle.dft_cubes.specs.declared.cube.Cube.{Cube}
@@ -18,6 +17,7 @@ use Rattle.dft_merge.specs.Rows.{CellRows}
 use Rattle.dft_load_laws.specs.Loading.{rows_of}
 use Rattle.dft_configure.specs.Good.{AreGood, HasVariable}
 use Rattle.dft_configuring.specs.declared.configuring.Configured.{Configured}
+use Rattle.dft_configuring.specs.declared.error.ConfigureError.{ConfigureError}
 use Rattle.dft_configuring.specs.declared.wanted.Wanted.{Wanted}
 use Rattle.dft_configuring.specs.Configured.{IsConfigured}
 use Rattle.dft_configuring.specs.Searching.{Ends, Finds, GoesOn, IsGood, Passes, Search}
@@ -26,11 +26,11 @@ use Rattle.dft_configure_laws.proofs.FewLemmas.{few_loaded, few_solvable}
 
 -- ---- what the search finds is good
 
-abbrev HasGood : Netlist → Result Made StitchError → Type 0
+abbrev HasGood : Netlist → Result Made ConfigureError → Type 0
 HasGood n (Ok made) = IsGood n (config_of made)
 HasGood n (Err error) = Unit {0}
 
-found_good : (n : Netlist) (wanted : Wanted) (warm : ℕ) (found : Result Made StitchError) → Search n wanted warm found → HasGood n found
+found_good : (n : Netlist) (wanted : Wanted) (warm : ℕ) (found : Result Made ConfigureError) → Search n wanted warm found → HasGood n found
 found_good n wanted warm found (Finds low made is fits good) = good
 found_good n wanted warm found (GoesOn low made is fits bad more) = found_good n wanted (suc warm) found more
 found_good n wanted warm found (Passes low made is passed) = tt

@@ -176,6 +176,7 @@ fn told(alloc: Global, error: &ConfigureError) -> Result<String, AllocError> {
         }
         ConfigureError::Rules(error) => rules_told(alloc, error),
         ConfigureError::NoRing => only(alloc, "X4"),
+        ConfigureError::LongText { first } => format!(in alloc; "K6 {first}"),
         ConfigureError::Stitch(StitchError::TooMany { .. }) => only(alloc, "N4"),
         ConfigureError::Stitch(StitchError::Memory(_)) => only(alloc, "memory"),
         ConfigureError::Insert(error) => insertion_told(alloc, error),

@@ -4,6 +4,10 @@
 #[cfg(test)]
 mod configured;
 #[cfg(test)]
+mod counts;
+#[cfg(test)]
+mod long;
+#[cfg(test)]
 mod rings;
 #[cfg(test)]
 mod roots;

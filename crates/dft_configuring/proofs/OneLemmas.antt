@@ -1,5 +1,5 @@
 -- A netlist and a wish have one configuration, or one refusal.
-use Rattle.std.proofs.Common.{ℕ, suc, ◌+◌, ◌≡◌, ◌<◌, ◌≤◌, List, [], ◌∷◌, length, Option, None, Some, Result, Ok, Err, refl, sym, ap, ap₂, arith, ◌∙◌, subst}
+use Rattle.std.proofs.Common.{ℕ, suc, inl, inr, ◌+◌, ◌≡◌, ◌<◌, ◌≤◌, List, [], ◌∷◌, length, Option, None, Some, Result, Ok, Err, refl, sym, ap, ap₂, arith, ◌∙◌, subst}
 use Rattle.std.proofs.lemmas.Option.{none-some, same_Some}
 use Rattle.dft_netlist.specs.Netlist.{Netlist}
 use Rattle.dft_config.specs.Config.{Config}
@@ -16,9 +16,7 @@ use Rattle.dft_decompressor.specs.Sizes.{need, sizes}
 use Rattle.dft_decompressor.proofs.OneLemmas.{fit_one, injectors_one}
 use Rattle.dft_encode.proofs.OneLemmas.{equations_one}
 use Rattle.dft_stitch.specs.Chains.{plan_of}
-use Rattle.dft_stitch.specs.Limits.{refusal}
 use Rattle.dft_stitch.specs.Plans.{falling_head, lengths_of}
-use Rattle.dft_stitch.specs.declared.error.StitchError.{StitchError}
 use Rattle.dft_scan_frame.specs.declared.error.InsertError.{InsertError}
 use Rattle.dft_scan_hardware.specs.declared.style.Style.TheVariants.{Edt}
 use Rattle.dft_scan_hardware.specs.Refusals as insert
@@ -27,7 +25,7 @@ use Rattle.dft_configure.specs.Good.{AreGood}
 use Rattle.dft_configuring.specs.declared.configuring.Configured.{Configured}
 use Rattle.dft_configuring.specs.declared.counting.MadeCounts.{MadeCounts}
 use Rattle.dft_configuring.specs.declared.error.ConfigureError.{ConfigureError}
-use Rattle.dft_configuring.specs.declared.error.ConfigureError.TheVariants.{NoClock, TooMany, Rules, NoRing, Stitch, Insert, Memory}
+use Rattle.dft_configuring.specs.declared.error.ConfigureError.TheVariants.{NoClock, TooMany, Rules, NoRing, LongText, Stitch, Insert, Memory}
 use Rattle.dft_configuring.specs.declared.wanted.Wanted.{Wanted}
 use Rattle.dft_configuring.specs.Configured.{IsConfigured}
 use Rattle.dft_configuring.specs.Counted.{counts_of}
@@ -35,7 +33,7 @@ use Rattle.dft_configuring.specs.Made.{IsMade, IsRing, output_count}
 use Rattle.dft_configuring.specs.Names.{names_for}
 use Rattle.dft_configuring.specs.Refusals.{HasNoRing, IsPassed, IsRefused, IsUnfit, early}
 use Rattle.dft_configuring.specs.Rooted.{cell_count, chain_count, longest}
-use Rattle.dft_configuring.specs.Searching.{AreRows, IsBad, IsChosen, IsGood, Search, Ends, Finds, GoesOn, Passes, first_warm}
+use Rattle.dft_configuring.specs.Searching.{AreRows, IsBad, IsChosen, IsGood, Search, Ends, Finds, GoesOn, Passes, first_warm, tried}
 
 -- ---- one ring
 
@@ -81,13 +79,13 @@ good_or_bad n config good bad =
     let plan = plan_of n config in
     bad.bad (subst AreGood (equations_one config.ring (lengths_of plan.chains) (falling_head plan) plan.cycles good.rows bad.rows good.are bad.are) good.good)
 
-fits_or_passes : (n : Netlist) (a b : Made) (error : StitchError) → a ≡ b → refusal n (config_of a) ≡ None → refusal n (config_of b) ≡ Some error → ⊥
-fits_or_passes n a b error same fits passes = none-some error (sym fits ∙ ap (λ (m : Made). refusal n (config_of m)) same ∙ passes)
+fits_or_passes : (n : Netlist) (a b : Made) (error : ConfigureError) → a ≡ b → tried n a ≡ None → tried n b ≡ Some error → ⊥
+fits_or_passes n a b error same fits passes = none-some error (sym fits ∙ ap (tried n) same ∙ passes)
 
 at_end : (warm : ℕ) → warm ≤ 4095 → 4095 < warm → ⊥
 at_end warm few over = omega (arith, few, over)
 
-pub search_one : (n : Netlist) (wanted : Wanted) (warm : ℕ) (x y : Result Made StitchError) → Search n wanted warm x → Search n wanted warm y → x ≡ y
+pub search_one : (n : Netlist) (wanted : Wanted) (warm : ℕ) (x y : Result Made ConfigureError) → Search n wanted warm x → Search n wanted warm y → x ≡ y
 search_one n wanted warm x y (Finds {made = a} u p e f g) (Finds {made = b} v q h j k) = ap Ok (made_one n wanted a b p q (e ∙ sym h))
 search_one n wanted warm x y (Finds {made = a} u p e f g) (GoesOn {made = b} v q h j k more) =
     absurd (good_or_bad n (config_of a) g (subst (λ (m : Made). IsBad n (config_of m)) (sym (made_one n wanted a b p q (e ∙ sym h))) k))
@@ -101,7 +99,7 @@ search_one n wanted warm x y (GoesOn {made = a} u p e f g more) (Ends over) = ab
 search_one n wanted warm x y (Passes {made = a} {error = r} u p e f) (Finds {made = b} v q h j k) = absurd (fits_or_passes n b a r (made_one n wanted b a q p (h ∙ sym e)) j f)
 search_one n wanted warm x y (Passes {made = a} {error = r} u p e f) (GoesOn {made = b} v q h j k more) = absurd (fits_or_passes n b a r (made_one n wanted b a q p (h ∙ sym e)) j f)
 search_one n wanted warm x y (Passes {made = a} {error = r} u p e f) (Passes {made = b} {error = s} v q h j) =
-    ap Err (same_Some r s (sym f ∙ ap (λ (m : Made). refusal n (config_of m)) (made_one n wanted a b p q (e ∙ sym h)) ∙ j))
+    ap Err (same_Some r s (sym f ∙ ap (tried n) (made_one n wanted a b p q (e ∙ sym h)) ∙ j))
 search_one n wanted warm x y (Passes {made = a} u p e f) (Ends over) = absurd (at_end warm u over)
 search_one n wanted warm x y (Ends over) (Finds {made = a} u p e f g) = absurd (at_end warm u over)
 search_one n wanted warm x y (Ends over) (GoesOn {made = a} u p e f g more) = absurd (at_end warm u over)
@@ -110,11 +108,11 @@ search_one n wanted warm x y (Ends over) (Ends more) = refl
 
 -- ---- one configuration
 
-abbrev made_or : Made → Result Made StitchError → Made
+abbrev made_or : Made → Result Made ConfigureError → Made
 made_or made (Ok found) = found
 made_or made (Err error) = made
 
-ok_same : (a b : Made) → ◌≡◌ {A = Result Made StitchError} (Ok a) (Ok b) → a ≡ b
+ok_same : (a b : Made) → ◌≡◌ {A = Result Made ConfigureError} (Ok a) (Ok b) → a ≡ b
 ok_same a b e = ap (made_or a) e
 
 pub chosen_one : (n : Netlist) (wanted : Wanted) (a b : Made) → IsChosen n wanted a → IsChosen n wanted b → a ≡ b
@@ -147,6 +145,7 @@ IsCause NoClock = Unit {0}
 IsCause (TooMany what most) = Unit {0}
 IsCause (Rules error) = Unit {0}
 IsCause NoRing = Unit {0}
+IsCause (LongText bytes) = Unit {0}
 IsCause (Stitch error) = Unit {0}
 IsCause (Insert error) = Unit {0}
 IsCause (Memory error) = ⊥
@@ -154,7 +153,7 @@ IsCause (Memory error) = ⊥
 -- a cause behind the checks before a ring is sought
 data Late (n : Netlist) (wanted : Wanted) : ConfigureError → Type 0 where
   Ring : HasNoRing n wanted → Late n wanted NoRing
-  Plan : {error : StitchError} → IsPassed n wanted error → Late n wanted (Stitch error)
+  Plan : {error : ConfigureError} → IsPassed n wanted error → Late n wanted error
   Hardware : {error : InsertError} → IsUnfit n wanted error → Late n wanted (Insert error)
 
 early_is : (n : Netlist) (wanted : Wanted) (first error : ConfigureError) → early n wanted ≡ Some first → IsCause error → IsRefused n wanted error → first ≡ error
@@ -162,6 +161,8 @@ early_is n wanted first NoClock is cause refused = same_Some first NoClock (sym 
 early_is n wanted first (TooMany what most) is cause refused = same_Some first (TooMany what most) (sym is ∙ refused)
 early_is n wanted first (Rules error) is cause refused = same_Some first (Rules error) (sym is ∙ refused)
 early_is n wanted first NoRing is cause refused = absurd (none-some first (sym refused.0 ∙ is))
+early_is n wanted first (LongText bytes) is cause (inl refused) = same_Some first (LongText bytes) (sym is ∙ refused)
+early_is n wanted first (LongText bytes) is cause (inr refused) = absurd (none-some first (sym refused.0 ∙ is))
 early_is n wanted first (Stitch error) is cause refused = absurd (none-some first (sym refused.0 ∙ is))
 early_is n wanted first (Insert error) is cause refused = absurd (none-some first (sym refused.0 ∙ is))
 early_is n wanted first (Memory error) is cause refused = absurd cause
@@ -171,22 +172,24 @@ late_is n wanted NoClock is cause refused = absurd (none-some NoClock (sym is �
 late_is n wanted (TooMany what most) is cause refused = absurd (none-some (TooMany what most) (sym is ∙ refused))
 late_is n wanted (Rules error) is cause refused = absurd (none-some (Rules error) (sym is ∙ refused))
 late_is n wanted NoRing is cause refused = Ring refused.1
+late_is n wanted (LongText bytes) is cause (inl refused) = absurd (none-some (LongText bytes) (sym is ∙ refused))
+late_is n wanted (LongText bytes) is cause (inr refused) = Plan refused.1
 late_is n wanted (Stitch error) is cause refused = Plan refused.1
 late_is n wanted (Insert error) is cause refused = Hardware refused.1
 late_is n wanted (Memory error) is cause refused = absurd cause
 
-ok_or_err : (made : Made) (error : StitchError) → Ok made ≡ Err error → ⊥
+ok_or_err : (made : Made) (error : ConfigureError) → Ok made ≡ Err error → ⊥
 ok_or_err made error e = absurd cc
 
-abbrev error_or : StitchError → Result Made StitchError → StitchError
+abbrev error_or : ConfigureError → Result Made ConfigureError → ConfigureError
 error_or error (Ok made) = error
 error_or error (Err found) = found
 
-err_same : (a b : StitchError) → ◌≡◌ {A = Result Made StitchError} (Err a) (Err b) → a ≡ b
+err_same : (a b : ConfigureError) → ◌≡◌ {A = Result Made ConfigureError} (Err a) (Err b) → a ≡ b
 err_same a b e = ap (error_or a) e
 
 -- a plan that passes a limit, and a chosen configuration
-passed_or_chosen : (n : Netlist) (wanted : Wanted) (error : StitchError) (made : Made) → IsPassed n wanted error → IsChosen n wanted made → ⊥
+passed_or_chosen : (n : Netlist) (wanted : Wanted) (error : ConfigureError) (made : Made) → IsPassed n wanted error → IsChosen n wanted made → ⊥
 passed_or_chosen n wanted error made x y =
     let ring = ring_one (chain_count n wanted) wanted.channels x.ring made.ring x.is y.is.frame.ring in
     let other = subst (λ (r : RingConfig). Search n wanted (first_warm r.stages wanted.channels) (Ok made)) (sym ring) y.first in
@@ -200,7 +203,7 @@ late_one n wanted a b (Plan x) (Ring y) = absurd (no_ring (chain_count n wanted)
 late_one n wanted a b (Plan {error = r} x) (Plan {error = s} y) =
     let ring = ring_one (chain_count n wanted) wanted.channels x.ring y.ring x.is y.is in
     let other = subst (λ (k : RingConfig). Search n wanted (first_warm k.stages wanted.channels) (Err s)) (sym ring) y.search in
-    ap Stitch (err_same r s (search_one n wanted (first_warm x.ring.stages wanted.channels) (Err r) (Err s) x.search other))
+    err_same r s (search_one n wanted (first_warm x.ring.stages wanted.channels) (Err r) (Err s) x.search other)
 late_one n wanted a b (Plan {error = r} x) (Hardware y) = absurd (passed_or_chosen n wanted r y.made x y.chosen)
 late_one n wanted a b (Hardware x) (Ring y) = absurd (no_ring (chain_count n wanted) wanted.channels x.made.ring x.chosen.is.frame.ring y)
 late_one n wanted a b (Hardware x) (Plan {error = s} y) = absurd (passed_or_chosen n wanted s x.made y x.chosen)

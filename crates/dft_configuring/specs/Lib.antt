@@ -2,6 +2,7 @@ pub mod Wanted
 pub mod Rooted
 pub mod Names
 pub mod Made
+pub mod Long
 pub mod Searching
 pub mod Told
 pub mod Causes

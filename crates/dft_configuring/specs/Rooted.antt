@@ -7,7 +7,7 @@ use Rattle.dft_rules.specs.Refusals.{is_scanned}
 use Rattle.dft_rules.specs.Rules.{judgements}
 use Rattle.dft_stitch.specs.Chains.{longest_chain}
 use Rattle.dft_config_out.specs.declared.made.Made.{Made}
-use Rattle.dft_config_out.specs.Written.{config_of}
+use Rattle.dft_config_out.specs.Written.{config_of, made_text}
 use Rattle.dft_configure.specs.Compacting.{groups_of}
 use Rattle.dft_configure.specs.Roots.{domains_of, resets_of}
 use Rattle.dft_configuring.specs.declared.wanted.Wanted.{Wanted}
@@ -47,6 +47,10 @@ rooted n chains = config_of (rooted_made n chains)
 -- how many flip-flops are scanned with these clocks and resets
 unfoldable pub cell_count : Netlist → ℕ
 cell_count n = count_by is_scanned (judgements n (rooted n 1))
+
+-- the text of that configuration
+abbrev pub rooted_text : Netlist → (chains : ℕ) → Text
+rooted_text n chains = made_text (cell_count n) (rooted_made n chains)
 
 -- the chains, and the cells of the longest
 abbrev pub chain_count : Netlist → Wanted → ℕ

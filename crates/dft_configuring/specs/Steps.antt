@@ -7,7 +7,6 @@ use Rattle.dft_config_out.specs.declared.made.Made.{Made}
 use Rattle.dft_config_out.specs.Written.{config_of, made_text}
 use Rattle.dft_rules.specs.Refusals as rules
 use Rattle.dft_stitch.specs.Limits as limits
-use Rattle.dft_stitch.specs.declared.error.StitchError.{StitchError}
 use Rattle.dft_configure.specs.Found.{AreChosen}
 use Rattle.dft_configure.specs.Roots.{domains_of}
 use Rattle.dft_configuring.specs.declared.checking.Base.{Base}
@@ -46,10 +45,6 @@ pub record IsWritten (cells : ℕ) (made : Made) (written : Written) : Type 0 wh
 abbrev pub IsGoodWhere : Netlist → Config → (good : Bool) → Type 0
 IsGoodWhere n config true = IsGood n config
 IsGoodWhere n config false = IsBad n config
-
--- the limit that the plan passes under what is made, if it passes one
-unfoldable pub made_limit : Netlist → Made → Option StitchError
-made_limit n made = limits.refusal n (config_of made)
 
 -- what is made, tried: its text where its load equations are good
 abbrev pub IsTried : Netlist → (cells : ℕ) → Made → Option Written → Type 0

@@ -4,9 +4,9 @@ ghost use Rattle.std.specs.Prelude.{◌≡◌, ◌<◌, ◌≤◌, IfErr, IfOk, 
 ghost use Rattle.dft_rules.specs.Refusals.{refusal};
 ghost use Rattle.dft_configure.specs.Found.{AreChosen, numbers};
 ghost use Rattle.dft_configure.specs.Roots.{domains_of};
-ghost use Rattle.dft_configuring.specs.Causes.{IsCheck};
+ghost use Rattle.dft_configuring.specs.Causes.{IsCheck, IsLong};
 ghost use Rattle.dft_configuring.specs.Refusals as spec;
-ghost use Rattle.dft_configuring.specs.Rooted.{cell_count, rooted};
+ghost use Rattle.dft_configuring.specs.Rooted.{cell_count, rooted, rooted_text};
 ghost use Rattle.dft_configuring.specs.Steps.{IsBase};
 ghost use Rattle.dft_configuring.specs.Wanted.{IsWanted};
 ghost use Rattle.dft_configuring.specs.declared.error.ConfigureError.TheVariants.{Rules, TooMany};
@@ -103,16 +103,20 @@ fn write_rooted(
     alloc: Global,
     design: &Design,
     roots: &Roots,
+    cells: u32,
     chains: u16,
-) -> Result<Written, AllocError>
+) -> Result<Written, ConfigureError>
     requires roots { AreChosen design.now roots.now }
     requires some { 0 < length (domains_of design.now) }
+    requires cells { cells ≡ cell_count design.now }
     requires chains { (1 ≤ chains) × (chains ≤ 1024) }
-    ensures { IfOk result (λ written. written.config ≡ rooted design.now chains) }
+    ensures config { IfOk result (λ written. written.config ≡ rooted design.now chains) }
+    ensures short { IfOk result (λ made. length (rooted_text design.now chains) ≤ 67108864) }
+    ensures refused { IfErr result (IsLong (rooted_text design.now chains)) }
 {
     design.soundness();
     let made = rooted_made(alloc, design, roots, chains)?;
-    write_made(alloc, 0, &made)
+    write_made(alloc, cells, &made)
 }
 
 // The configuration with these clocks, resets and chains, as the scan rules ask for it.
@@ -120,14 +124,18 @@ fn rooted_config(
     alloc: Global,
     design: &Design,
     roots: &Roots,
+    cells: u32,
     chains: u16,
-) -> Result<Config, AllocError>
+) -> Result<Config, ConfigureError>
     requires roots { AreChosen design.now roots.now }
     requires some { 0 < length (domains_of design.now) }
+    requires cells { cells ≡ cell_count design.now }
     requires chains { (1 ≤ chains) × (chains ≤ 1024) }
-    ensures { IfOk result (λ config. config ≡ rooted design.now chains) }
+    ensures config { IfOk result (λ config. config ≡ rooted design.now chains) }
+    ensures short { IfOk result (λ made. length (rooted_text design.now chains) ≤ 67108864) }
+    ensures refused { IfErr result (IsLong (rooted_text design.now chains)) }
 {
-    let written = write_rooted(alloc, design, roots, chains)?;
+    let written = write_rooted(alloc, design, roots, cells, chains)?;
     Ok(written.into_config())
 }
 
@@ -140,20 +148,23 @@ fn ask_rules(alloc: Global, design: &Design, config: &Config) -> Result<(), Conf
     Ok(())
 }
 
-// Tests that the scan rules accept a design with its clocks and resets and so many chains.
+// Tests that the scan rules accept a design with its clocks and resets and so many chains, by a configuration that is not too long.
 fn check_rules(
     alloc: Global,
     design: &Design,
     roots: &Roots,
+    cells: u32,
     chains: u16,
 ) -> Result<(), ConfigureError>
     requires roots { AreChosen design.now roots.now }
     requires some { 0 < length (domains_of design.now) }
+    requires cells { cells ≡ cell_count design.now }
     requires chains { (1 ≤ chains) × (chains ≤ 1024) }
     ensures ok { OnOk result (refusal design.now (rooted design.now chains) ≡ None) }
-    ensures refused { IfErr result (IsCheck (option_map Rules (refusal design.now (rooted design.now chains)))) }
+    ensures none { OnOk result (spec.asked design.now chains ≡ None) }
+    ensures refused { IfErr result (IsCheck (spec.asked design.now chains)) }
 {
-    let config = rooted_config(alloc, design, roots, chains)?;
+    let config = rooted_config(alloc, design, roots, cells, chains)?;
     ask_rules(alloc, design, &config)
 }
 
@@ -181,7 +192,7 @@ pub(crate) fn base_of(
     check_clocks(&roots.domains)?;
     let cells = cells_of(alloc, design, &roots)?;
     let chains = check_chains(chains_for(wanted, cells))?;
-    check_rules(alloc, design, &roots, chains)?;
+    check_rules(alloc, design, &roots, cells, chains)?;
     check_outputs(chains, outputs_of(chains, wanted.channels, wanted.outputs))?;
     check_masks(chains, wanted.masks)?;
     Ok(Base {

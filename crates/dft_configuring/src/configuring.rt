@@ -96,10 +96,10 @@ fn chosen_for(alloc: Global, design: &Design, wanted: &Wanted) -> Result<Written
 /// Makes a configuration for a design. Its clocks and resets are those that most flip-flops can be scanned with; it has the chains
 /// that are wished, or as many as are needed; its ring is the first size that has phase sets for the chains; its warm cycles are the
 /// fewest with which any two scanned cells can be loaded with any bits; and its names are free. It is refused by the first of these
-/// that comes: there is no clock; there would be more than 1,024 chains; the scan rules refuse the design with these clocks, resets and
-/// chains; there would be more outputs than chains, or more masks; no size of ring has phase sets; the search for the warm cycles
-/// passes a limit of the plan; the hardware cannot be inserted. A text that is too long to be read as a configuration is as one for which there
-/// is no memory.
+/// that comes: there is no clock; there would be more than 1,024 chains; the plain configuration with these clocks, resets and chains
+/// is longer than a configuration file may be; the scan rules refuse the design with it; there would be more outputs than chains, or more
+/// masks; no size of ring has phase sets; a configuration to which the search for the warm cycles comes is longer than a configuration file
+/// may be, or passes a limit of the plan; the hardware cannot be inserted.
 pub fn configure(
     alloc: Global,
     design: &Design,

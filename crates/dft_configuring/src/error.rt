@@ -34,6 +34,9 @@ pub enum ConfigureError {
     /// No size of ring has phase sets for so many chains.
     #[error("no ring fits")]
     NoRing,
+    /// K6: the configuration would have this many bytes, which is more than a configuration file may have.
+    #[error("the configuration is too long")]
+    LongText { first: i64 },
     /// A limit of the plan is passed.
     #[error("no chains can be planned")]
     Stitch(StitchError),

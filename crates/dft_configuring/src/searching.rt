@@ -1,6 +1,6 @@
 //! The search for the warm cycles.
 
-ghost use Rattle.std.specs.Prelude.{◌≡◌, ◌≤◌, Err, IfErr, IfOk, None, Ok, OnOk, Some, pos};
+ghost use Rattle.std.specs.Prelude.{◌≡◌, ◌≤◌, Err, IfErr, IfOk, None, Ok, OnOk, Some, option_map, pos};
 ghost use Rattle.dft_rules.specs.Refusals as rules;
 ghost use Rattle.dft_stitch.specs.Limits as limits;
 ghost use Rattle.dft_stitch.specs.declared.error.Counted.TheVariants.{Cycles};
@@ -13,8 +13,8 @@ ghost use Rattle.dft_configuring.specs.Made.{IsFrame};
 ghost use Rattle.dft_configuring.specs.Refusals.{IsPassed};
 ghost use Rattle.dft_configuring.specs.Rooted.{cell_count};
 ghost use Rattle.dft_configuring.specs.Searching as spec;
-ghost use Rattle.dft_configuring.specs.Searching.{IsChosen};
-ghost use Rattle.dft_configuring.specs.Steps.{IsAccepted, IsGoodWhere, IsTried, IsWritten, made_limit};
+ghost use Rattle.dft_configuring.specs.Searching.{IsChosen, tried};
+ghost use Rattle.dft_configuring.specs.Steps.{IsAccepted, IsGoodWhere, IsTried, IsWritten};
 ghost use Rattle.dft_configuring.specs.Wanted.{IsWanted};
 ghost use Rattle.dft_configuring.specs.declared.error.ConfigureError.TheVariants.{Stitch};
 
@@ -36,7 +36,7 @@ fn are_good(alloc: Global, design: &Design, config: &Config) -> Result<bool, Con
     requires { rules.refusal design.now config.now ≡ None }
     ensures fits { IfOk result (λ good. limits.refusal design.now config.now ≡ None) }
     ensures good { IfOk result (IsGoodWhere design.now config.now) }
-    ensures refused { IfErr result (IsLimit (λ error. limits.refusal design.now config.now ≡ Some error)) }
+    ensures refused { IfErr result (IsLimit (λ error. option_map Stitch (limits.refusal design.now config.now) ≡ Some error)) }
 {
     let planned = Planned::prepare(alloc, design, config)?;
     let loads = Loads::prepare(alloc, planned)?;
@@ -47,7 +47,7 @@ fn are_good(alloc: Global, design: &Design, config: &Config) -> Result<bool, Con
     Ok(good)
 }
 
-// The text of what is made, where its load equations are good.
+// The text of what is made, where its load equations are good. It is refused where it is too long, and where its plan passes a limit.
 fn written_if_good(
     alloc: Global,
     design: &Design,
@@ -56,9 +56,10 @@ fn written_if_good(
 ) -> Result<Option<Written>, ConfigureError>
     requires writable { IsWritable made.now }
     requires passed { rules.refusal design.now (config_of made.now) ≡ None }
-    ensures fits { IfOk result (λ found. made_limit design.now made.now ≡ None) }
+    requires cells { cells ≡ cell_count design.now }
+    ensures fits { IfOk result (λ found. tried design.now made.now ≡ None) }
     ensures found { IfOk result (IsTried design.now cells made.now) }
-    ensures refused { IfErr result (IsLimit (λ error. made_limit design.now made.now ≡ Some error)) }
+    ensures refused { IfErr result (IsLimit (λ error. tried design.now made.now ≡ Some error)) }
 {
     let written = write_made(alloc, cells, made)?;
     let good = are_good(alloc, design, written.config())?;

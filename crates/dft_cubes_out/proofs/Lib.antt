@@ -1,4 +1,4 @@
 mod WordLemmas
-mod NameLemmas
+pub mod NameLemmas
 mod TakeLemmas
-mod ReadLemmas
+pub mod ReadLemmas

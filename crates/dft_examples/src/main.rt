@@ -1,5 +1,6 @@
 //! Runs each command line of the file `commands` on the files beside it, and prints the line that it puts, its exit status,
-//! what a person is told on standard error, and what it saved. The stored output holds what was worked out by hand; it promises nothing.
+//! what a person is told on standard error, and what it saved, but for a line that begins with `briefly`. The stored output holds what
+//! was worked out by hand; it promises nothing.
 #![tactic(auto)]
 
 use dft_program::told_run;
@@ -9,20 +10,27 @@ use std::{fs, io};
 fn main(rt: HostRuntime) -> io::Result<()> {
     let commands = fs::read_to_string(&rt, "commands")?;
     for line in commands.lines() {
-        println!(&rt; "$ dft {line}")?;
-        play(&rt, line)?;
+        match line.strip_prefix("briefly ") {
+            Some(line) => play(&rt, line, false)?,
+            None => play(&rt, line, true)?,
+        }
     }
     Ok(())
 }
 
-// Runs the words of a line, and shows what they saved.
-fn play<R: AllocGlobal + Print + std::rt::Files>(rt: &R, line: &str) -> io::Result<()> {
+// Runs the words of a line, and shows what they saved, where that is wanted.
+fn play<R: AllocGlobal + Print + std::rt::Files>(
+    rt: &R,
+    line: &str,
+    shows: bool,
+) -> io::Result<()> {
+    println!(rt; "$ dft {line}")?;
     let words = words_of(rt.alloc(), line)?;
     let (status, page) = told_run(rt, words.as_slice());
     println!(rt; "status {status}")?;
     let page = page?;
     print!(rt; "{}", str::from_utf8(page.as_slice()).unwrap_or("?"))?;
-    if status == 0 {
+    if shows && status == 0 {
         show_saved(rt, words.as_slice(), line.starts_with("scan "))?;
     }
     Ok(())

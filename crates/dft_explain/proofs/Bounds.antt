@@ -6,7 +6,7 @@ use Rattle.std.specs.Prelude.{◌==◌, take, Option, None, Some, option_and_the
 use Rattle.std.specs.Str.{bytes_eq}
 use Rattle.dft_explain.specs.Explained as spec
 use Rattle.dft_explain.specs.Explained.{page_of, told_line}
-use Rattle.dft_explain.specs.Options.{behind, behind_option, file_of, is_text, option_of, option_of_letter, or_else, or_empty, patterns_saved, report_saved, value_behind, value_of}
+use Rattle.dft_explain.specs.Options.{behind, behind_option, file_of, is_search, is_text, option_of, option_of_letter, or_else, or_empty, patterns_saved, report_saved, value_behind, value_of}
 use Rattle.dft_explain.specs.Told.{bytes_of, clear, shown}
 
 -- ---- lines
@@ -104,8 +104,9 @@ patterns_few words = value_few (codes "out-patterns") words
 report_few : (words : List (List ℕ)) → length (or_empty (report_saved words)) ≤ bytes_of words
 unfolding report_saved
 report_few words =
-    either_few (value_of (codes "out-report") words) (or_else (value_of (codes "report") words) (value_of (codes "out") words)) (bytes_of words) (value_few (codes "out-report") words)
-    (either_few (value_of (codes "report") words) (value_of (codes "out") words) (bytes_of words) (value_few (codes "report") words) (value_few (codes "out") words))
+    one_of (is_search words) None _ (bytes_of words) (omega arith)
+    (either_few (value_of (codes "out-report") words) (or_else (value_of (codes "report") words) (value_of (codes "out") words)) (bytes_of words) (value_few (codes "out-report") words)
+    (either_few (value_of (codes "report") words) (value_of (codes "out") words) (bytes_of words) (value_few (codes "report") words) (value_few (codes "out") words)))
 
 pub file_few : (code : List ℕ) (name : Option (List ℕ)) (words : List (List ℕ)) → length (or_empty (file_of code name words)) ≤ bytes_of words
 file_few code name words =

@@ -8,7 +8,7 @@ use Rattle.dft_explain.proofs.Bounds.{Short, behind_few, found_few, more_len, pa
 use Rattle.dft_explain.proofs.Ends.{each}
 use Rattle.dft_explain.specs.Explained.{page_of}
 use Rattle.dft_explain.specs.FaultLines.{any_form_line, command_line, count_of, fault_line, fault_lines, files_line, form_line, line_of, lines_of, lines_of_command, lines_of_form, lines_without_form, number_line, option_line, option_pieces, pair_line, pair_pieces, second_pieces}
-use Rattle.dft_explain.specs.Faults.{Fault, NoCommand, NoSuchCommand, Unexpected, NoOption, Twice, NoValue, EmptyValue, Missing, NotOne, NoNumber, OneFile, Form, Pair, Range, Text, by_value, certify_form, chains, channels, compile_form, configure_form, fault_of_both, fault_of_command, fault_of_first, fault_of_named, fault_of_number, fault_of_option, fault_of_options, fault_of_output, fault_of_right_options, fault_of_value, fault_where_none, first_fault, form_of, further_form, generate_form, grade_form, has, is_among, is_in, is_of_name, longest, masks, missing, name_in, named, names_with, no_number, not_one, one_file, or_else, outputs, replay_form, scan_form, seed, size, value_from, joined_in, wrong_option}
+use Rattle.dft_explain.specs.Faults.{Fault, NoCommand, NoSuchCommand, Unexpected, NoOption, Twice, NoValue, EmptyValue, Missing, NotOne, NoNumber, OneFile, Form, Pair, Range, Text, by_value, certify_form, chains, channels, compile_form, configure_form, fault_of_both, fault_of_command, fault_of_first, fault_of_named, fault_of_number, fault_of_option, fault_of_options, fault_of_output, fault_of_right_options, fault_of_value, fault_where_none, first_fault, form_of, further_form, generate_form, grade_form, has, is_among, is_in, is_of_name, limit, longest, masks, missing, name_in, named, names_with, no_number, not_one, one_file, or_else, outputs, replay_form, scan_form, seed, seek_form, size, value_from, joined_in, wrong_option}
 use Rattle.dft_explain.specs.Options.{behind, option_of, or_empty, value_of}
 use Rattle.dft_explain.specs.Told.{bytes_of, ends_of}
 
@@ -147,6 +147,10 @@ masks_short : IsFewRange masks
 unfolding masks
 masks_short = (omega arith, omega arith)
 
+limit_short : IsFewRange limit
+unfolding limit
+limit_short = (omega arith, omega arith)
+
 of_numbers : (ranges : List Range) (words : List Text) → AreFewRanges ranges → WithinAny (bytes_of words) (no_number ranges words)
 of_numbers [] words short = tt
 of_numbers (range ∷ ranges) words short =
@@ -220,14 +224,18 @@ configure_told : bytes_of (form_line configure_form) ≤ 300
 unfolding form_line option_pieces
 configure_told = omega arith
 
+seek_told : bytes_of (form_line seek_form) ≤ 300
+unfolding form_line option_pieces
+seek_told = omega arith
+
 abbrev AnyShort : Option Form → Type 0
 AnyShort None = Unit {0}
 AnyShort (Some form) = IsShort form
 
-further_by : (a b c : Bool) → AnyShort (if a then Some generate_form else (if b then Some grade_form else (if c then Some configure_form else None)))
-further_by true b c = record { name = omega arith; needed = (omega arith, (omega arith, tt)); pair = tt; numbers = (seed_short, (size_short, tt)); saved = tt; told = generate_told }
-further_by false true c = record { name = omega arith; needed = (omega arith, (omega arith, (omega arith, tt))); pair = tt; numbers = tt; saved = (omega arith, tt); told = grade_told }
-further_by false false true = record {
+further_by : (a b c d : Bool) → AnyShort (if a then Some generate_form else (if b then Some grade_form else (if c then Some configure_form else (if d then Some seek_form else None))))
+further_by true b c d = record { name = omega arith; needed = (omega arith, (omega arith, tt)); pair = tt; numbers = (seed_short, (size_short, tt)); saved = tt; told = generate_told }
+further_by false true c d = record { name = omega arith; needed = (omega arith, (omega arith, (omega arith, tt))); pair = tt; numbers = tt; saved = (omega arith, tt); told = grade_told }
+further_by false false true d = record {
   name = omega arith;
   needed = (omega arith, (omega arith, (omega arith, tt)));
   pair = (omega arith, omega arith);
@@ -235,7 +243,15 @@ further_by false false true = record {
   saved = (omega arith, tt);
   told = configure_told;
 }
-further_by false false false = tt
+further_by false false false true = record {
+  name = omega arith;
+  needed = (omega arith, (omega arith, (omega arith, (omega arith, (omega arith, (omega arith, tt))))));
+  pair = tt;
+  numbers = (limit_short, tt);
+  saved = (omega arith, (omega arith, tt));
+  told = seek_told;
+}
+further_by false false false false = tt
 
 short_by : (a b c d : Bool) (other : Option Form) → AnyShort other → AnyShort (if a then Some replay_form else (if b then Some scan_form else (if c then Some compile_form else (if d then Some certify_form else other))))
 short_by true b c d other short = record { name = omega arith; needed = (omega arith, (omega arith, tt)); pair = tt; numbers = tt; saved = tt; told = replay_told }
@@ -255,7 +271,7 @@ short_by false false false false other short = short
 short_of : (name : Text) → AnyShort (form_of name)
 short_of name =
     short_by (bytes_eq name (codes "replay")) (bytes_eq name (codes "scan")) (bytes_eq name (codes "compile")) (bytes_eq name (codes "certify")) (further_form name)
-    (further_by (bytes_eq name (codes "generate")) (bytes_eq name (codes "grade")) (bytes_eq name (codes "configure")))
+    (further_by (bytes_eq name (codes "generate")) (bytes_eq name (codes "grade")) (bytes_eq name (codes "configure")) (bytes_eq name (codes "seek")))
 
 of_options : (form : Form) (words : List Text) → IsShort form → WithinAny (bytes_of words) (fault_of_options form words)
 of_options form words short =

@@ -184,17 +184,22 @@ record Few (options : List (List ℕ)) : Type 0 where
   short : Short options
   three : length options ≤ 3
 
-few_by : (a b c d : Bool) → Few (if a then codes "out" ∷ codes "report" ∷ [] else (if b then codes "out-netlist" ∷ codes "out-patterns" ∷ codes "out-report" ∷ [] else (if c then codes "out" ∷ [] else (if d then codes "out" ∷ [] else []))))
-few_by true b c d = record { short = (omega arith, (omega arith, tt)); three = omega arith }
-few_by false true c d = record { short = (omega arith, (omega arith, (omega arith, tt))); three = omega arith }
-few_by false false true d = record { short = (omega arith, tt); three = omega arith }
-few_by false false false true = record { short = (omega arith, tt); three = omega arith }
-few_by false false false false = record { short = tt; three = omega arith }
+few_by : (a b c d e : Bool)
+    → Few (if a then codes "out" ∷ codes "report" ∷ []
+    else (if b then codes "out-netlist" ∷ codes "out-patterns" ∷ codes "out-report" ∷ []
+    else (if c then codes "out" ∷ [] else (if d then codes "out" ∷ [] else (if e then codes "out-cubes" ∷ codes "out-report" ∷ [] else [])))))
+few_by true b c d e = record { short = (omega arith, (omega arith, tt)); three = omega arith }
+few_by false true c d e = record { short = (omega arith, (omega arith, (omega arith, tt))); three = omega arith }
+few_by false false true d e = record { short = (omega arith, tt); three = omega arith }
+few_by false false false true e = record { short = (omega arith, tt); three = omega arith }
+few_by false false false false true = record { short = (omega arith, (omega arith, tt)); three = omega arith }
+few_by false false false false false = record { short = tt; three = omega arith }
 
 few_saved : (words : List (List ℕ)) → Few (saved words)
 unfolding saved_by
 few_saved [] = record { short = tt; three = omega arith }
 few_saved (command ∷ words) = few_by (bytes_eq command (codes "scan")) (bytes_eq command (codes "compile")) (bytes_eq command (codes "grade")) (bytes_eq command (codes "configure"))
+    (bytes_eq command (codes "seek"))
 
 files_by : (t : Bool) (files : List (List ℕ)) (n : ℕ) → bytes_of files ≤ n → bytes_of (if t then [] else files) ≤ n
 files_by true files n p = omega arith

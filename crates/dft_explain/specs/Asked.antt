@@ -4,13 +4,14 @@ use Rattle.std.specs.Str.{bytes_eq}
 use Rattle.dft_explain.specs.declared.asking.Request.{Request}
 use Rattle.dft_explain.specs.declared.asking.Request.TheVariants as request
 use Rattle.dft_explain.specs.declared.asking.Topic.{Topic}
-use Rattle.dft_explain.specs.declared.asking.Topic.TheVariants.{Replay, Scan, Compile, Certify, Generate, Grade, Configure}
+use Rattle.dft_explain.specs.declared.asking.Topic.TheVariants.{Replay, Scan, Compile, Certify, Generate, Grade, Configure, Seek}
 
 abbrev pub further_topic : List ℕ → Option Topic
 further_topic name =
     if bytes_eq name (codes "generate") then Some Generate
     else (if bytes_eq name (codes "grade") then Some Grade
-    else (if bytes_eq name (codes "configure") then Some Configure else None))
+    else (if bytes_eq name (codes "configure") then Some Configure
+    else (if bytes_eq name (codes "seek") then Some Seek else None)))
 
 -- the command of this name
 abbrev pub topic_of : List ℕ → Option Topic

@@ -50,10 +50,10 @@ any_form_line = codes "dft: usage: dft COMMAND ..; dft --help says more" ∷ []
 
 -- the options whose values are numbers
 abbrev pub counted : List Text
-counted = codes "seed" ∷ codes "size" ∷ codes "channels" ∷ codes "chains" ∷ codes "length" ∷ codes "outputs" ∷ codes "masks" ∷ []
+counted = codes "seed" ∷ codes "size" ∷ codes "channels" ∷ codes "chains" ∷ codes "length" ∷ codes "outputs" ∷ codes "masks" ∷ codes "limit" ∷ []
 
 abbrev pub kind_of : (option : Text) → Text
-kind_of option = if is_among option counted then codes " NUMBER" else codes " FILE"
+kind_of option = if is_among option counted then codes " NUMBER" else (if bytes_eq option (codes "clock") then codes " NAME" else codes " FILE")
 
 unfoldable pub option_pieces : (mark option : Text) → List Text
 option_pieces mark option = mark ∷ option ∷ kind_of option ∷ []

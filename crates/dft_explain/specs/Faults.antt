@@ -4,7 +4,7 @@ use Rattle.std.specs.Char.{is_ascii_digit}
 use Rattle.std.specs.List.{list_all, prefix_len}
 use Rattle.std.specs.Str.{bytes_eq}
 use Rattle.std.specs.Str.Parse.{digits_value}
-use Rattle.dft_explain.specs.Options.{behind, compile_saves, configure_saves, grade_saves, option_of, scan_saves, value_of}
+use Rattle.dft_explain.specs.Options.{behind, compile_saves, configure_saves, grade_saves, option_of, scan_saves, seek_saves, value_of}
 
 abbrev pub Text : Type 0
 Text = List ℕ
@@ -39,6 +39,9 @@ outputs = record { option = codes "outputs"; digits = 2; least = 1; most = 32; t
 
 unfoldable pub masks : Range
 masks = record { option = codes "masks"; digits = 2; least = 1; most = 32; text = codes "1 to 32" }
+
+unfoldable pub limit : Range
+limit = record { option = codes "limit"; digits = 7; least = 0; most = 1000000; text = codes "0 to 1000000" }
 
 -- two options of which a command needs just one
 pub record Pair : Type 0 where
@@ -111,11 +114,22 @@ configure_form = record {
   saved = configure_saves;
 }
 
+abbrev pub seek_form : Form
+seek_form = record {
+  name = codes "seek";
+  needed = codes "netlist" ∷ codes "config" ∷ codes "clock" ∷ codes "limit" ∷ codes "out-cubes" ∷ codes "out-report" ∷ [];
+  optional = codes "library" ∷ [];
+  pair = None;
+  numbers = limit ∷ [];
+  saved = seek_saves;
+}
+
 abbrev pub further_form : (name : Text) → Option Form
 further_form name =
     if bytes_eq name (codes "generate") then Some generate_form
     else (if bytes_eq name (codes "grade") then Some grade_form
-    else (if bytes_eq name (codes "configure") then Some configure_form else None))
+    else (if bytes_eq name (codes "configure") then Some configure_form
+    else (if bytes_eq name (codes "seek") then Some seek_form else None)))
 
 -- the command of this name
 abbrev pub form_of : (name : Text) → Option Form

@@ -50,9 +50,16 @@ option_of_letter (c ∷ cs) =
 unfoldable pub patterns_saved : (words : List (List ℕ)) → Option (List ℕ)
 patterns_saved words = value_of (codes "out-patterns") words
 
--- the report that is saved: of a compilation, of a scan, or of a grading
+abbrev pub is_search : (words : List (List ℕ)) → Bool
+is_search [] = false
+is_search (command ∷ words) = bytes_eq command (codes "seek")
+
+-- The report that is saved: of a compilation, of a scan, or of a grading. A search saves cubes beside it, and a number of bytes does not tell which
+-- of the two is too long.
 unfoldable pub report_saved : (words : List (List ℕ)) → Option (List ℕ)
-report_saved words = or_else (value_of (codes "out-report") words) (or_else (value_of (codes "report") words) (value_of (codes "out") words))
+report_saved words =
+    if is_search words then None
+    else or_else (value_of (codes "out-report") words) (or_else (value_of (codes "report") words) (value_of (codes "out") words))
 
 -- F1 names its option, P6 and K6 speak of a file that is saved, all others of the one that their letter says
 abbrev pub file_of : (code : List ℕ) → (name : Option (List ℕ)) → (words : List (List ℕ)) → Option (List ℕ)
@@ -68,7 +75,7 @@ file_of code name words =
 abbrev pub loaded : List (List ℕ)
 loaded = codes "library" ∷ codes "config" ∷ codes "netlist" ∷ codes "patterns" ∷ codes "cubes" ∷ codes "report" ∷ []
 
--- the options whose files a scan, a compilation, a grading and a made configuration save, in the order of saves
+-- the options whose files a scan, a compilation, a grading, a made configuration and a search save, in the order of saves
 abbrev pub scan_saves : List (List ℕ)
 scan_saves = codes "out" ∷ codes "report" ∷ []
 
@@ -81,13 +88,17 @@ grade_saves = codes "out" ∷ []
 abbrev pub configure_saves : List (List ℕ)
 configure_saves = codes "out" ∷ []
 
+abbrev pub seek_saves : List (List ℕ)
+seek_saves = codes "out-cubes" ∷ codes "out-report" ∷ []
+
 -- the options whose files a command saves
 unfoldable pub saved_by : (command : List ℕ) → List (List ℕ)
 saved_by command =
     if bytes_eq command (codes "scan") then scan_saves
     else (if bytes_eq command (codes "compile") then compile_saves
     else (if bytes_eq command (codes "grade") then grade_saves
-    else (if bytes_eq command (codes "configure") then configure_saves else [])))
+    else (if bytes_eq command (codes "configure") then configure_saves
+    else (if bytes_eq command (codes "seek") then seek_saves else []))))
 
 abbrev pub saved : (words : List (List ℕ)) → List (List ℕ)
 saved [] = []

@@ -13,6 +13,7 @@ pub enum Topic {
     Generate,
     Grade,
     Configure,
+    Seek,
 }
 
 /// What words ask for in place of a command's work.
@@ -86,6 +87,8 @@ fn further_topic(name: &str) -> Option<Topic>
         Some(Topic::Grade)
     } else if name == "configure" {
         Some(Topic::Configure)
+    } else if name == "seek" {
+        Some(Topic::Seek)
     } else {
         None
     }

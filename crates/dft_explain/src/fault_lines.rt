@@ -250,8 +250,8 @@ fn push_one(
 }
 
 // The options whose values are numbers.
-static COUNTED: [&str; 7] = [
-    "seed", "size", "channels", "chains", "length", "outputs", "masks",
+static COUNTED: [&str; 8] = [
+    "seed", "size", "channels", "chains", "length", "outputs", "masks", "limit",
 ];
 
 // What an option's value is.
@@ -260,6 +260,8 @@ fn kind_of(option: &str) -> &'static str
 {
     if is_among(option.as_bytes(), &COUNTED) {
         " NUMBER"
+    } else if option == "clock" {
+        " NAME"
     } else {
         " FILE"
     }

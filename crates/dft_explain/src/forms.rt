@@ -5,7 +5,9 @@ ghost use Rattle.dft_explain.specs.Faults as spec;
 ghost use Rattle.dft_explain.specs.CodeFaults.{form_seen};
 
 use crate::fault::{Pair, Range};
-use crate::options::{COMPILE_SAVES, CONFIGURE_SAVES, GRADE_SAVES, NOTHING, SCAN_SAVES};
+use crate::options::{
+    COMPILE_SAVES, CONFIGURE_SAVES, GRADE_SAVES, NOTHING, SCAN_SAVES, SEEK_SAVES,
+};
 
 // A command: the options that it needs, those that may be left out, the pair of which it needs just one, those whose values are
 // numbers, and those whose files it saves.
@@ -41,6 +43,15 @@ static GRADE: [&str; 3] = ["netlist", "patterns", "out"];
 static CONFIGURE: [&str; 3] = ["netlist", "channels", "out"];
 
 static SIZES: [&str; 5] = ["chains", "length", "outputs", "masks", "library"];
+
+static SEEK: [&str; 6] = [
+    "netlist",
+    "config",
+    "clock",
+    "limit",
+    "out-cubes",
+    "out-report",
+];
 
 static LIBRARY: [&str; 1] = ["library"];
 
@@ -101,6 +112,14 @@ static HARDWARE_NUMBERS: [Range; 5] = [
     },
 ];
 
+static SEARCH_NUMBERS: [Range; 1] = [Range {
+    option: "limit",
+    digits: 7,
+    least: 0,
+    most: 1_000_000,
+    text: "0 to 1000000",
+}];
+
 impl Form {
     // The command of this name.
     pub(crate) fn named(name: &str) -> Option<Form>
@@ -129,6 +148,8 @@ impl Form {
             Some(Form::new("grade", &GRADE, &LIBRARY, &GRADE_SAVES))
         } else if name == "configure" {
             Some(Form::configure())
+        } else if name == "seek" {
+            Some(Form::seek())
         } else {
             None
         }
@@ -162,6 +183,20 @@ impl Form {
             }),
             numbers: &HARDWARE_NUMBERS,
             saved: &CONFIGURE_SAVES,
+        }
+    }
+
+    #[tactic(auto, unfolding(crate::specs::Faults::limit))]
+    fn seek() -> Form
+        ensures { form_seen result ≡ spec.seek_form }
+    {
+        Form {
+            name: "seek",
+            needed: &SEEK,
+            optional: &LIBRARY,
+            pair: None,
+            numbers: &SEARCH_NUMBERS,
+            saved: &SEEK_SAVES,
         }
     }
 

@@ -12,6 +12,7 @@ dft compile   inserts chains behind compression hardware, and makes patterns of 
 dft certify   tests what a report gives for its unsolvable cubes
 dft generate  makes a job from a seed, compiles it, and replays what it compiled
 dft grade     tells which single stuck-at faults of a netlist patterns find
+dft seek      makes test cubes for stuck-at faults, and tells which faults no cube detects
 dft configure makes a configuration: compression hardware for so many chains and channels
 
 dft COMMAND --help tells its options, what it prints, and an example.
@@ -111,6 +112,24 @@ status 0 saved, 1 not passed, 2 wrong words, 3 refused, 4 not loaded, 5 not save
 dft grade --netlist scanned.v --patterns patterns.stil --out faults.report
 ";
 
+const SEEK: &str = "\
+usage: dft seek --netlist FILE --config FILE --clock NAME --limit N --out-cubes FILE --out-report FILE [--library FILE]
+
+--netlist FILE     the netlist, structural Verilog
+--config FILE      the configuration, TOML
+--clock NAME       the domain of it that captures once
+--limit N          how many dead ends a search may meet for one fault, 0 to 1000000
+--out-cubes FILE   where the cubes go: dft compile takes them
+--out-report FILE  where each fault is told, with its cube or why it has none
+--library FILE     the cells of the netlist, TOML; without it the standard cells
+
+prints
+  seek faults F cubes C not-testable N aborted A
+status 0 saved, 2 wrong words, 3 refused, 4 not loaded, 5 not saved or printed, 6 no memory
+
+dft seek --netlist core.v --config core.toml --clock clk --limit 100 --out-cubes core.cubes --out-report core.faults
+";
+
 const CONFIGURE: &str = "\
 usage: dft configure --netlist FILE --channels B --chains C|--length L --out FILE [--outputs O] [--masks M] [--library FILE]
 
@@ -146,6 +165,7 @@ pub fn help(request: Request) -> &'static str
         Request::HelpOf(Topic::Generate) => GENERATE,
         Request::HelpOf(Topic::Grade) => GRADE,
         Request::HelpOf(Topic::Configure) => CONFIGURE,
+        Request::HelpOf(Topic::Seek) => SEEK,
         Request::Version => VERSION,
     }
 }

@@ -10,7 +10,7 @@ pub(crate) static LOADED: [&str; 6] = [
     "library", "config", "netlist", "patterns", "cubes", "report",
 ];
 
-// The options whose files a scan, a compilation, a grading and a made configuration save, in the order of saves.
+// The options whose files a scan, a compilation, a grading, a made configuration and a search save, in the order of saves.
 pub(crate) static SCAN_SAVES: [&str; 2] = ["out", "report"];
 
 pub(crate) static COMPILE_SAVES: [&str; 3] = ["out-netlist", "out-patterns", "out-report"];
@@ -18,6 +18,8 @@ pub(crate) static COMPILE_SAVES: [&str; 3] = ["out-netlist", "out-patterns", "ou
 pub(crate) static GRADE_SAVES: [&str; 1] = ["out"];
 
 pub(crate) static CONFIGURE_SAVES: [&str; 1] = ["out"];
+
+pub(crate) static SEEK_SAVES: [&str; 2] = ["out-cubes", "out-report"];
 
 pub(crate) static NOTHING: [&str; 0] = [];
 
@@ -106,11 +108,24 @@ fn patterns_saved<'a>(words: &'a [String]) -> Option<&'a [u8]>
     value_of(b"out-patterns".as_slice(), words)
 }
 
+// Whether the words are those of a search.
+fn is_search(words: &[String]) -> bool
+    ensures { result ≡ spec.is_search (map string_bytes words.now) }
+{
+    match words {
+        [command, ..] => command.as_str() == "seek",
+        [] => false,
+    }
+}
+
 #[tactic(auto, unfolding(crate::specs::Options::report_saved))]
-// The report that is saved: of a compilation, of a scan, or of a grading.
+// The report that is saved: of a compilation, of a scan, or of a grading. Of a search it is not known whether it is meant.
 fn report_saved<'a>(words: &'a [String]) -> Option<&'a [u8]>
     ensures { option_map (λ file. file.now) result ≡ spec.report_saved (map string_bytes words.entry.now) }
 {
+    if is_search(words) {
+        return None;
+    }
     if let Some(file) = value_of(b"out-report".as_slice(), words) {
         return Some(file);
     }
@@ -121,7 +136,7 @@ fn report_saved<'a>(words: &'a [String]) -> Option<&'a [u8]>
 }
 
 /// The file that a refusal speaks of, by its code and its name: that of the option which F1 names, the file to be saved at P6
-/// and K6, and else that of the option which the code's letter says.
+/// and K6 (none at K6 of a search, which saves two), and else that of the option which the code's letter says.
 pub fn file_of<'a>(code: &[u8], name: Option<&[u8]>, words: &'a [String]) -> Option<&'a [u8]>
     ensures { option_map (λ file. file.now) result ≡ spec.file_of code.now (option_map (λ name. name.now) name.entry) (map string_bytes words.entry.now) }
 {
@@ -146,6 +161,7 @@ pub(crate) fn saved(words: &[String]) -> &'static [&'static str]
         [command, ..] if command.as_str() == "compile" => &COMPILE_SAVES,
         [command, ..] if command.as_str() == "grade" => &GRADE_SAVES,
         [command, ..] if command.as_str() == "configure" => &CONFIGURE_SAVES,
+        [command, ..] if command.as_str() == "seek" => &SEEK_SAVES,
         _ => &NOTHING,
     }
 }

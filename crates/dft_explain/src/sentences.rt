@@ -206,7 +206,7 @@ static OF_TEXTS: [Said; 38] = [
 ];
 
 // Of configurations, designs, cubes and reports.
-static OF_DESIGNS: [Said; 33] = [
+static OF_DESIGNS: [Said; 34] = [
     Said {
         code: "C1",
         sentence: "the bytes are no TOML text",
@@ -269,7 +269,7 @@ static OF_DESIGNS: [Said; 33] = [
     },
     Said {
         code: "N4 of a plan",
-        sentence: "more than 65,536 cells, 4,096 cycles of a load or 16,384 variables of its channels",
+        sentence: "more than 65,536 cells, 4,096 cycles of a load, 16,384 variables of its channels or 65,536 sought cubes",
         advice: "more chains shorten a load; fewer channels or cycles have fewer variables",
     },
     Said {
@@ -284,8 +284,13 @@ static OF_DESIGNS: [Said; 33] = [
     },
     Said {
         code: "K6",
-        sentence: "the report would be longer than a file may be",
-        advice: "cut the design; of a compilation, fewer cubes at a time",
+        sentence: "the report, the cube file of a search, or a made configuration would be longer than a file may be",
+        advice: "cut the design; of a compilation, fewer cubes at a time; of a made configuration, shorter names of clock and reset ports",
+    },
+    Said {
+        code: "X1",
+        sentence: "the clock is no domain of the configuration",
+        advice: "name one of its domains",
     },
     Said {
         code: "X2",

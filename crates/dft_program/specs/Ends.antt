@@ -3,7 +3,7 @@ use Rattle.std.specs.Prelude.{ℕ, ◌≡◌, List}
 use Rattle.dft_answers.specs.declared.answer.Answer.{Answer}
 use Rattle.dft_answers.specs.declared.answer.Status.{Status}
 use Rattle.dft_answers.specs.declared.answer.Status.TheVariants.{Done, NotPassed, Usage, Refused, ReadFault, WriteFault, OutOfMemory}
-use Rattle.dft_top.specs.Run.{CertifiesTold, CompilesTold, CompletesTold, ConfiguresTold, Ends, FailsTold, GeneratesJob, GradesTold, KeepsFiles, PassesTold, ScansTold, Seen, UngradedTold}
+use Rattle.dft_top.specs.Run.{CertifiesTold, CompilesTold, CompletesTold, ConfiguresTold, Ends, FailsTold, GeneratesJob, GradesTold, KeepsFiles, PassesTold, ScansTold, Seen, SeeksTold, UngradedTold}
 
 -- the exit status of each status
 abbrev pub status_number : Status → ℕ
@@ -29,5 +29,6 @@ pub record IsStatusOfRun (words : List (List ℕ)) (before after : Seen) (status
   pub grades : GradesTold words before.held after.held answer
   pub ungraded : UngradedTold words before.held answer
   pub configures : ConfiguresTold words before.held after.held answer
+  pub seeks : SeeksTold words before.held after.held answer
   pub generates : GeneratesJob words before.put_faults after.put_faults answer
   pub completes : CompletesTold words before after answer

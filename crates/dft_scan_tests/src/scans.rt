@@ -354,7 +354,7 @@ fn faults_leave_whole_files_and_a_prefix(rt: HostRuntime) -> Result<(), Fail> {
 }
 
 const USAGE: &str =
-    "usage: dft replay, scan, compile, certify, generate, grade or configure, each option once as --name value\n";
+    "usage: dft replay, scan, compile, certify, generate, grade, seek or configure, each option once as --name value\n";
 
 // Words, and what is printed. The library's flip-flop names no scan cell.
 static WORDS: [(&str, Status, &str); 8] = [

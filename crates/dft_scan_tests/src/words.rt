@@ -8,7 +8,7 @@ use std::alloc::Global;
 use std::test::Fail;
 
 const USAGE: &str =
-    "usage: dft replay, scan, compile, certify, generate, grade or configure, each option once as --name value\n";
+    "usage: dft replay, scan, compile, certify, generate, grade, seek or configure, each option once as --name value\n";
 
 // Words that are no command, with an empty word between two blanks.
 static NONE: [&str; 20] = [

@@ -3,3 +3,4 @@ pub mod Written
 pub mod Refusals
 pub mod Gathers
 pub mod Laws
+pub mod Expected

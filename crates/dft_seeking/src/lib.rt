@@ -12,6 +12,6 @@ mod seeking;
 
 pub use counting::SeekCounts;
 pub use error::SeekError;
-pub use laws::{told_is_one, told_is_true};
+pub use laws::{expected_is_captured, saved_cubes_are_read, told_is_one, told_is_true};
 pub use limits::MAX_TEXT;
 pub use seeking::{Sought, seek};

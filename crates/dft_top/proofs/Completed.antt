@@ -5,14 +5,14 @@ use Rattle.dft_netlist.specs.Netlist.{Netlist}
 use Rattle.dft_patterns.specs.Patterns.{Patterns}
 use Rattle.dft_replay.specs.declared.verdict.Verdict.{Verdict}
 use Rattle.dft_replay.specs.declared.verdict.Verdict.TheVariants as verdict
-use Rattle.dft_command_line.specs.Words.{AreFor, Certify, CertifyFiles, Command, Compile, CompileFiles, Configure, ConfigureFiles, Generate, Grade, GradeFiles, Replay, ReplayFiles, Scan, ScanFiles}
+use Rattle.dft_command_line.specs.Words.{AreFor, Certify, CertifyFiles, Command, Compile, CompileFiles, Configure, ConfigureFiles, Generate, Grade, GradeFiles, Replay, ReplayFiles, Scan, ScanFiles, Seek, SeekFiles}
 use Rattle.dft_command_line.proofs.Understood.{for_once}
 use Rattle.dft_answers.specs.declared.answer.Answer.{Answer}
 use Rattle.dft_answers.specs.declared.answer.Status.TheVariants.{Done, OutOfMemory}
 use Rattle.dft_answers.specs.declared.outcome.Outcome.{Outcome}
 use Rattle.dft_answers.specs.declared.outcome.Outcome.TheVariants as outcome
 use Rattle.dft_answers.specs.declared.outcome.Replayed.TheVariants.{Passed, Mismatch, Undetermined}
-use Rattle.dft_answers.specs.declared.outcome.Work.TheVariants.{Replayed, Scanned, Compiled, Certified, Configured}
+use Rattle.dft_answers.specs.declared.outcome.Work.TheVariants.{Replayed, Scanned, Compiled, Certified, Configured, Sought}
 use Rattle.dft_answers.specs.Answers.{status_of}
 use Rattle.dft_top.specs.Courses.{IsPassing, Reaches}
 use Rattle.dft_top.specs.Outcomes.{IsOutcomeFor, IsOutcomeOfVerdict, course_of, course_of_grade, course_of_replay, outcome_of, signal_name}
@@ -69,6 +69,11 @@ configure_done files (outcome.Refused refusal) suits accepts = absurd (accepts r
 configure_done files (outcome.Finished (Configured counts text)) suits accepts = refl
 configure_done files o suits accepts = absurd suits
 
+seek_done : (files : SeekFiles) (o : Outcome) → IsOf (Seek files) o → IsAccepted o → status_of o ≡ Done
+seek_done files (outcome.Refused refusal) suits accepts = absurd (accepts refusal refl)
+seek_done files (outcome.Finished (Sought counts cubes report)) suits accepts = refl
+seek_done files o suits accepts = absurd suits
+
 answered : JobsPass → (command : Command) (held : Held) (o : Outcome) → Suits (Some command) o → IsAccepted o → IsOutcomeFor (Some command) held o → IsAnswered command held (status_of o)
 answered pass (Replay files) held o suits accepts is = replay_answered files held o suits accepts is
 answered pass (Scan files) held o suits accepts is = scan_done files o suits accepts
@@ -77,6 +82,7 @@ answered pass (Certify files) held o suits accepts is = certify_done files o sui
 answered pass (Generate numbers) held o suits accepts is = pass numbers o accepts is
 answered pass (Grade files) held o suits accepts is = grade_answered files held o accepts is
 answered pass (Configure files) held o suits accepts is = configure_done files o suits accepts
+answered pass (Seek files) held o suits accepts is = seek_done files o suits accepts
 
 -- ---- of a run
 
@@ -121,6 +127,8 @@ said_for (Some (Grade files)) None Q follows = tt
 said_for (Some (Grade files)) (Some held) Q follows = follows held (λ o is. is)
 said_for (Some (Configure files)) None Q follows = tt
 said_for (Some (Configure files)) (Some held) Q follows = follows held (λ o is. is)
+said_for (Some (Seek files)) None Q follows = tt
+said_for (Some (Seek files)) (Some held) Q follows = follows held (λ o is. is)
 said_for (Some (Generate numbers)) told Q follows = λ held. follows held (λ o is. is held)
 
 pub completes_for : JobsPass → (words : List (List ℕ)) (command : Option Command) (before after : Seen) (answer : Answer) → AreFor words command → EndsFor command before after answer → CompletesTold words before after answer

@@ -4,7 +4,7 @@ use Rattle.dft_netlist.specs.Netlist.{Netlist}
 use Rattle.dft_configuring.specs.declared.configuring.Configured.{Configured}
 use Rattle.dft_configuring.specs.declared.counting.MadeCounts.{MadeCounts}
 use Rattle.dft_configuring.specs.declared.error.ConfigureError.{ConfigureError}
-use Rattle.dft_configuring.specs.declared.error.ConfigureError.TheVariants.{NoClock, TooMany, Rules, NoRing, Stitch, Insert, Memory}
+use Rattle.dft_configuring.specs.declared.error.ConfigureError.TheVariants.{NoClock, TooMany, Rules, NoRing, LongText, Stitch, Insert, Memory}
 use Rattle.dft_configuring.specs.declared.wanted.Wanted.{Wanted}
 use Rattle.dft_configuring.specs.Configured.{IsConfigured}
 use Rattle.dft_configuring.proofs.OneLemmas.{IsCause, configured_one, not_refused, refused_one}
@@ -21,6 +21,7 @@ cause_of NoClock o is = tt
 cause_of (TooMany what most) o is = tt
 cause_of (Rules error) o is = tt
 cause_of NoRing o is = tt
+cause_of (LongText bytes) o is = tt
 cause_of (Stitch error) o is = tt
 cause_of (Insert error) o is = tt
 cause_of (Memory error) o is = is

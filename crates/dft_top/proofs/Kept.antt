@@ -1,11 +1,11 @@
 -- Where there is nothing to save, no file is changed.
 use Rattle.std.proofs.Common.{ℕ, ◌≡◌, ◌⊎◌, ◌∙◌, inl, inr, List, [], ◌∷◌, ◌++◌, refl, sym, subst, Option, Some}
 use Rattle.dft_files.specs.Outside.{Held}
-use Rattle.dft_command_line.specs.Words.{Command, Scan, Compile, Grade, Configure, AreFor}
+use Rattle.dft_command_line.specs.Words.{Command, Scan, Compile, Grade, Configure, Seek, AreFor}
 use Rattle.dft_answers.specs.declared.answer.Answer.{Answer}
 use Rattle.dft_answers.specs.declared.outcome.Outcome.{Outcome}
 use Rattle.dft_answers.specs.declared.outcome.Outcome.TheVariants.{Finished}
-use Rattle.dft_answers.specs.declared.outcome.Work.TheVariants.{Scanned, Compiled, Graded, Configured}
+use Rattle.dft_answers.specs.declared.outcome.Work.TheVariants.{Scanned, Compiled, Graded, Configured, Sought}
 use Rattle.dft_answers.specs.Answers.{status_of}
 use Rattle.dft_top.specs.Run.{AreSaving, EndsFor, IsDelivered, IsQuiet, KeepsFiles, Seen}
 use Rattle.dft_top.specs.Saves.{CountsSaves, HaveSaved, Saving, savings}
@@ -36,6 +36,7 @@ quiet_saves (Some (Scan files)) (Finished (Scanned counts netlist report)) quiet
 quiet_saves (Some (Compile files)) (Finished (Compiled counts netlist patterns report)) quiet = absurd quiet
 quiet_saves (Some (Grade files)) (Finished (Graded faults detected undetected report)) quiet = absurd quiet
 quiet_saves (Some (Configure files)) (Finished (Configured counts text)) quiet = absurd quiet
+quiet_saves (Some (Seek files)) (Finished (Sought counts cubes report)) quiet = absurd quiet
 quiet_saves command o quiet = refl
 
 quiet_of : (a b : Answer) → a ≡ b → IsQuiet a.status → IsQuiet b.status
@@ -52,7 +53,8 @@ other_saves : (words : List (List ℕ)) (command : Option Command) (o : Outcome)
 other_saves words (Some (Scan files)) o are none = absurd (none (inl (files, are)))
 other_saves words (Some (Compile files)) o are none = absurd (none (inr (inl (files, are))))
 other_saves words (Some (Grade files)) o are none = absurd (none (inr (inr (inl (files, are)))))
-other_saves words (Some (Configure files)) o are none = absurd (none (inr (inr (inr (files, are)))))
+other_saves words (Some (Configure files)) o are none = absurd (none (inr (inr (inr (inl (files, are))))))
+other_saves words (Some (Seek files)) o are none = absurd (none (inr (inr (inr (inr (files, are))))))
 other_saves words command o are none = refl
 
 saves_none : (words : List (List ℕ)) (command : Option Command) (o : Outcome) (before after : Seen) (answer : Answer) → AreFor words command → IsDelivered command o before after answer →

@@ -7,12 +7,14 @@ pub mod CompiledOnce
 pub mod CompileLemmas
 pub mod CertifyLemmas
 pub mod Configurings
+pub mod Seekings
 pub mod Sized
 pub mod Determined
 pub mod JobLemmas
 pub mod OneOutcome
 pub mod PassingFiles
 pub mod Promised
+pub mod SeekPromised
 pub mod ScannedDesigns
 pub mod Kept
 pub mod Replays

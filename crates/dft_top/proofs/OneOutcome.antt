@@ -12,7 +12,7 @@ use Rattle.dft_replay.specs.Fits.{first_misfit}
 use Rattle.dft_replay.proofs.Uniqueness.{verdict_one}
 use Rattle.dft_scan.specs.declared.error.ScanError.{ScanError}
 use Rattle.dft_scan.specs.Refusals.{refusal}
-use Rattle.dft_command_line.specs.Words.{Command, Replay, Scan, Compile, Certify, Generate, Grade, Configure, ReplayFiles, ScanFiles, CompileFiles, CertifyFiles, GradeFiles, ConfigureFiles, JobNumbers}
+use Rattle.dft_command_line.specs.Words.{Command, Replay, Scan, Compile, Certify, Generate, Grade, Configure, Seek, ReplayFiles, ScanFiles, CompileFiles, CertifyFiles, GradeFiles, ConfigureFiles, SeekFiles, JobNumbers}
 use Rattle.dft_command_line.proofs.Understood.{for_once}
 use Rattle.dft_answers.specs.declared.answer.Refusal.{Refusal}
 use Rattle.dft_answers.specs.declared.outcome.Outcome.{Outcome}
@@ -21,7 +21,7 @@ use Rattle.dft_answers.specs.declared.outcome.Work.TheVariants.{Compiled}
 use Rattle.dft_top.specs.declared.limits.TheConstants.{MAX_CONFIG_BYTES, MAX_CUBE_BYTES, MAX_NETLIST_BYTES, MAX_PATTERN_BYTES, MAX_REPORT_BYTES}
 use Rattle.dft_answers.specs.Refusals.{scan_refusal}
 use Rattle.dft_top.specs.Checks.{ConfigGives, ConfigText, CubeText, CubesGive, NetlistGives, NetlistText, PatternText, ReportText}
-use Rattle.dft_top.specs.Outcomes.{IsOutcomeFor, IsOutcomeOfJob, IsOutcomeOfScanOf, IsOutcomeOn, IsReplayedOf, course_of, course_of_certify, course_of_compile, course_of_configure, course_of_grade, course_of_replay, course_of_scan, generated, job_files, job_held, made_files, made_held, outcome_of, wanted_of}
+use Rattle.dft_top.specs.Outcomes.{IsOutcomeFor, IsOutcomeOfJob, IsOutcomeOfScanOf, IsOutcomeOn, IsReplayedOf, course_of, course_of_certify, course_of_compile, course_of_configure, course_of_grade, course_of_replay, course_of_scan, course_of_seek, generated, job_files, job_held, made_files, made_held, outcome_of, wanted_of}
 use Rattle.dft_top.specs.Laws.{OutcomeIsOne}
 use Rattle.dft_top.proofs.CompileLemmas.{cubes_one}
 use Rattle.dft_top.proofs.Readings.{config_text_one, cube_text_one, design_gives_one, file_one, library_gives_one, netlist_text_one, pattern_text_one, plan_gives_one, report_text_one, text_of}
@@ -29,6 +29,8 @@ use Rattle.dft_top.proofs.CertifyLemmas.{report_one, refusal_one}
 use Rattle.dft_top.proofs.Determined.{IsDetermined, reaches_one}
 use Rattle.dft_top.proofs.Gradings.{grading_one}
 use Rattle.dft_top.proofs.Configurings.{configuring_one}
+use Rattle.dft_top.proofs.Seekings.{seeking_one}
+use Rattle.dft_cubes.specs.Cubes.{domain_named}
 
 -- ---- a replay
 
@@ -136,6 +138,23 @@ certify_determined files held = (
   ),
 )
 
+-- ---- a search of cubes
+
+seek_determined : (files : SeekFiles) (held : Held) → IsDetermined (course_of_seek files) held
+seek_determined files held = (
+  library_gives_one files.library held,
+  λ cells _. (
+    config_one files.config held,
+    λ c _. (
+      netlist_one cells files.netlist held,
+      λ n given. (
+        plan_gives_one n c,
+        λ plan _ a b x y. let ranked = ordered_of cells files.netlist held n given in seeking_one n c files.clock files.limit (domain_named c files.clock) ranked.0 a b ranked.1 x y,
+      ),
+    ),
+  ),
+)
+
 -- ---- a generated job
 
 replayed_one : (compilation a b : Outcome) → IsReplayedOf compilation a → IsReplayedOf compilation b → a ≡ b
@@ -161,6 +180,7 @@ determined (Some (Certify files)) held = certify_determined files held
 determined (Some (Generate numbers)) held = λ a b x y. job_one numbers a b x y
 determined (Some (Grade files)) held = grade_determined files held
 determined (Some (Configure files)) held = configure_determined files held
+determined (Some (Seek files)) held = seek_determined files held
 
 pub outcome_one : OutcomeIsOne
 outcome_one words held a b x y =

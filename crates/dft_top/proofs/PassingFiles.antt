@@ -1,5 +1,5 @@
 -- Files that pass all checks are never refused.
-use Rattle.std.proofs.Common.{◌≡◌, inl, inr, List, codes, Option, None, Some, Ok, subst}
+use Rattle.std.proofs.Common.{ℕ, ◌≡◌, inl, inr, List, codes, Option, None, Some, Ok, subst}
 use Rattle.dft_files.specs.Outside.{Held, file_at}
 use Rattle.dft_cells.specs.declared.cell.Cell.{Cell}
 use Rattle.dft_config.specs.Config.{Config}
@@ -22,7 +22,7 @@ use Rattle.dft_vectors.specs.PatternData.{PatternData}
 use Rattle.dft_encode.specs.Compiled.{ArePatterns, Placing}
 use Rattle.dft_stitch.specs.Planning.{Planned}
 use Rattle.dft_compile.specs.Refusals.{first_refusal}
-use Rattle.dft_command_line.specs.Words.{Command, Replay, Scan, Compile, Certify, Grade, Configure, ReplayFiles, ScanFiles, CompileFiles, CertifyFiles, GradeFiles}
+use Rattle.dft_command_line.specs.Words.{Command, Replay, Scan, Compile, Certify, Grade, Configure, Seek, ReplayFiles, ScanFiles, CompileFiles, CertifyFiles, GradeFiles}
 use Rattle.dft_command_line.proofs.Understood.{for_once}
 use Rattle.dft_answers.specs.declared.outcome.Outcome.{Outcome}
 use Rattle.dft_answers.specs.declared.outcome.Outcome.TheVariants.{Finished}
@@ -30,15 +30,18 @@ use Rattle.dft_answers.specs.declared.outcome.Work.TheVariants.{Scanned}
 use Rattle.dft_top.specs.declared.limits.TheConstants.{MAX_CONFIG_BYTES, MAX_CUBE_BYTES, MAX_NETLIST_BYTES, MAX_PATTERN_BYTES, MAX_REPORT_BYTES}
 use Rattle.dft_top.specs.Checks.{ConfigGives, ConfigText, CubeText, CubesGive, DesignGives, LibraryGives, NetlistGives, NetlistText, PatternText, PatternsGive, PlanGives, ReportGives, ReportText, plan_refusal}
 use Rattle.dft_top.specs.Courses.{Reaches, Then}
-use Rattle.dft_top.specs.Outcomes.{IsCompiled, IsOutcomeFor, IsOutcomeOfConfiguring, IsOutcomeOfGrading, IsOutcomeOfReport, IsOutcomeOfTest, course_of_certify, course_of_compile, course_of_grade, course_of_replay, course_of_scan, IsOutcomeOfCubes, IsOutcomeOfScanOf, refusal_of, IsOutcomeOn, wanted_of}
-use Rattle.dft_top.specs.Laws.{PassingIsCertified, PassingIsCompiled, PassingIsConfigured, PassingIsGraded, PassingIsReplayed, PassingIsScanned}
+use Rattle.dft_top.specs.Outcomes.{IsCompiled, IsOutcomeFor, IsOutcomeOfConfiguring, IsOutcomeOfGrading, IsOutcomeOfReport, IsOutcomeOfTest, course_of_certify, course_of_compile, course_of_grade, course_of_replay, course_of_scan, IsOutcomeOfCubes, IsOutcomeOfScanOf, IsOutcomeOfSeek, IsOutcomeOfTold, refusal_of, IsOutcomeOn, wanted_of}
+use Rattle.dft_top.specs.Laws.{PassingIsCertified, PassingIsCompiled, PassingIsConfigured, PassingIsGraded, PassingIsReplayed, PassingIsScanned, PassingIsSought}
 use Rattle.dft_top.proofs.CompileLemmas.{compiled_due}
 use Rattle.dft_top.proofs.Promised.{design_of}
 use Rattle.dft_top.proofs.CertifyLemmas.{report_over}
 use Rattle.dft_top.proofs.Gradings.{graded_due}
 use Rattle.dft_top.proofs.Configurings.{configured_due}
+use Rattle.dft_top.proofs.Seekings.{search_due}
+use Rattle.dft_cubes.specs.Cubes.{domain_named}
+use Rattle.dft_seeking.specs.declared.error.SeekError.{SeekError}
 use Rattle.dft_top.proofs.Readings.{config_text_one, cube_text_one, file_one, given_next, library_gives_one, netlist_text_one, pattern_text_one, report_text_one, accepted_or_refused}
-use Rattle.dft_top.proofs.Steps.{CertifyFor, CertifyOf, CertifyOn, CertifyOver, CertifyWith, CompileOf, CompileOn, CompileOver, CompileWith, ConfigureOver, GradeOn, GradeOver, ReplayOn, ReplayOver, ScanOn, ScanOver}
+use Rattle.dft_top.proofs.Steps.{CertifyFor, CertifyOf, CertifyOn, CertifyOver, CertifyWith, CompileOf, CompileOn, CompileOver, CompileWith, ConfigureOver, GradeOn, GradeOver, ReplayOn, ReplayOver, ScanOn, ScanOver, SeekOf, SeekOn, SeekOver}
 
 -- where a design is given, the patterns are next
 pub replay_read : (files : ReplayFiles) (held : Held) (cells : List Cell) (n : Netlist) (o : Outcome) → LibraryGives files.library held (Ok cells) → NetlistGives cells files.netlist held (Ok n) →
@@ -114,6 +117,18 @@ passing_configured words files held cells n configured o is library netlist made
     let over = given_next (LibraryGives files.library held) (ConfigureOver files held) o cells (library_gives_one files.library held) library reached in
     let on = given_next (NetlistGives cells files.netlist held) (λ m. IsOutcomeOfConfiguring m (wanted_of files.numbers)) o n (file_one MAX_NETLIST_BYTES (codes "netlist") (NetlistText cells) (netlist_text_one cells) (file_at files.netlist held)) netlist over in
     configured_due n (wanted_of files.numbers) configured o made on
+
+pub passing_sought : PassingIsSought
+passing_sought words files held cells c n domain told o is library config netlist none named are passes x =
+    let design = design_of cells files.netlist held n netlist in
+    let ranked = order_ranks n design.1.order design.1.sound design.1.ordered in
+    let reached = subst (λ (command : Option Command). IsOutcomeFor command held o) (for_once words x.0 (Some (Seek files)) x.1.0 is) x.1.1 in
+    let over = given_next (LibraryGives files.library held) (SeekOver files held) o cells (library_gives_one files.library held) library reached in
+    let on = given_next (ConfigGives files.config held) (SeekOn files cells held) o c (file_one MAX_CONFIG_BYTES (codes "config") ConfigText config_text_one (file_at files.config held)) config over in
+    let of = given_next (NetlistGives cells files.netlist held) (SeekOf files c held) o n (file_one MAX_NETLIST_BYTES (codes "netlist") (NetlistText cells) (netlist_text_one cells) (file_at files.netlist held)) netlist on in
+    let with = plan_next n c (λ plan. IsOutcomeOfSeek n c files.clock files.limit (domain_named c files.clock)) o none of in
+    subst (λ (refused : Option SeekError). IsOutcomeOfTold n c told refused o) passes
+    (search_due n c domain files.limit ranked.0 told o ranked.1 are (subst (λ (place : Option ℕ). IsOutcomeOfSeek n c files.clock files.limit place o) named with.1))
 
 pub passing_replayed : PassingIsReplayed
 passing_replayed words files held cells n p o is library netlist patterns x =

@@ -87,7 +87,7 @@ not_done : (refusal : Refusal) (o : Outcome) → o ≡ outcome.Refused refusal �
 not_done refusal o is done = let e = ap status_of is in cc
 
 -- where the outcome is Done, each file gave a value
-then_done : {A : Type 0} (gives : Result A Refusal → Type 0) (next : A → Outcome → Type 0) (o : Outcome) → status_of o ≡ Done → Then gives next o → After gives (λ value. next value o)
+pub then_done : {A : Type 0} (gives : Result A Refusal → Type 0) (next : A → Outcome → Type 0) (o : Outcome) → status_of o ≡ Done → Then gives next o → After gives (λ value. next value o)
 then_done gives next o done (inl x) = x
 then_done gives next o done (inr x) = absurd (not_done x.0 o x.1.1 done)
 
@@ -447,11 +447,11 @@ configures files old new o done h saved =
 -- ---- of a run
 
 -- what a run that answers Done came to
-record IsDone (command : Option Command) (before after : Seen) : Type 0 where
-  o : Outcome
-  told : IsOutcomeTold command before.held o
-  done : status_of o ≡ Done
-  saved : HaveSaved (savings command o) before.held after.held
+pub record IsDone (command : Option Command) (before after : Seen) : Type 0 where
+  pub o : Outcome
+  pub told : IsOutcomeTold command before.held o
+  pub done : status_of o ≡ Done
+  pub saved : HaveSaved (savings command o) before.held after.held
 
 delivered_done : (command : Option Command) (o : Outcome) (before after : Seen) (answer : Answer) → IsOutcomeTold command before.held o → IsDelivered command o before after answer → answer.status ≡ Done → IsDone command before after
 delivered_done command o before after answer told (inl x) done = record { o = o; told = told; done = ap (λ (a : Answer). a.status) (sym x.answers) ∙ done; saved = x.saved }
@@ -459,7 +459,7 @@ delivered_done command o before after answer told (inr (inl x)) done = absurd (l
 delivered_done command o before after answer told (inr (inr (inl x))) done = absurd (let e = ap (λ (a : Answer). a.status) x.answers in cc)
 delivered_done command o before after answer told (inr (inr (inr x))) done = absurd (let e = ap (λ (a : Answer). a.status) x.answers in cc)
 
-ends_done : (command : Option Command) (before after : Seen) (answer : Answer) → EndsFor command before after answer → answer.status ≡ Done → IsDone command before after
+pub ends_done : (command : Option Command) (before after : Seen) (answer : Answer) → EndsFor command before after answer → answer.status ≡ Done → IsDone command before after
 ends_done command before after answer (inl x) done = delivered_done command x.o before after answer x.told x.delivered done
 ends_done command before after answer (inr (inl x)) done = absurd (let e = ap (λ (a : Answer). a.status) x.answers in cc)
 ends_done command before after answer (inr (inr x)) done = absurd (let e = ap (λ (a : Answer). a.status) x.1 in cc)
@@ -469,11 +469,11 @@ told_passes files None o done told = tt
 told_passes files (Some held) o done told = passes files held o done told
 
 -- where nothing is told, nothing is told then
-saved_untold : (all : List Saving) (held' : Option Held) → HaveSaved all None held' → held' ≡ None
+pub saved_untold : (all : List Saving) (held' : Option Held) → HaveSaved all None held' → held' ≡ None
 saved_untold [] held' saved = saved
 saved_untold (s ∷ all) held' saved = saved
 
-saved_lost : (all : List Saving) (old : Held) → HaveSaved all (Some old) None → ⊥
+pub saved_lost : (all : List Saving) (old : Held) → HaveSaved all (Some old) None → ⊥
 saved_lost [] old saved = cc
 saved_lost (s ∷ all) old saved = saved
 

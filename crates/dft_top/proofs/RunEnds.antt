@@ -1,7 +1,7 @@
 -- How the run of a command ends that followed its course.
 use Rattle.std.proofs.Common.{ℕ, ◌≡◌, inl, inr, List, Option, None, Some, subst}
 use Rattle.dft_files.specs.Outside.{Held, Told}
-use Rattle.dft_command_line.specs.Words.{Command, Replay, Scan, Compile, Certify, Generate, Grade, Configure}
+use Rattle.dft_command_line.specs.Words.{Command, Replay, Scan, Compile, Certify, Generate, Grade, Configure, Seek}
 use Rattle.dft_answers.specs.declared.answer.Answer.{Answer}
 use Rattle.dft_answers.specs.declared.outcome.Outcome.{Outcome}
 use Rattle.dft_top.specs.Courses.{Allows, Reaches}
@@ -20,6 +20,7 @@ told_for (Some (Certify files)) held o allowed told = told
 told_for (Some (Generate numbers)) held o allowed told = λ h. allowed
 told_for (Some (Grade files)) held o allowed told = told
 told_for (Some (Configure files)) held o allowed told = told
+told_for (Some (Seek files)) held o allowed told = told
 
 -- what is delivered over the files as they are, is delivered over those at first, where neither they nor the count of failed saves have changed
 delivered_so : (command : Option Command) (o : Outcome) (held held' : Option Held) (failed failed' : List ℕ) (reads reads' writes writes' : ℕ) (printed : Option (List ℕ)) (puts : ℕ) (after : Seen) (answer : Answer) →

@@ -1,6 +1,6 @@
 -- The numbers of words are within their bounds.
 use Rattle.std.proofs.Common.{ℕ, List, Option, None, Some}
-use Rattle.dft_command_line.specs.Words.{AreFor, AreNumbers, Certify, Command, Compile, Configure, Generate, Grade, HardwareNumbers, HardwareTexts, IsPerhapsWithin, Replay, Scan}
+use Rattle.dft_command_line.specs.Words.{AreFor, AreNumbers, Certify, Command, Compile, Configure, Generate, Grade, HardwareNumbers, HardwareTexts, IsPerhapsWithin, Replay, Scan, Seek}
 use Rattle.dft_command_line.specs.Words as words
 use Rattle.dft_configuring.specs.Wanted.{IsUpTo, IsWanted}
 use Rattle.dft_configuring.specs.Wanted as wanted
@@ -38,3 +38,4 @@ sized_for words (Some (Certify files)) are = tt
 sized_for words (Some (Generate numbers)) are = record { low = are.least; high = are.most }
 sized_for words (Some (Grade files)) are = tt
 sized_for words (Some (Configure files)) are = within are.texts files.numbers are.numbers
+sized_for words (Some (Seek files)) are = are.most

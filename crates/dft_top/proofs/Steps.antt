@@ -9,11 +9,11 @@ use Rattle.dft_scan.specs.Refusals.{refusal}
 use Rattle.dft_stitch.specs.Planning.{Planned}
 use Rattle.dft_cubes.specs.declared.cube.Cube.{Cube}
 use Rattle.dft_stitch.specs.Plans.{Plan}
-use Rattle.dft_command_line.specs.Words.{ReplayFiles, ScanFiles, CompileFiles, CertifyFiles, GradeFiles, ConfigureFiles}
+use Rattle.dft_command_line.specs.Words.{ReplayFiles, ScanFiles, CompileFiles, CertifyFiles, GradeFiles, ConfigureFiles, SeekFiles}
 use Rattle.dft_answers.specs.declared.outcome.Outcome.{Outcome}
 use Rattle.dft_top.specs.Checks.{ConfigGives, NetlistGives, PatternsGive}
 use Rattle.dft_top.specs.Courses.{Reaches, Then}
-use Rattle.dft_top.specs.Outcomes.{IsOutcomeOn, IsOutcomeOfGrading, IsOutcomeOfScanOf, course_of_certified, course_of_cubes, course_of_design, course_of_planned, course_of_report, IsOutcomeOfConfiguring, wanted_of}
+use Rattle.dft_top.specs.Outcomes.{IsOutcomeOn, IsOutcomeOfGrading, IsOutcomeOfScanOf, course_of_certified, course_of_cubes, course_of_design, course_of_planned, course_of_report, course_of_search, IsOutcomeOfConfiguring, wanted_of}
 
 -- ---- behind each file of a replay
 
@@ -77,3 +77,14 @@ GradeOver files h cells = Then (NetlistGives cells files.netlist h) (GradeOn fil
 
 abbrev pub ConfigureOver : ConfigureFiles → Held → List Cell → Outcome → Type 0
 ConfigureOver files h cells = Then (NetlistGives cells files.netlist h) (λ n. IsOutcomeOfConfiguring n (wanted_of files.numbers))
+
+-- ---- behind each file of a search
+
+abbrev pub SeekOf : SeekFiles → Config → Held → Netlist → Outcome → Type 0
+SeekOf files config h n = Reaches (course_of_search n config files.clock files.limit) h
+
+abbrev pub SeekOn : SeekFiles → List Cell → Held → Config → Outcome → Type 0
+SeekOn files cells h config = Then (NetlistGives cells files.netlist h) (SeekOf files config h)
+
+abbrev pub SeekOver : SeekFiles → Held → List Cell → Outcome → Type 0
+SeekOver files h cells = Then (ConfigGives files.config h) (SeekOn files cells h)

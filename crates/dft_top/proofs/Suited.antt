@@ -22,15 +22,19 @@ use Rattle.dft_report.specs.declared.report.Report.{Report}
 use Rattle.dft_load_laws.specs.Loading.{rows_of}
 use Rattle.dft_certify.specs.declared.error.CertifyError.{CertifyError}
 use Rattle.dft_certify.specs.Certifying.{certify_refusal}
-use Rattle.dft_command_line.specs.Words.{Command, Replay, Scan, Compile, Certify, Generate, Grade, Configure, CertifyFiles, CompileFiles, ConfigureFiles, GradeFiles, JobNumbers, ReplayFiles, ScanFiles}
+use Rattle.dft_command_line.specs.Words.{Command, Replay, Scan, Compile, Certify, Generate, Grade, Configure, Seek, CertifyFiles, CompileFiles, ConfigureFiles, GradeFiles, JobNumbers, ReplayFiles, ScanFiles, SeekFiles}
 use Rattle.dft_answers.specs.declared.answer.Refusal.{Refusal}
 use Rattle.dft_answers.specs.declared.outcome.Outcome.{Outcome}
 use Rattle.dft_answers.specs.declared.outcome.Outcome.TheVariants.{Usage, Refused, Finished}
 use Rattle.dft_answers.specs.declared.outcome.Work.TheVariants.{Compiled, Replayed}
-use Rattle.dft_answers.specs.Refusals.{compile_refusal, configure_refusal, report_refusal, scan_refusal}
+use Rattle.dft_answers.specs.Refusals.{compile_refusal, configure_refusal, report_refusal, scan_refusal, seek_refusal}
 use Rattle.dft_answers.specs.Refusals as refusals
+use Rattle.dft_cubes.specs.Cubes.{domain_named}
+use Rattle.dft_seeking.specs.declared.error.SeekError.{SeekError}
+use Rattle.dft_seeking.specs.Refusals.{refusal as unsaved}
+use Rattle.dft_seeking.specs.Told.{Told}
 use Rattle.dft_top.specs.Courses.{Allows}
-use Rattle.dft_top.specs.Outcomes.{IsOutcomeOfConfiguring, IsOutcomeOfCubes, IsOutcomeOfGraded, IsOutcomeOfGrading, IsOutcomeOfPlacing, IsOutcomeOfVerdict, IsOutcomeOfReport, IsOutcomeOfScanOf, IsOutcomeOfTest, IsOutcomeOn, IsRefusal, IsReplayedOf, course_of, course_of_certify, course_of_compile, course_of_configure, course_of_grade, course_of_replay, course_of_scan, generated, made_files, made_held, refusal_of, wanted_of}
+use Rattle.dft_top.specs.Outcomes.{IsOutcomeOfConfiguring, IsOutcomeOfCubes, IsOutcomeOfGraded, IsOutcomeOfGrading, IsOutcomeOfPlacing, IsOutcomeOfVerdict, IsOutcomeOfReport, IsOutcomeOfScanOf, IsOutcomeOfSeek, IsOutcomeOfTest, IsOutcomeOfTold, IsOutcomeOn, IsRefusal, IsReplayedOf, course_of, course_of_certify, course_of_compile, course_of_configure, course_of_grade, course_of_replay, course_of_scan, course_of_seek, generated, made_files, made_held, refusal_of, wanted_of}
 use Rattle.dft_top.specs.Run.{IsOf, Suits}
 use Rattle.dft_top.proofs.Following.{allowed_so, reaches_allows}
 
@@ -96,6 +100,17 @@ configure_ends files n o (inr unmade) = refused_suits (Configure files) o (confi
 configure_suits : (files : ConfigureFiles) (o : Outcome) → Allows (course_of_configure files) o → IsOf (Configure files) o
 configure_suits files o allowed = allowed_so (IsOf (Configure files)) (course_of_configure files) o (λ refusal. tt) (λ cells n o is. configure_ends files n o is) allowed
 
+told_ends : (files : SeekFiles) (n : Netlist) (config : Config) (told : List Told) (refused : Option SeekError) (o : Outcome) → IsOutcomeOfTold n config told refused o → IsOf (Seek files) o
+told_ends files n config told (Some error) o is = refused_suits (Seek files) o (seek_refusal error) is
+told_ends files n config told None o is = subst (IsOf (Seek files)) (sym is) tt
+
+seek_ends : (files : SeekFiles) (n : Netlist) (config : Config) (domain : Option ℕ) (o : Outcome) → IsOutcomeOfSeek n config files.clock files.limit domain o → IsOf (Seek files) o
+seek_ends files n config None o is = subst (IsOf (Seek files)) (sym is) tt
+seek_ends files n config (Some domain) o is = told_ends files n config is.told (unsaved n config is.told) o is.outcome
+
+seek_suits : (files : SeekFiles) (o : Outcome) → Allows (course_of_seek files) o → IsOf (Seek files) o
+seek_suits files o allowed = allowed_so (IsOf (Seek files)) (course_of_seek files) o (λ refusal. tt) (λ cells config n plan o is. seek_ends files n config (domain_named config files.clock) o is) allowed
+
 -- a replay of what a compilation made
 generated_ends : (numbers : JobNumbers) (counts : Counts) (replay : Outcome) → IsOf (Replay made_files) replay → IsOf (Generate numbers) (generated counts replay)
 generated_ends numbers counts Usage suits = absurd suits
@@ -119,3 +134,4 @@ suits_of (Some (Certify files)) o allowed = certify_suits files o allowed
 suits_of (Some (Generate numbers)) o allowed = replayed_ends numbers allowed.0 o allowed.1.1
 suits_of (Some (Grade files)) o allowed = grade_suits files o allowed
 suits_of (Some (Configure files)) o allowed = configure_suits files o allowed
+suits_of (Some (Seek files)) o allowed = seek_suits files o allowed

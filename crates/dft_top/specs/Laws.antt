@@ -1,5 +1,5 @@
 -- That words and files have one outcome at most, and which it is where each file passes its checks.
-use Rattle.std.specs.Prelude.{ℕ, ◌≡◌, List, None, Ok}
+use Rattle.std.specs.Prelude.{ℕ, ◌≡◌, List, None, Some, Ok}
 use Rattle.dft_files.specs.Outside.{Held}
 use Rattle.dft_cells.specs.declared.cell.Cell.{Cell}
 use Rattle.dft_config.specs.Config.{Config}
@@ -23,7 +23,10 @@ use Rattle.dft_equations.specs.LoadRows.{LoadRows}
 use Rattle.dft_load_laws.specs.Loading.{AreRows, rows_of}
 use Rattle.dft_report.specs.declared.report.Report.{Report}
 use Rattle.dft_certify.specs.Certifying.{certify_refusal, unsolvable_in}
-use Rattle.dft_command_line.specs.Words.{ReplayFiles, ScanFiles, CompileFiles, CertifyFiles, GradeFiles, ConfigureFiles, IsReplay, IsScan, IsCompile, IsCertify, IsGrade, IsConfigure}
+use Rattle.dft_command_line.specs.Words.{ReplayFiles, ScanFiles, CompileFiles, CertifyFiles, GradeFiles, ConfigureFiles, SeekFiles, IsReplay, IsScan, IsCompile, IsCertify, IsGrade, IsConfigure, IsSeek}
+use Rattle.dft_cubes.specs.Cubes.{domain_named}
+use Rattle.dft_seeking.specs.Refusals.{refusal as unsaved}
+use Rattle.dft_seeking.specs.Told.{Told, AreTold}
 use Rattle.dft_configuring.specs.declared.configuring.Configured.{Configured}
 use Rattle.dft_configuring.specs.Configured.{IsConfigured}
 use Rattle.dft_answers.specs.declared.outcome.Outcome.{Outcome}
@@ -31,7 +34,7 @@ use Rattle.dft_answers.specs.declared.outcome.Outcome.TheVariants.{Finished}
 use Rattle.dft_answers.specs.declared.outcome.Work.TheVariants.{Scanned, Certified}
 use Rattle.dft_answers.specs.declared.outcome.Work.TheVariants as work
 use Rattle.dft_top.specs.Checks.{ConfigGives, CubesGive, LibraryGives, NetlistGives, PatternsGive, ReportGives, plan_refusal}
-use Rattle.dft_top.specs.Outcomes.{IsCompiled, IsOutcome, IsOutcomeOn, graded_as, refusal_of, wanted_of}
+use Rattle.dft_top.specs.Outcomes.{IsCompiled, IsOutcome, IsOutcomeOfTold, IsOutcomeOn, graded_as, refusal_of, wanted_of}
 
 abbrev pub OutcomeIsOne : Type 0
 OutcomeIsOne = (words : List (List ℕ)) (held : Held) (a b : Outcome) → IsOutcome words held a → IsOutcome words held b → a ≡ b
@@ -87,3 +90,12 @@ PassingIsConfigured =
     (words : List (List ℕ)) (files : ConfigureFiles) (held : Held) (cells : List Cell) (n : Netlist) (configured : Configured) (o : Outcome) → IsConfigure words files →
     LibraryGives files.library held (Ok cells) → NetlistGives cells files.netlist held (Ok n) → IsConfigured n (wanted_of files.numbers) configured → IsOutcome words held o →
     o ≡ Finished (work.Configured configured.counts configured.text.items)
+
+-- where each file of a search passes its checks and its clock is a domain, what is told of all faults is its outcome, unless there are too many cubes or a
+-- text of it is too long
+abbrev pub PassingIsSought : Type 0
+PassingIsSought =
+    (words : List (List ℕ)) (files : SeekFiles) (held : Held) (cells : List Cell) (config : Config) (n : Netlist) (domain : ℕ) (told : List Told) (o : Outcome) → IsSeek words files →
+    LibraryGives files.library held (Ok cells) → ConfigGives files.config held (Ok config) → NetlistGives cells files.netlist held (Ok n) → plan_refusal n config ≡ None →
+    domain_named config files.clock ≡ Some domain → AreTold n config domain files.limit told → unsaved n config told ≡ None → IsOutcome words held o →
+    IsOutcomeOfTold n config told None o

@@ -1,5 +1,5 @@
 -- What a command comes to, from its words and the files that are held.
-use Rattle.std.specs.Prelude.{ℕ, ◌<◌, ◌^◌, ◌≡◌, ◌⊎◌, Bool, true, false, List, [], ◌∷◌, codes, length, Option, None, Some, option_map, Ok, slice_get}
+use Rattle.std.specs.Prelude.{ℕ, ◌<◌, ◌≤◌, ◌^◌, ◌≡◌, ◌⊎◌, Bool, true, false, List, [], ◌∷◌, codes, length, Option, None, Some, option_map, Ok, slice_get}
 use Rattle.dft_files.specs.Outside.{Held}
 use Rattle.dft_config.specs.Config.{Config}
 use Rattle.dft_scan_frame.specs.Statements.{IsReady}
@@ -43,13 +43,21 @@ use Rattle.dft_configuring.specs.declared.wanted.Wanted.{Wanted}
 use Rattle.dft_configuring.specs.Configured.{IsConfigured}
 use Rattle.dft_configuring.specs.Refusals as unmade
 use Rattle.dft_configuring.specs.Wanted.{IsWanted}
+use Rattle.dft_toml.specs.Values.{printable}
+use Rattle.dft_cubes.specs.Cubes.{domain_named}
+use Rattle.dft_cubes_out.specs.Written.{cubes_text}
+use Rattle.dft_seeking.specs.declared.error.SeekError.{SeekError}
+use Rattle.dft_seeking.specs.Refusals.{refusal as unsaved}
+use Rattle.dft_seeking.specs.Told.{Told, AreTold, cubes_in}
+use Rattle.dft_seeking.specs.Told.{counts_of as sought_counts}
+use Rattle.dft_seeking.specs.Written.{report_text as sought_report}
 use Rattle.dft_generate.specs.Jobs.{IsSize}
 use Rattle.dft_generate.specs.Words.{words_of}
 use Rattle.dft_generate.specs.Netlists.{netlist_text as job_netlist}
 use Rattle.dft_generate.specs.Configurations.{configuration_text as job_configuration}
 use Rattle.dft_generate.specs.Cubes.{cubes_text as job_cubes}
-use Rattle.dft_command_line.specs.Words.{Command, Replay, Scan, Compile, Certify, Generate, Grade, ReplayFiles, ScanFiles, CompileFiles, CertifyFiles, GradeFiles, JobNumbers, HardwareNumbers, ConfigureFiles, Configure, AreFor}
-use Rattle.dft_answers.specs.declared.answer.Code.TheVariants.{P7}
+use Rattle.dft_command_line.specs.Words.{Command, Replay, Scan, Compile, Certify, Generate, Grade, ReplayFiles, ScanFiles, CompileFiles, CertifyFiles, GradeFiles, JobNumbers, HardwareNumbers, ConfigureFiles, Configure, SeekFiles, Seek, AreFor}
+use Rattle.dft_answers.specs.declared.answer.Code.TheVariants.{P7, X1}
 use Rattle.dft_answers.specs.declared.answer.Refusal.{Refusal}
 use Rattle.dft_answers.specs.declared.outcome.Outcome.{Outcome}
 use Rattle.dft_answers.specs.declared.outcome.Outcome.TheVariants.{Usage, Refused, Finished}
@@ -57,7 +65,7 @@ use Rattle.dft_answers.specs.declared.outcome.Replayed.{Replayed as ReplayEnd}
 use Rattle.dft_answers.specs.declared.outcome.Replayed.TheVariants.{Passed, Mismatch, Undetermined}
 use Rattle.dft_answers.specs.declared.outcome.Work.TheVariants.{Replayed, Scanned, Compiled, Certified, Generated}
 use Rattle.dft_answers.specs.declared.outcome.Work.TheVariants as work
-use Rattle.dft_answers.specs.Refusals.{named, scan_refusal, compile_refusal, configure_refusal, report_refusal}
+use Rattle.dft_answers.specs.Refusals.{named, scan_refusal, compile_refusal, configure_refusal, report_refusal, seek_refusal}
 use Rattle.dft_answers.specs.Refusals as refusals
 use Rattle.dft_top.specs.Checks.{LibraryGives, ConfigGives, NetlistGives, PatternsGive, DesignGives, CubesGive, PlanGives, ReportGives}
 use Rattle.dft_top.specs.Courses.{Course, Step, End, Reaches, Loads, TurnComes}
@@ -322,6 +330,36 @@ course_of_configure files =
     Step (Some files.netlist) (NetlistGives cells files.netlist) (λ n.
     End (IsOutcomeOfConfiguring n (wanted_of files.numbers))))
 
+-- ---- a search of cubes
+
+-- what the searches tell is the outcome, with the cube file and the report, unless a check of these refuses it
+abbrev pub IsOutcomeOfTold : Netlist → Config → List Told → Option SeekError → Outcome → Type 0
+IsOutcomeOfTold n config told (Some error) o = IsRefusal (seek_refusal error) o
+IsOutcomeOfTold n config told None o = o ≡ Finished (work.Sought (sought_counts told) (cubes_text n config (cubes_in told)) (sought_report n told))
+
+-- all faults are searched, this is told of them, and it is its outcome
+pub record IsOutcomeOfSearch (n : Netlist) (config : Config) (domain limit : ℕ) (o : Outcome) : Type 0 where
+  pub told : List Told
+  pub are : AreTold n config domain limit told
+  pub outcome : IsOutcomeOfTold n config told (unsaved n config told) o
+
+-- a clock that is no domain is refused
+abbrev pub IsOutcomeOfSeek : Netlist → Config → (clock : List ℕ) → (limit : ℕ) → (domain : Option ℕ) → Outcome → Type 0
+IsOutcomeOfSeek n config clock limit None o = o ≡ Refused (named X1 (printable clock))
+IsOutcomeOfSeek n config clock limit (Some domain) o = IsOutcomeOfSearch n config domain limit o
+
+-- the checks of the scan rules and of the plan, then the clock, and then the searches
+abbrev pub course_of_search : Netlist → Config → (clock : List ℕ) → (limit : ℕ) → Course
+course_of_search n config clock limit = Step None (λ held. PlanGives n config) (λ plan. End (IsOutcomeOfSeek n config clock limit (domain_named config clock)))
+
+-- the library, then the configuration, then the netlist, and then the design
+abbrev pub course_of_seek : SeekFiles → Course
+course_of_seek files =
+    Step files.library (LibraryGives files.library) (λ cells.
+    Step (Some files.config) (ConfigGives files.config) (λ config.
+    Step (Some files.netlist) (NetlistGives cells files.netlist) (λ n.
+    course_of_search n config files.clock files.limit)))
+
 -- ---- of words
 
 -- what words are for: Usage, or what the command comes to
@@ -334,6 +372,7 @@ course_of (Some (Certify files)) = course_of_certify files
 course_of (Some (Generate numbers)) = course_of_generate numbers
 course_of (Some (Grade files)) = course_of_grade files
 course_of (Some (Configure files)) = course_of_configure files
+course_of (Some (Seek files)) = course_of_seek files
 
 abbrev pub IsOutcomeFor : Option Command → Held → Outcome → Type 0
 IsOutcomeFor command held o = Reaches (course_of command) held o
@@ -351,6 +390,7 @@ IsSized (Some (Certify files)) = Unit {0}
 IsSized (Some (Generate numbers)) = IsSize numbers.size
 IsSized (Some (Grade files)) = Unit {0}
 IsSized (Some (Configure files)) = IsWanted (wanted_of files.numbers)
+IsSized (Some (Seek files)) = files.limit ≤ 1000000
 
 -- ---- which file is loaded
 

@@ -50,7 +50,12 @@ use Rattle.dft_report.specs.declared.report.Report.{Report}
 use Rattle.dft_report.specs.declared.report.SumLine.{SumLine}
 use Rattle.dft_certify.specs.Certifying.{cube_named}
 use Rattle.dft_certify.specs.Laws.{AllCertified}
-use Rattle.dft_command_line.specs.Words.{ReplayFiles, ScanFiles, CompileFiles, CertifyFiles, GradeFiles, ConfigureFiles}
+use Rattle.dft_command_line.specs.Words.{ReplayFiles, ScanFiles, CompileFiles, CertifyFiles, GradeFiles, ConfigureFiles, SeekFiles}
+use Rattle.dft_cubes.specs.Cubes.{domain_named}
+use Rattle.dft_cubes_out.specs.Written.{cubes_text}
+use Rattle.dft_seeking.specs.Laws.{AllTrue}
+use Rattle.dft_seeking.specs.Told.{Told, AreTold, cubes_in}
+use Rattle.dft_seeking.specs.Written.{report_text as sought_report}
 use Rattle.dft_configuring.specs.declared.configuring.Configured.{Configured}
 use Rattle.dft_configuring.specs.Configured.{IsConfigured}
 use Rattle.dft_top.specs.declared.limits.TheConstants.{MAX_PATTERN_BYTES, MAX_REPORT_BYTES}
@@ -238,3 +243,26 @@ pub record Configures (files : ConfigureFiles) (old new : Held) : Type 0 where
   -- what holds of it
   pub settings : ConfigGives files.out new (Ok configured.config)
   pub accepted : first_refusal netlist configured.config ≡ None
+
+-- ---- a search of cubes
+
+-- The netlist is that of the held text, over the cells of the library, and the configuration that of its text, of which the clock is a domain; no check
+-- of the scan rules and of the plan fails. What is told of all faults is saved as a cube file and a report, and no other file is changed.
+pub record Seeks (files : SeekFiles) (old new : Held) : Type 0 where
+  pub cells : List Cell
+  pub library : LibraryGives files.library old (Ok cells)
+  pub config : Config
+  pub settings : ConfigGives files.config old (Ok config)
+  pub netlist : Netlist
+  pub design : NetlistGives cells files.netlist old (Ok netlist)
+  pub plan : PlanGives netlist config (Ok (plan_of netlist config))
+  pub domain : ℕ
+  pub clock : domain_named config files.clock ≡ Some domain
+  pub told : List Told
+  pub are : AreTold netlist config domain files.limit told
+  -- what is saved
+  pub cubes : file_at files.out_cubes new ≡ Some (cubes_text netlist config (cubes_in told))
+  pub report : file_at files.out_report new ≡ Some (sought_report netlist told)
+  pub others : (name : List ℕ) → (name ≡ files.out_cubes → ⊥) → (name ≡ files.out_report → ⊥) → file_at name new ≡ file_at name old
+  -- what holds of it
+  pub holds : AllTrue netlist config domain told

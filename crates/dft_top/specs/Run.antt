@@ -12,12 +12,12 @@ use Rattle.dft_answers.specs.declared.outcome.Outcome.TheVariants as outcome
 use Rattle.dft_answers.specs.declared.outcome.Replayed.{Replayed}
 use Rattle.dft_answers.specs.declared.outcome.Replayed.TheVariants.{Passed, Mismatch, Undetermined}
 use Rattle.dft_answers.specs.declared.outcome.Work.TheVariants as work
-use Rattle.dft_command_line.specs.Words.{Command, Replay, Scan, Compile, Certify, Generate, Grade, Configure, ReplayFiles, ScanFiles, CompileFiles, CertifyFiles, GradeFiles, ConfigureFiles, JobNumbers, AreFor, IsFor, IsReplay, IsScan, IsCompile, IsCertify, IsGenerate, IsGrade, IsConfigure}
+use Rattle.dft_command_line.specs.Words.{Command, Replay, Scan, Compile, Certify, Generate, Grade, Configure, Seek, ReplayFiles, ScanFiles, CompileFiles, CertifyFiles, GradeFiles, ConfigureFiles, SeekFiles, JobNumbers, AreFor, IsFor, IsReplay, IsScan, IsCompile, IsCertify, IsGenerate, IsGrade, IsConfigure, IsSeek}
 use Rattle.dft_answers.specs.Answers.{answer_of, stopped}
 use Rattle.dft_answers.specs.Lines.{line_of}
 use Rattle.dft_top.specs.Courses.{IsPassing}
 use Rattle.dft_top.specs.Outcomes.{IsOutcomeFor, IsOutcomeOfJob, IsLoaded, HasTurn, course_of}
-use Rattle.dft_top.specs.Promises.{Passes, Fails, Scans, Compiles, Certifies, Grades, Configures, replay_of}
+use Rattle.dft_top.specs.Promises.{Passes, Fails, Scans, Compiles, Certifies, Grades, Configures, Seeks, replay_of}
 use Rattle.dft_top.specs.Saves.{savings, HaveSaved, HaveSavedSome, SaveFailed, CountsSaves}
 
 -- what is seen of the files and of the output: what files are held, the name in the last call that failed, how many loads and saves
@@ -59,6 +59,7 @@ IsOf (Generate numbers) (outcome.Finished (work.Generated counts replay)) = Unit
 IsOf (Grade files) (outcome.Finished (work.Replayed replay)) = IsUnpassed replay
 IsOf (Grade files) (outcome.Finished (work.Graded faults detected undetected report)) = Unit {0}
 IsOf (Configure files) (outcome.Finished (work.Configured counts text)) = Unit {0}
+IsOf (Seek files) (outcome.Finished (work.Sought counts cubes report)) = Unit {0}
 IsOf command o = ⊥
 
 -- Usage is the outcome of exactly the words that are no command
@@ -76,6 +77,7 @@ ToldFor (Some (Certify files)) P held = Told P held
 ToldFor (Some (Generate numbers)) P held = (h : Held) → P h
 ToldFor (Some (Grade files)) P held = Told P held
 ToldFor (Some (Configure files)) P held = Told P held
+ToldFor (Some (Seek files)) P held = Told P held
 
 -- the outcome is one of the command, and that of the held files where they are told
 pub record IsOutcomeTold (command : Option Command) (held : Option Held) (o : Outcome) : Type 0 where
@@ -190,6 +192,10 @@ UngradedTold words held answer = (files : GradeFiles) → IsGrade words files �
 abbrev pub ConfiguresTold : List (List ℕ) → (held held' : Option Held) → Answer → Type 0
 ConfiguresTold words held held' answer = (files : ConfigureFiles) → IsConfigure words files → answer.status ≡ Done → ToldChange (Configures files) held held'
 
+-- where the words are a search, what it tells of all faults is saved, and it is true
+abbrev pub SeeksTold : List (List ℕ) → (held held' : Option Held) → Answer → Type 0
+SeeksTold words held held' answer = (files : SeekFiles) → IsSeek words files → answer.status ≡ Done → ToldChange (Seeks files) held held'
+
 -- a refusal for size: the patterns have more vectors than are read, or the report would have more bytes than it may
 abbrev pub IsForSize : Refusal → Type 0
 IsForSize refusal = (refusal.code ≡ P4) ⊎ (refusal.code ≡ K6)
@@ -235,6 +241,7 @@ IsAnswered (Certify files) held status = status ≡ Done
 IsAnswered (Generate numbers) held status = status ≡ Done
 IsAnswered (Grade files) held status = IsByVerdict (replay_of files) held status
 IsAnswered (Configure files) held status = status ≡ Done
+IsAnswered (Seek files) held status = status ≡ Done
 
 -- Where the words are a command, whose checks the files that are told pass (those of a generated job, whatever is told), and no call of the outside failed, the command is answered. Want of memory
 -- is the one exception.
@@ -255,13 +262,14 @@ IsQuiet ReadFault = Unit {0}
 IsQuiet WriteFault = ⊥
 IsQuiet OutOfMemory = ⊥
 
--- the words are a scan, a compilation or a grading, or ask for a configuration
+-- the words are a scan, a compilation, a grading or a search, or ask for a configuration
 abbrev pub AreSaving : List (List ℕ) → Type 0
 AreSaving words =
     ((files : ScanFiles) × IsScan words files)
     ⊎ ((files : CompileFiles) × IsCompile words files)
     ⊎ ((files : GradeFiles) × IsGrade words files)
     ⊎ ((files : ConfigureFiles) × IsConfigure words files)
+    ⊎ ((files : SeekFiles) × IsSeek words files)
 
 -- where the status is Usage, Refused, NotPassed or ReadFault, or the words are none of these, no file is changed, and no save has failed
 abbrev pub KeepsFiles : List (List ℕ) → (held held' : Option Held) → (write_faults write_faults' : ℕ) → Answer → Type 0

@@ -3,10 +3,10 @@ use Rattle.std.specs.Prelude.{ℕ, ◌≡◌, false, List, [], ◌∷◌, ◌++�
 use Rattle.std.specs.List.{AllByRecursion}
 use Rattle.std.specs.Str.{bytes_eq}
 use Rattle.dft_files.specs.Outside.{Held, LeavesPart, Rose, ToldChange, file_at}
-use Rattle.dft_command_line.specs.Words.{Command, Replay, Scan, Compile, Certify, Generate, Grade, Configure, OutputsDiffer}
+use Rattle.dft_command_line.specs.Words.{Command, Replay, Scan, Compile, Certify, Generate, Grade, Configure, Seek, OutputsDiffer}
 use Rattle.dft_answers.specs.declared.outcome.Outcome.{Outcome}
 use Rattle.dft_answers.specs.declared.outcome.Outcome.TheVariants.{Finished}
-use Rattle.dft_answers.specs.declared.outcome.Work.TheVariants.{Scanned, Compiled, Graded, Configured}
+use Rattle.dft_answers.specs.declared.outcome.Work.TheVariants.{Scanned, Compiled, Graded, Configured, Sought}
 
 -- a file that is to be saved: its name, and its bytes
 pub record Saving : Type 0 where
@@ -14,7 +14,7 @@ pub record Saving : Type 0 where
   pub bytes : List ℕ
 
 -- what a command saves, in order: of a scan the scanned netlist and the report, of a compilation the scanned netlist, the patterns and the report, of
--- a grading the report, of a made configuration its text; of all else nothing
+-- a grading the report, of a made configuration its text, of a search the cube file and the report; of all else nothing
 abbrev pub savings : Option Command → Outcome → List Saving
 savings (Some (Scan files)) (Finished (Scanned counts netlist report)) =
     record { name = files.out; bytes = netlist } ∷ record { name = files.report; bytes = report } ∷ []
@@ -22,6 +22,7 @@ savings (Some (Compile files)) (Finished (Compiled counts netlist patterns repor
     record { name = files.out_netlist; bytes = netlist } ∷ record { name = files.out_patterns; bytes = patterns } ∷ record { name = files.out_report; bytes = report } ∷ []
 savings (Some (Grade files)) (Finished (Graded faults detected undetected report)) = record { name = files.out; bytes = report } ∷ []
 savings (Some (Configure files)) (Finished (Configured counts text)) = record { name = files.out; bytes = text } ∷ []
+savings (Some (Seek files)) (Finished (Sought counts cubes report)) = record { name = files.out_cubes; bytes = cubes } ∷ record { name = files.out_report; bytes = report } ∷ []
 savings command o = []
 
 -- the files that a command saves have different names
@@ -34,6 +35,7 @@ SavesApart (Some (Certify files)) = Unit {0}
 SavesApart (Some (Generate numbers)) = Unit {0}
 SavesApart (Some (Grade files)) = Unit {0}
 SavesApart (Some (Configure files)) = Unit {0}
+SavesApart (Some (Seek files)) = files.out_cubes ≡ files.out_report → ⊥
 
 -- these files have different names
 abbrev pub AreApart : List Saving → Type 0

@@ -5,7 +5,7 @@ ghost use Rattle.dft_command_line.specs.Named.{command_of};
 ghost use Rattle.dft_io.specs.Steps.{seen_files};
 ghost use Rattle.dft_top.specs.Follows.{Follows};
 ghost use Rattle.dft_top.specs.Outcomes.{IsSized, course_of};
-ghost use Rattle.dft_top.specs.Run.{Ends, EndsFor, IsDelivered, CertifiesTold, CompilesTold, CompletesTold, ConfiguresTold, FailsTold, GeneratesJob, GradesTold, KeepsFiles, PassesTold, ScansTold, UngradedTold, seen};
+ghost use Rattle.dft_top.specs.Run.{Ends, EndsFor, IsDelivered, CertifiesTold, CompilesTold, CompletesTold, ConfiguresTold, FailsTold, GeneratesJob, GradesTold, KeepsFiles, PassesTold, ScansTold, SeeksTold, UngradedTold, seen};
 ghost use Rattle.dft_top.specs.Saves.{CountsSaves, SavesApart, savings};
 
 use crate::certifying::outcome_of_certify;
@@ -16,6 +16,7 @@ use crate::grading::outcome_of_grade;
 use crate::replaying::outcome_of_replay;
 use crate::saving::save_outcome;
 use crate::scanning::outcome_of_scan;
+use crate::seeking::outcome_of_seek;
 use dft_answers::{Answer, Outcome, Status, line};
 use dft_certify::reports_are_certified;
 use dft_certify_laws::certified_in_runs;
@@ -33,14 +34,16 @@ use std::alloc::Global;
 /// prints for cubes show that no channel bits load them. `grade --netlist FILE --patterns FILE --out FILE` replays the patterns
 /// and, where they pass, saves a report of both stuck-at faults of each driven net that shows no clock, each with its grade.
 /// `configure --netlist FILE --channels B --chains C --out FILE` makes a configuration of compression hardware for the netlist, with `--length L` in
-/// place of the chains, and `--outputs O` and `--masks M` where they are wished, and saves it. All these take `--library FILE` for the cells. `generate --seed N --size N` makes a job of its own, compiles it and replays what comes of it; it
+/// place of the chains, and `--outputs O` and `--masks M` where they are wished, and saves it. `seek --netlist FILE --config FILE --clock NAME --limit N
+/// --out-cubes FILE --out-report FILE` seeks a test cube for each fault, which captures once in the named domain, with so many dead nodes of its
+/// search at most, and saves the cubes and a report. All these take `--library FILE` for the cells. `generate --seed N --size N` makes a job of its own, compiles it and replays what comes of it; it
 /// loads and saves nothing. Files are loaded in their turn, and each passes its checks before the next is loaded; all texts are made
 /// before the first is saved; and one line is printed, of a generated job two.
 ///
 /// A run ends in one of five ways. It answers what the words and the files come to, all is saved, and its line is put:
 /// Done, NotPassed, Refused with the first check that fails, or Usage. Or a load of a file whose turn came failed
 /// (ReadFault). Or a save failed, and nothing is printed; or the line could not be put whole (WriteFault). Or memory ran
-/// out. Only a scan, a compilation, a grading or a made configuration that passes all checks changes files.
+/// out. Only a scan, a compilation, a grading, a made configuration or a search that passes all checks changes files.
 ///
 /// Where a replay answers Done and the files are told, every run of the netlist over the patterns, whatever the starting
 /// bits, the order of clock edges and the free bits, shows each compared bit as printed; where it answers NotPassed and tells a
@@ -51,7 +54,8 @@ use std::alloc::Global;
 /// load a cube that the report calls unsolvable, in any run of the scanned netlist. Where a grading does, the patterns pass, the
 /// report that is saved has every fault in order with its grade, and a fault that is detected fails in every run of the netlist with
 /// it: the strobe that is named shows the opposite of the printed bit. Where a configuration is made, the file that is saved is read as
-/// what was made, and a compilation of the same netlist with it has no failing check before its cubes.
+/// what was made, and a compilation of the same netlist with it has no failing check before its cubes. Where a search does, each cube that is
+/// saved detects its fault in each assignment that completes it, and a fault is told to have none only where no assignment detects it.
 ///
 /// Where files are told that pass all checks of a command, and no call of the outside fails, the command answers Done, and a
 /// replay or a grading Done exactly where the verdict is Pass. A generated job, which needs no files, is Done where its lines can be put; one
@@ -71,6 +75,7 @@ pub fn run<F: Files, O: Sink>(alloc: Global, words: &[String], files: &mut F, ou
     ensures grades { GradesTold (map string_bytes words.entry.now) (F.held files.old) (F.held files.new) result }
     ensures ungraded { UngradedTold (map string_bytes words.entry.now) (F.held files.old) result }
     ensures configures { ConfiguresTold (map string_bytes words.entry.now) (F.held files.old) (F.held files.new) result }
+    ensures seeks { SeeksTold (map string_bytes words.entry.now) (F.held files.old) (F.held files.new) result }
     ensures generates { GeneratesJob (map string_bytes words.entry.now) (O.faults out.old) (O.faults out.new) result }
     ensures completes { CompletesTold (map string_bytes words.entry.now)
         (seen (F.held files.old) (F.failed files.old) (F.read_faults files.old) (F.write_faults files.old) (O.told out.old) (O.faults out.old))
@@ -130,6 +135,7 @@ fn outcome_of<F: Files>(
         Some(Command::Generate(numbers)) => outcome_of_generate(alloc, numbers),
         Some(Command::Grade(names)) => outcome_of_grade(alloc, names, files),
         Some(Command::Configure(names)) => outcome_of_configure(alloc, names, files),
+        Some(Command::Seek(names)) => outcome_of_seek(alloc, names, files),
     }
 }
 

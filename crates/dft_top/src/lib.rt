@@ -15,6 +15,7 @@ mod reading;
 mod replaying;
 mod saving;
 mod scanning;
+mod seeking;
 
 pub use command::run;
 pub use dft_answers::Status;

@@ -28,7 +28,7 @@ impl<'a> Saving<'a> {
 }
 
 /// Saves what a command saves of its outcome, in order: of a scan the scanned netlist, and then the report; of a compilation the scanned
-/// netlist, the patterns, and then the report; of a grading the report; of a made configuration its text.
+/// netlist, the patterns, and then the report; of a grading the report; of a made configuration its text; of a search the cube file, and then the report.
 pub fn save_outcome<F: Files>(
     alloc: Global,
     command: Option<Command<'_>>,
@@ -81,6 +81,11 @@ pub fn save_outcome<F: Files>(
         (Some(Command::Configure(names)), Outcome::Finished(Work::Configured { text, .. })) => {
             let text = Saving::of(names.out, text.as_slice());
             save_all(alloc, &[text], files)
+        }
+        (Some(Command::Seek(names)), Outcome::Finished(Work::Sought { cubes, report, .. })) => {
+            let cubes = Saving::of(names.out_cubes, cubes.as_slice());
+            let report = Saving::of(names.out_report, report.as_slice());
+            save_all(alloc, &[cubes, report], files)
         }
         _ => Ok(()),
     }

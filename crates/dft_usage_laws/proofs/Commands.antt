@@ -3,11 +3,11 @@ use Rattle.std.proofs.Common.{◌≡◌, ◌∙◌, ℕ, Bool, true, false, List
 use Rattle.std.specs.Prelude.{if◌then◌else◌}
 use Rattle.std.specs.Str.{bytes_eq}
 use Rattle.dft_base.proofs.TextLemmas.{bytes_eq-self, differ, same_text}
-use Rattle.dft_command_line.specs.Words.{AreNumbers, Command, CertifyFiles, CompileFiles, ConfigureFiles, GradeFiles, HardwareTexts, IsCertify, IsCompile, IsConfigure, IsFor, IsGenerate, IsGrade, IsOne, IsPerhapsWithin, IsReplay, IsScan, JobNumbers, OutputsDiffer, ReplayFiles, ScanFiles, Replay, Scan, Compile, Certify, Generate, Grade, Configure, certify_options, compile_options, configure_options, generate_options, grade_options, list_of, replay_options, scan_options}
-use Rattle.dft_explain.specs.Faults.{Fault, OneFile, Form, Pair, Range, Text, certify_form, chains, channels, compile_form, configure_form, fault_of_both, fault_of_command, fault_of_first, fault_of_number, fault_of_options, fault_of_right_options, first_fault, further_form, generate_form, grade_form, longest, masks, missing, no_number, not_one, one_file, or_else, outputs, replay_form, scan_form, seed, size, wrong_option}
-use Rattle.dft_explain.specs.Options.{compile_saves, grade_saves, is_text, scan_saves, value_of}
+use Rattle.dft_command_line.specs.Words.{AreNumbers, Command, CertifyFiles, CompileFiles, ConfigureFiles, GradeFiles, HardwareTexts, IsCertify, IsCompile, IsConfigure, IsFor, IsGenerate, IsGrade, IsOne, IsPerhapsWithin, IsReplay, IsScan, IsSeek, JobNumbers, OutputsDiffer, ReplayFiles, ScanFiles, SeekFiles, Replay, Scan, Compile, Certify, Generate, Grade, Configure, Seek, certify_options, compile_options, configure_options, generate_options, grade_options, list_of, replay_options, scan_options, seek_options}
+use Rattle.dft_explain.specs.Faults.{Fault, OneFile, Form, Pair, Range, Text, certify_form, chains, channels, compile_form, configure_form, fault_of_both, fault_of_command, fault_of_first, fault_of_number, fault_of_options, fault_of_right_options, first_fault, further_form, generate_form, grade_form, limit, longest, masks, missing, no_number, not_one, one_file, or_else, outputs, replay_form, scan_form, seed, seek_form, size, wrong_option}
+use Rattle.dft_explain.specs.Options.{compile_saves, grade_saves, is_text, value_of}
 use Rattle.dft_usage_laws.proofs.Forms.{Backed, all_there, backed, none_missing, plain_of, whole}
-use Rattle.dft_usage_laws.proofs.Numbers.{Number, chains_number, channels_number, longest_number, masks_number, number_chains, number_channels, number_longest, number_masks, number_outputs, number_seed, number_size, outputs_number, seed_number, size_number}
+use Rattle.dft_usage_laws.proofs.Numbers.{Number, chains_number, channels_number, limit_number, longest_number, masks_number, number_chains, number_channels, number_limit, number_longest, number_masks, number_outputs, number_seed, number_size, outputs_number, seed_number, size_number}
 use Rattle.dft_usage_laws.proofs.Taking.{IsPlain, or_both, or_none}
 use Rattle.dft_usage_laws.specs.Usage.{FaultsAreUsage, IsCommandLine}
 
@@ -373,35 +373,38 @@ configure_is (name ∷ words) files is =
 scan_plain : IsPlain scan_form
 scan_plain = plain_of scan_form ((refl, omega arith), ((refl, omega arith), ((refl, omega arith), ((refl, omega arith), ((refl, omega arith), tt)))))
 
--- the fault of two outputs, by their values
-abbrev scan_by : (out report : Option Text) → (second : Text) → (file : Option Text) → Option Fault
-scan_by out report second None = None
-scan_by out report second (Some file) = fault_of_first (if is_text file out then Some (codes "out") else (if is_text file report then Some (codes "report") else None)) second file
+-- the fault of two outputs of these options, by their values
+abbrev two_by : (one two : Text) → (out report : Option Text) → (second : Text) → (file : Option Text) → Option Fault
+two_by one two out report second None = None
+two_by one two out report second (Some file) = fault_of_first (if is_text file out then Some one else (if is_text file report then Some two else None)) second file
 
-abbrev scan_outputs : (out report : Option Text) → Option Fault
-scan_outputs out report = or_else (scan_by out report (codes "out") out) (or_else (scan_by out report (codes "report") report) None)
+abbrev two_outputs : (one two : Text) → (out report : Option Text) → Option Fault
+two_outputs one two out report = or_else (two_by one two out report one out) (or_else (two_by one two out report two report) None)
 
 -- the same, by which names are equal
-abbrev scan_told : (same apart own : Bool) → (other : Option Text) → (out report : Text) → Option Fault
-scan_told same apart own other out report =
-    or_else (fault_of_first (if same then Some (codes "out") else other) (codes "out") out)
-    (or_else (fault_of_first (if apart then Some (codes "out") else (if own then Some (codes "report") else None)) (codes "report") report) None)
+abbrev two_told : (one two : Text) → (same apart own : Bool) → (other : Option Text) → (out report : Text) → Option Fault
+two_told one two same apart own other out report =
+    or_else (fault_of_first (if same then Some one else other) one out) (or_else (fault_of_first (if apart then Some one else (if own then Some two else None)) two report) None)
 
 -- two outputs of one name are a fault
-scan_same : (words : List Text) (out report : Text) → value_of (codes "out") words ≡ Some out → value_of (codes "report") words ≡ Some report → one_file scan_saves words scan_saves ≡ None → out ≡ report → ⊥
-scan_same words out report a b e same =
-    let values : one_file scan_saves words scan_saves ≡ scan_outputs (Some report) (Some report) = ap₂ scan_outputs (a ∙ ap Some same) b in
-    let other = if bytes_eq report report then Some (codes "report") else None in
-    let told : scan_outputs (Some report) (Some report) ≡ Some (OneFile (codes "out") (codes "report") report) =
-    ap₂ (λ s d. scan_told s d (bytes_eq report report) other report report) (bytes_eq-self report) (bytes_eq-self report) in none_some (sym e ∙ (values ∙ told))
+two_same : (one two : Text) → bytes_eq one two ≡ false → (words : List Text) (out report : Text) → value_of one words ≡ Some out → value_of two words ≡ Some report → one_file (one ∷ two ∷ []) words (one ∷ two ∷ []) ≡ None → out ≡ report → ⊥
+two_same one two differ words out report a b e same =
+    let values : one_file (one ∷ two ∷ []) words (one ∷ two ∷ []) ≡ two_outputs one two (Some report) (Some report) = ap₂ (two_outputs one two) (a ∙ ap Some same) b in
+    let other = if bytes_eq report report then Some two else None in
+    let by_names : two_outputs one two (Some report) (Some report) ≡ two_told one two true true (bytes_eq report report) other report report =
+    ap₂ (λ s d. two_told one two s d (bytes_eq report report) other report report) (bytes_eq-self report) (bytes_eq-self report) in
+    let told : two_told one two true true (bytes_eq report report) other report report ≡ Some (OneFile one two report) =
+    ap₂ (λ p q. or_else (if p then None else Some (OneFile one one report)) (or_else (if q then None else Some (OneFile one two report)) None)) (bytes_eq-self one) differ in
+    none_some (sym e ∙ (values ∙ (by_names ∙ told)))
 
-scan_apart : (words : List Text) (out report : Text) → value_of (codes "out") words ≡ Some out → value_of (codes "report") words ≡ Some report → (out ≡ report → ⊥) → one_file scan_saves words scan_saves ≡ None
-scan_apart words out report a b apart =
-    let values : one_file scan_saves words scan_saves ≡ scan_outputs (Some out) (Some report) = ap₂ scan_outputs a b in
-    let other = if bytes_eq report out then Some (codes "report") else None in
+two_apart : (one two : Text) → (words : List Text) (out report : Text) → value_of one words ≡ Some out → value_of two words ≡ Some report → (out ≡ report → ⊥) → one_file (one ∷ two ∷ []) words (one ∷ two ∷ []) ≡ None
+two_apart one two words out report a b apart =
+    let values : one_file (one ∷ two ∷ []) words (one ∷ two ∷ []) ≡ two_outputs one two (Some out) (Some report) = ap₂ (two_outputs one two) a b in
+    let other = if bytes_eq report out then Some two else None in
     values
-    ∙ (ap₂ (λ s d. scan_told s d (bytes_eq report report) other out report) (bytes_eq-self out) (differ out report apart)
-    ∙ ap (λ r. scan_told true false r other out report) (bytes_eq-self report))
+    ∙ (ap₂ (λ s d. two_told one two s d (bytes_eq report report) other out report) (bytes_eq-self out) (differ out report apart)
+    ∙ (ap (λ r. two_told one two true false r other out report) (bytes_eq-self report)
+    ∙ ap₂ (λ p q. or_else (if p then None else Some (OneFile one one out)) (or_else (if q then None else Some (OneFile two two report)) None)) (bytes_eq-self one) (bytes_eq-self two)))
 
 scan_words : (words : List Text) → fault_of_options scan_form words ≡ None → (files : ScanFiles) × IsScan (codes "scan" ∷ words) files
 scan_words words e =
@@ -421,7 +424,7 @@ scan_words words e =
             ),
           );
         },
-        scan_same words m.1.1.0.0 m.1.1.1.0.0 m.1.1.0.1 m.1.1.1.0.1 p.files,
+        two_same (codes "out") (codes "report") refl words m.1.1.0.0 m.1.1.1.0.0 m.1.1.0.1 m.1.1.1.0.1 p.files,
       ),
     )
 
@@ -432,7 +435,7 @@ scan_backed words files apart b = no_parts scan_form words (record {
       ((files.netlist, b.values.0), ((files.config, b.values.1.0), ((files.out, b.values.1.1.0), ((files.report, b.values.1.1.1.0), tt))));
   pair = refl;
   numbers = refl;
-  files = scan_apart words files.out files.report b.values.1.1.0 b.values.1.1.1.0 apart;
+  files = two_apart (codes "out") (codes "report") words files.out files.report b.values.1.1.0 b.values.1.1.1.0 apart;
 })
 
 scan_is : (words : List Text) (files : ScanFiles) → IsScan words files → first_fault words ≡ None
@@ -440,6 +443,68 @@ scan_is [] files is = absurd (no_word _ _ is.0.are.written)
 scan_is (name ∷ words) files is =
     subst (λ (n : Text). first_fault (n ∷ words) ≡ None) (sym (same_first _ _ _ _ is.0.are.written))
     (scan_backed words files is.1 (backed scan_form scan_plain (scan_options files) refl (refl, (refl, (refl, (refl, (refl, tt))))) words is.0.given (same_others _ _ _ _ is.0.are.written) is.0.are.values is.0.are.known is.0.each))
+
+-- ---- seek
+
+seek_plain : IsPlain seek_form
+seek_plain = plain_of seek_form ((refl, omega arith), ((refl, omega arith), ((refl, omega arith), ((refl, omega arith), ((refl, omega arith), ((refl, omega arith), ((refl, omega arith), tt)))))))
+
+seek_words : (words : List Text) → fault_of_options seek_form words ≡ None → (files : SeekFiles) × IsSeek (codes "seek" ∷ words) files
+unfolding limit
+seek_words words e =
+    let p = parts_of seek_form words e in
+    let w = whole seek_form seek_plain words p.right in
+    let m = none_missing (codes "netlist" ∷ codes "config" ∷ codes "clock" ∷ codes "limit" ∷ codes "out-cubes" ∷ codes "out-report" ∷ []) words p.there in
+    let alone = or_both (fault_of_number limit (value_of (codes "limit") words)) None p.numbers in
+    let n = limit_number m.1.1.1.0.0 (sym (ap (fault_of_number limit) m.1.1.1.0.1) ∙ alone.0) in (
+      record { library = value_of (codes "library") words; netlist = m.0.0; config = m.1.0.0; clock = m.1.1.0.0; limit = n.number; out_cubes = m.1.1.1.1.0.0; out_report = m.1.1.1.1.1.0.0 },
+      record {
+        limit = m.1.1.1.0.0;
+        written = record {
+          given = w.given;
+          are = w.are;
+          each = (
+            w.each (codes "netlist") refl ∙ ap list_of m.0.1,
+            (
+              w.each (codes "config") refl ∙ ap list_of m.1.0.1,
+              (
+                w.each (codes "clock") refl ∙ ap list_of m.1.1.0.1,
+                (
+                  w.each (codes "limit") refl ∙ ap list_of m.1.1.1.0.1,
+                  (
+                    w.each (codes "out-cubes") refl ∙ ap list_of m.1.1.1.1.0.1,
+                    (w.each (codes "out-report") refl ∙ ap list_of m.1.1.1.1.1.0.1, (w.each (codes "library") refl, tt)),
+                  ),
+                ),
+              ),
+            ),
+          );
+        };
+        is = n.is;
+        most = n.high;
+        differ = two_same (codes "out-cubes") (codes "out-report") refl words m.1.1.1.1.0.0 m.1.1.1.1.1.0.0 m.1.1.1.1.0.1 m.1.1.1.1.1.0.1 p.files;
+      },
+    )
+
+seek_backed : (words : List Text) (files : SeekFiles) (text : Text) → Number 7 0 1000000 text → (files.out_cubes ≡ files.out_report → ⊥) → Backed seek_form (seek_options files text) words → fault_of_options seek_form words ≡ None
+unfolding limit
+seek_backed words files text n apart b =
+    let v = b.values in
+    no_parts seek_form words (record {
+      right = b.right;
+      there = all_there (codes "netlist" ∷ codes "config" ∷ codes "clock" ∷ codes "limit" ∷ codes "out-cubes" ∷ codes "out-report" ∷ []) words
+          ((files.netlist, v.0), ((files.config, v.1.0), ((files.clock, v.1.1.0), ((text, v.1.1.1.0), ((files.out_cubes, v.1.1.1.1.0), ((files.out_report, v.1.1.1.1.1.0), tt))))));
+      pair = refl;
+      numbers = ap (λ t. or_else (fault_of_number limit t) None) v.1.1.1.0 ∙ ap (λ f. or_else f None) (number_limit text n);
+      files = two_apart (codes "out-cubes") (codes "out-report") words files.out_cubes files.out_report v.1.1.1.1.0 v.1.1.1.1.1.0 apart;
+    })
+
+seek_is : (words : List Text) (files : SeekFiles) → IsSeek words files → first_fault words ≡ None
+seek_is [] files is = absurd (no_word _ _ is.written.are.written)
+seek_is (name ∷ words) files is =
+    subst (λ (n : Text). first_fault (n ∷ words) ≡ None) (sym (same_first _ _ _ _ is.written.are.written))
+    (seek_backed words files is.limit (record { number = files.limit; is = is.is; low = omega arith; high = is.most }) is.differ
+    (backed seek_form seek_plain (seek_options files is.limit) refl (refl, (refl, (refl, (refl, (refl, (refl, (refl, tt))))))) words is.written.given (same_others _ _ _ _ is.written.are.written) is.written.are.values is.written.are.known is.written.each))
 
 -- ---- compile
 
@@ -568,13 +633,15 @@ usage words (Certify files) is = certify_is words files is
 usage words (Generate job) is = generate_is words job is
 usage words (Grade files) is = grade_is words files is
 usage words (Configure files) is = configure_is words files is
+usage words (Seek files) is = seek_is words files is
 
-further_by_name : (name : Text) (words : List Text) (a b c : Bool) → bytes_eq name (codes "generate") ≡ a → bytes_eq name (codes "grade") ≡ b → bytes_eq name (codes "configure") ≡ c
-    → fault_of_command name (if a then Some generate_form else (if b then Some grade_form else (if c then Some configure_form else None))) words ≡ None → IsCommandLine (name ∷ words)
-further_by_name name words true b c i j k f = let r = generate_words words f in (Generate r.0, subst (λ (t : Text). IsGenerate (t ∷ words) r.0) (sym (same_text name (codes "generate") i)) r.1)
-further_by_name name words false true c i j k f = let r = grade_words words f in (Grade r.0, subst (λ (t : Text). IsGrade (t ∷ words) r.0) (sym (same_text name (codes "grade") j)) r.1)
-further_by_name name words false false true i j k f = let r = configure_words words f in (Configure r.0, subst (λ (t : Text). IsConfigure (t ∷ words) r.0) (sym (same_text name (codes "configure") k)) r.1)
-further_by_name name words false false false i j k f = absurd cc
+further_by_name : (name : Text) (words : List Text) (a b c d : Bool) → bytes_eq name (codes "generate") ≡ a → bytes_eq name (codes "grade") ≡ b → bytes_eq name (codes "configure") ≡ c → bytes_eq name (codes "seek") ≡ d
+    → fault_of_command name (if a then Some generate_form else (if b then Some grade_form else (if c then Some configure_form else (if d then Some seek_form else None)))) words ≡ None → IsCommandLine (name ∷ words)
+further_by_name name words true b c d i j k l f = let r = generate_words words f in (Generate r.0, subst (λ (t : Text). IsGenerate (t ∷ words) r.0) (sym (same_text name (codes "generate") i)) r.1)
+further_by_name name words false true c d i j k l f = let r = grade_words words f in (Grade r.0, subst (λ (t : Text). IsGrade (t ∷ words) r.0) (sym (same_text name (codes "grade") j)) r.1)
+further_by_name name words false false true d i j k l f = let r = configure_words words f in (Configure r.0, subst (λ (t : Text). IsConfigure (t ∷ words) r.0) (sym (same_text name (codes "configure") k)) r.1)
+further_by_name name words false false false true i j k l f = let r = seek_words words f in (Seek r.0, subst (λ (t : Text). IsSeek (t ∷ words) r.0) (sym (same_text name (codes "seek") l)) r.1)
+further_by_name name words false false false false i j k l f = absurd cc
 
 by_name : (name : Text) (words : List Text) (a b c d : Bool) → bytes_eq name (codes "replay") ≡ a → bytes_eq name (codes "scan") ≡ b → bytes_eq name (codes "compile") ≡ c → bytes_eq name (codes "certify") ≡ d
     → fault_of_command name (if a then Some replay_form else (if b then Some scan_form else (if c then Some compile_form else (if d then Some certify_form else further_form name)))) words ≡ None
@@ -583,7 +650,7 @@ by_name name words true b c d i j k l f = let r = replay_words words f in (Repla
 by_name name words false true c d i j k l f = let r = scan_words words f in (Scan r.0, subst (λ (t : Text). IsScan (t ∷ words) r.0) (sym (same_text name (codes "scan") j)) r.1)
 by_name name words false false true d i j k l f = let r = compile_words words f in (Compile r.0, subst (λ (t : Text). IsCompile (t ∷ words) r.0) (sym (same_text name (codes "compile") k)) r.1)
 by_name name words false false false true i j k l f = let r = certify_words words f in (Certify r.0, subst (λ (t : Text). IsCertify (t ∷ words) r.0) (sym (same_text name (codes "certify") l)) r.1)
-by_name name words false false false false i j k l f = further_by_name name words (bytes_eq name (codes "generate")) (bytes_eq name (codes "grade")) (bytes_eq name (codes "configure")) refl refl refl f
+by_name name words false false false false i j k l f = further_by_name name words (bytes_eq name (codes "generate")) (bytes_eq name (codes "grade")) (bytes_eq name (codes "configure")) (bytes_eq name (codes "seek")) refl refl refl refl f
 
 command : (words : List Text) → first_fault words ≡ None → IsCommandLine words
 command [] e = absurd cc

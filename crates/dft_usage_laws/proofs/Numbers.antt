@@ -10,7 +10,7 @@ use Rattle.std.specs.Str.Parse.{digits_value}
 use Rattle.dft_command_line.specs.CommandLine as line
 use Rattle.dft_command_line.specs.Words.{IsDecimal}
 use Rattle.dft_command_line.proofs.JobWords.{decimal_is, is_decimal_of}
-use Rattle.dft_explain.specs.Faults.{NoNumber, Range, Text, chains, channels, decimal_of, fault_of_number, is_between, is_in, longest, masks, outputs, seed, size}
+use Rattle.dft_explain.specs.Faults.{NoNumber, Range, Text, chains, channels, decimal_of, fault_of_number, is_between, is_in, limit, longest, masks, outputs, seed, size}
 
 not_less : (a b : ℕ) → b ≤ a → nat_lt a b ≡ false
 not_less a b p = grind (arith, nat_tests, p)
@@ -133,3 +133,11 @@ masks_number text e = number_by 2 1 32 text (nat_lt 2 (length text)) refl (in_ra
 pub number_masks : (text : Text) → Number 2 1 32 text → fault_of_number masks (Some text) ≡ None
 unfolding masks
 number_masks text n = no_fault masks text (number_in 2 1 32 text n)
+
+pub limit_number : (text : Text) → fault_of_number limit (Some text) ≡ None → Number 7 0 1000000 text
+unfolding limit
+limit_number text e = number_by 7 0 1000000 text (nat_lt 7 (length text)) refl (in_range limit text (is_in limit text) e)
+
+pub number_limit : (text : Text) → Number 7 0 1000000 text → fault_of_number limit (Some text) ≡ None
+unfolding limit
+number_limit text n = no_fault limit text (number_in 7 0 1000000 text n)

@@ -13,7 +13,8 @@ returns c =
     let certify_is = c.in_ok-subcommand-4.ensures.shape c.in_ok-form-4.ensures.local ∙ ap₂ with_subcommand compile_is (ap (λ (a : App). a.top) c.in_ok-form-4.ensures.app) in
     let generate_is = c.in_ok-subcommand-5.ensures.shape c.in_ok-form-5.ensures.local ∙ ap₂ with_subcommand certify_is (ap (λ (a : App). a.top) c.in_ok-form-5.ensures.app) in
     let grade_is = c.in_ok-subcommand-6.ensures.shape c.in_ok-form-6.ensures.local ∙ ap₂ with_subcommand generate_is (ap (λ (a : App). a.top) c.in_ok-form-6.ensures.app) in
-    let dft_is : app_of c.in_ok-dft.dft ≡ dft_app = c.in_ok-dft.ensures.shape c.in_ok-form-7.ensures.local ∙ ap₂ with_subcommand grade_is (ap (λ (a : App). a.top) c.in_ok-form-7.ensures.app) in
+    let configure_is = c.in_ok-subcommand-7.ensures.shape c.in_ok-form-7.ensures.local ∙ ap₂ with_subcommand grade_is (ap (λ (a : App). a.top) c.in_ok-form-7.ensures.app) in
+    let dft_is : app_of c.in_ok-dft.dft ≡ dft_app = c.in_ok-dft.ensures.shape c.in_ok-form-8.ensures.local ∙ ap₂ with_subcommand configure_is (ap (λ (a : App). a.top) c.in_ok-form-8.ensures.app) in
     let texts : List Text = map (string_bytes {Z = Global}) c.args.words.now in
     let parse = c.try_get_matches_from in
     record {

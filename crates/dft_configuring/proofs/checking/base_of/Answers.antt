@@ -1,8 +1,6 @@
 -- The checks in their order.
 use Rattle.std.proofs.Common.{◌≡◌, ◌∙◌, ◌≤◌, ℕ, ap, subst, sym}
-use Rattle.std.specs.Prelude.{option_map}
 use Rattle.std.proofs.lemmas.Result.{err_from_is_err_and}
-use Rattle.dft_configuring.specs.declared.error.ConfigureError.TheVariants.{Rules}
 use Rattle.dft_configuring.specs.Rooted.{cell_count, chain_count}
 use Rattle.dft_configuring.specs.Wanted.{chains_for}
 use Rattle.dft_configuring.proofs.CheckLemmas.{at_chains, at_clocks, at_masks, at_outputs, at_rules, none_fails}
@@ -50,7 +48,7 @@ returns-in_err-check_outputs-clause-refused c =
     let clocks = rw (c.deref.ensures.value, c.in_ok-roots.ensures.domains) at c.in_ok-check_clocks.ensures.ok in
     let found : c.chains_for.result ≡ chain_count n wanted = c.chains_for.ensures ∙ ap (chains_for wanted) c.in_ok-cells.ensures.count in
     let chains : c.in_ok-chains.chains ≡ chain_count n wanted = c.in_ok-chains.ensures.few.0 ∙ found in
-    let rules = ap (option_map Rules) (rw chains at c.in_ok-check_rules.ensures.ok) in
+    let rules = rw chains at c.in_ok-check_rules.ensures.none in
     rw (p.1, p.2) (at_outputs n wanted c.in_err-check_outputs.field-0.0 clocks (rw found at c.in_ok-chains.ensures.ok) rules (rw (c.outputs_of.ensures, chains) at c.in_err-check_outputs.ensures.refused))
 
 pub returns-in_err-check_masks-clause-refused : goal.returns-in_err-check_masks-clause-refused
@@ -61,7 +59,7 @@ returns-in_err-check_masks-clause-refused c =
     let clocks = rw (c.deref.ensures.value, c.in_ok-roots.ensures.domains) at c.in_ok-check_clocks.ensures.ok in
     let found : c.chains_for.result ≡ chain_count n wanted = c.chains_for.ensures ∙ ap (chains_for wanted) c.in_ok-cells.ensures.count in
     let chains : c.in_ok-chains.chains ≡ chain_count n wanted = c.in_ok-chains.ensures.few.0 ∙ found in
-    let rules = ap (option_map Rules) (rw chains at c.in_ok-check_rules.ensures.ok) in
+    let rules = rw chains at c.in_ok-check_rules.ensures.none in
     rw (p.1, p.2) (at_masks n wanted c.in_err-check_masks.field-0.0 clocks (rw found at c.in_ok-chains.ensures.ok) rules (rw (c.outputs_of.ensures, chains) at c.in_ok-check_outputs.ensures.ok) (rw chains at c.in_err-check_masks.ensures.refused))
 
 pub returns-clause-base : goal.returns-clause-base
@@ -81,7 +79,7 @@ returns-clause-base c =
       chains = chains;
       few = c.in_ok-cells.ensures.few;
       accepted = record {
-        none = none_fails n wanted clocks many (ap (option_map Rules) rules) outputs masks;
+        none = none_fails n wanted clocks many (rw chains at c.in_ok-check_rules.ensures.none) outputs masks;
         clocks = rw (c.deref.ensures.value, c.in_ok-roots.ensures.domains) at c.in_ok-check_clocks.ensures.some;
         few = (chains_some wanted (cell_count n) c.requires, subst (λ (k : ℕ). k ≤ 1024) found c.in_ok-chains.ensures.few.1);
         scanned = rules;

@@ -1,10 +1,5 @@
-use Rattle.std.proofs.Common.{◌≤◌, length, arith}
-use Rattle.std.proofs.lemmas.Result.{IfOk-weaker}
-use Rattle.dft_config.specs.Config.{Config}
-use Rattle.dft_config.specs.Refusals.{IsConfig}
+use Rattle.std.proofs.lemmas.Result.{err_from_is_err_and}
 use Rattle.dft_configuring.proofs.reading.read_text.Goals as goal
 
-pub returns-clause-short : goal.returns-clause-short
-returns-clause-short c =
-    let short : length c.args.text.now ≤ 67108864 = omega arith in
-    IfOk-weaker c.read.result (IsConfig c.args.text.now) (λ (config : Config). length c.args.text.now ≤ 67108864) (λ config is. short) c.read.ensures.config
+pub returns-in_err-check_length-clause-refused : goal.returns-in_err-check_length-clause-refused
+returns-in_err-check_length-clause-refused c = let p = err_from_is_err_and c.from_residual.result c.from_residual.ensures.1 in rw (p.1, p.2) c.in_err-check_length.ensures.refused

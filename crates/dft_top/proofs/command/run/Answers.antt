@@ -5,6 +5,7 @@ use Rattle.dft_top.proofs.JobFits.{jobs_fit}
 use Rattle.dft_top.proofs.JobReplays.{jobs_pass}
 use Rattle.dft_top.proofs.Kept.{kept_for}
 use Rattle.dft_top.proofs.Promised.{certifies_for, compiles_for, configures_for, grades_for, passes_for, scans_for}
+use Rattle.dft_top.proofs.SeekPromised.{seeks_for}
 use Rattle.dft_top.proofs.Sized.{sized_for}
 use Rattle.dft_top.proofs.command.run.Goals as goal
 
@@ -40,6 +41,9 @@ returns-in-Ok-clause-ungraded g c = ungraded_for _ _ _ _ _ c.in-Ok.ensures c.run
 
 pub returns-in-Ok-clause-configures : goal.returns-in-Ok-clause-configures
 returns-in-Ok-clause-configures g c = configures_for _ _ _ _ _ c.in-Ok.ensures c.run_command.ensures
+
+pub returns-in-Ok-clause-seeks : goal.returns-in-Ok-clause-seeks
+returns-in-Ok-clause-seeks g c = seeks_for _ _ _ _ _ c.in-Ok.ensures c.run_command.ensures
 
 pub run_command-requires-clause-sized : goal.run_command-requires-clause-sized
 run_command-requires-clause-sized g c = sized_for _ _ c.in-Ok.ensures

@@ -1,4 +1,4 @@
-use Rattle.dft_top.proofs.PassingFiles.{passing_certified, passing_compiled, passing_graded, passing_replayed, passing_scanned, passing_configured}
+use Rattle.dft_top.proofs.PassingFiles.{passing_certified, passing_compiled, passing_graded, passing_replayed, passing_scanned, passing_configured, passing_sought}
 use Rattle.dft_top.proofs.laws.passing_files_are_answered.Goals as goal
 
 pub returns-clause-replayed : goal.returns-clause-replayed
@@ -18,3 +18,6 @@ returns-clause-graded c = passing_graded
 
 pub returns-clause-configured : goal.returns-clause-configured
 returns-clause-configured c = passing_configured
+
+pub returns-clause-sought : goal.returns-clause-sought
+returns-clause-sought c = passing_sought

@@ -1,0 +1,109 @@
+-- What Done says of the files of a search.
+use Rattle.std.proofs.Common.{ℕ, ◌≡◌, ◌∙◌, List, [], ◌∷◌, refl, sym, ap, subst, Option, None, Some, Ok}
+use Rattle.dft_base.proofs.TextLemmas.{differ}
+use Rattle.dft_files.specs.Outside.{Held, Told as ToldOf, ToldChange}
+use Rattle.dft_netlist.specs.Netlist.{Netlist}
+use Rattle.dft_netlist.proofs.RankLemmas.{order_ranks}
+use Rattle.dft_config.specs.Config.{Config}
+use Rattle.dft_cubes.specs.Cubes.{domain_named}
+use Rattle.dft_cubes_out.specs.Written.{cubes_text}
+use Rattle.dft_stitch.specs.Chains.{plan_of}
+use Rattle.dft_stitch.specs.Plans.{Plan}
+use Rattle.dft_seeking.specs.declared.error.SeekError.{SeekError}
+use Rattle.dft_seeking.specs.Refusals.{refusal}
+use Rattle.dft_seeking.specs.Told.{Told, AreTold, counts_of, cubes_in}
+use Rattle.dft_seeking.specs.Written.{report_text}
+use Rattle.dft_seeking.proofs.OneLemmas.{told_true}
+use Rattle.dft_command_line.specs.Words.{Command, AreFor, Seek, SeekFiles}
+use Rattle.dft_command_line.proofs.Understood.{for_once}
+use Rattle.dft_answers.specs.declared.answer.Answer.{Answer}
+use Rattle.dft_answers.specs.declared.answer.Refusal.{Refusal}
+use Rattle.dft_answers.specs.declared.answer.Status.TheVariants.{Done}
+use Rattle.dft_answers.specs.declared.outcome.Outcome.{Outcome}
+use Rattle.dft_answers.specs.declared.outcome.Outcome.TheVariants.{Finished}
+use Rattle.dft_answers.specs.declared.outcome.Work.TheVariants as work
+use Rattle.dft_answers.specs.Answers.{status_of}
+use Rattle.dft_answers.specs.Refusals.{seek_refusal}
+use Rattle.dft_top.specs.Checks.{ConfigGives, IsPlanned, LibraryGives, NetlistGives, PlanGives}
+use Rattle.dft_top.specs.Courses.{Reaches}
+use Rattle.dft_top.specs.Outcomes.{IsOutcomeOfSeek, IsOutcomeOfTold, IsRefusal, course_of_seek}
+use Rattle.dft_top.specs.Promises.{Seeks}
+use Rattle.dft_top.specs.Run.{EndsFor, Seen, SeeksTold}
+use Rattle.dft_top.specs.Saves.{AreSaved, HaveSaved, Saving, savings}
+use Rattle.dft_top.proofs.Promised.{design_of, ends_done, saved_lost, saved_untold, then_done}
+use Rattle.dft_top.proofs.Steps.{SeekOf, SeekOn, SeekOver}
+
+-- a refusal is not done
+not_done : (r : Option Refusal) (o : Outcome) → IsRefusal r o → status_of o ≡ Done → ⊥
+not_done None o is done = is
+not_done (Some told) o is done = let e = ap status_of (sym is) ∙ done in cc
+
+record IsDoneSearch (n : Netlist) (config : Config) (domain limit : ℕ) (o : Outcome) : Type 0 where
+  told : List Told
+  are : AreTold n config domain limit told
+  is : o ≡ Finished (work.Sought (counts_of told) (cubes_text n config (cubes_in told)) (report_text n told))
+
+told_done : (n : Netlist) (config : Config) (told : List Told) (refused : Option SeekError) (o : Outcome) → status_of o ≡ Done → IsOutcomeOfTold n config told refused o → o ≡ Finished (work.Sought (counts_of told) (cubes_text n config (cubes_in told)) (report_text n told))
+told_done n config told (Some error) o done is = absurd (not_done (seek_refusal error) o is done)
+told_done n config told None o done is = is
+
+record IsDoneSeek (n : Netlist) (config : Config) (clock : List ℕ) (limit : ℕ) (o : Outcome) : Type 0 where
+  domain : ℕ
+  clock_is : domain_named config clock ≡ Some domain
+  search : IsDoneSearch n config domain limit o
+
+seek_done : (n : Netlist) (config : Config) (clock : List ℕ) (limit : ℕ) (domain : Option ℕ) (o : Outcome) → domain_named config clock ≡ domain → status_of o ≡ Done → IsOutcomeOfSeek n config clock limit domain o → IsDoneSeek n config clock limit o
+seek_done n config clock limit None o named done is = absurd (let e = ap status_of (sym is) ∙ done in cc)
+seek_done n config clock limit (Some domain) o named done is = record {
+  domain = domain;
+  clock_is = named;
+  search = record { told = is.told; are = is.are; is = told_done n config is.told (refusal n config is.told) o done is.outcome };
+}
+
+-- the two files that a search saves
+abbrev both_savings : SeekFiles → Netlist → Config → List Told → List Saving
+both_savings files n config told = record { name = files.out_cubes; bytes = cubes_text n config (cubes_in told) } ∷ record { name = files.out_report; bytes = report_text n told } ∷ []
+
+planned_as : (n : Netlist) (config : Config) (plan : Plan) → IsPlanned n config plan → PlanGives n config (Ok (plan_of n config))
+planned_as n config plan is = record { is = refl; ready = is.ready; accepted = is.accepted }
+
+seeks : (files : SeekFiles) (old new : Held) (o : Outcome) → status_of o ≡ Done → Reaches (course_of_seek files) old o → HaveSaved (savings (Some (Seek files)) o) (Some old) (Some new) → Seeks files old new
+seeks files old new o done h saved =
+    let x = then_done (LibraryGives files.library old) (SeekOver files old) o done h in
+    let y = then_done (ConfigGives files.config old) (SeekOn files x.0 old) o done x.1.1 in
+    let c = y.0 in
+    let z = then_done (NetlistGives x.0 files.netlist old) (SeekOf files c old) o done y.1.1 in
+    let n = z.0 in
+    let p = then_done (PlanGives n c) (λ plan. IsOutcomeOfSeek n c files.clock files.limit (domain_named c files.clock)) o done z.1.1 in
+    let d = seek_done n c files.clock files.limit (domain_named c files.clock) o refl done p.1.1 in
+    let s = d.search in
+    let left : AreSaved (both_savings files n c s.told) old new = subst (λ (end : Outcome). HaveSaved (savings (Some (Seek files)) end) (Some old) (Some new)) s.is saved in
+    let design = design_of x.0 files.netlist old n z.1.0 in
+    let ranked = order_ranks n design.1.order design.1.sound design.1.ordered in record {
+      cells = x.0;
+      library = x.1.0;
+      config = c;
+      settings = y.1.0;
+      netlist = n;
+      design = z.1.0;
+      plan = planned_as n c p.0 p.1.0;
+      domain = d.domain;
+      clock = d.clock_is;
+      told = s.told;
+      are = s.are;
+      cubes = left.whole.0;
+      report = left.whole.1.0;
+      others = λ name a b. left.others name (differ files.out_cubes name (λ e. a (sym e)), (differ files.out_report name (λ e. b (sym e)), tt));
+      holds = told_true n c d.domain files.limit s.told ranked.0 ranked.1 p.1.0.ready.library s.are;
+    }
+
+told_seeks : (files : SeekFiles) (held held' : Option Held) (o : Outcome) → status_of o ≡ Done → ToldOf (λ h. Reaches (course_of_seek files) h o) held → HaveSaved (savings (Some (Seek files)) o) held held' → ToldChange (Seeks files) held held'
+told_seeks files None held' o done told saved = saved_untold (savings (Some (Seek files)) o) held' saved
+told_seeks files (Some old) None o done told saved = saved_lost (savings (Some (Seek files)) o) old saved
+told_seeks files (Some old) (Some new) o done told saved = seeks files old new o done told saved
+
+pub seeks_for : (words : List (List ℕ)) (command : Option Command) (before after : Seen) (answer : Answer) → AreFor words command → EndsFor command before after answer → SeeksTold words before.held after.held answer
+seeks_for words command before after answer are ended files is done =
+    let ends = subst (λ (command : Option Command). EndsFor command before after answer) (for_once words command (Some (Seek files)) are is) ended in
+    let d = ends_done (Some (Seek files)) before after answer ends done in
+    told_seeks files before.held after.held d.o d.done d.told.told d.saved
