@@ -13,6 +13,7 @@ would be longer than 67,108,864 bytes. seek.py told FOLDER: one whose report wou
 The same words make the same files.
 """
 import random
+import re
 import sys
 
 CONFIGURATION = """version = 1
@@ -145,7 +146,7 @@ def processor(registers=22, bits=32):
     read = parts.decoded([f"op{k}_q" for k in range(5, 10)], registers)
     writes = [parts.both(one, "op10_q") for one in write]
     for r in range(registers):
-        parts.lines.append(f"wire [{bits - 1}:0] file{r};\n")
+        parts.lines.append(f"wire {', '.join(f'r{r}_{k}_q' for k in range(bits))};\nwire [{bits - 1}:0] file{r};\n")
         parts.lines += [f"assign file{r}[{k}] = r{r}_{k}_q;\n" for k in range(bits)]
     value = [parts.any_of_pairs([(f"file{r}[{k}]", read[r]) for r in range(registers)]) for k in range(bits)]
     carry, total = "op11_q", []
@@ -250,7 +251,10 @@ def small(seed):
     order = ports + shown
     dice.shuffle(order)
     declared = "".join(f"input {f'[{width - 1}:0] ' if port == 'v' else ''}{port};\n" for port in ports) + "".join(f"output {port};\n" for port in shown)
-    return f"module m ({', '.join(order)});\n{declared}" + "".join(lines) + "endmodule\n", configuration(clocks, resets, keep)
+    body = "".join(lines)
+    wires = sorted({*re.findall(r"\b(?:[qnme]\d+|[bij]_ck\d+|t_rst\d+|one|uno|loose)\b", body)})
+    declared += f"wire {', '.join(wires)};\n" if wires else ""
+    return f"module m ({', '.join(order)});\n{declared}" + body + "endmodule\n", configuration(clocks, resets, keep)
 
 
 def cubes(cells=20000):

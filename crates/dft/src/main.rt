@@ -1,7 +1,7 @@
 //! The program `dft`: hands its words, the real files and the real output to the tool, and ends with its status.
 #![tactic(auto)]
 
-use dft_program::end;
+use dft_top::end;
 use std::process::ExitCode;
 
 fn main(rt: HostRuntime) -> ExitCode {

@@ -25,10 +25,10 @@ use Rattle.dft_patterns.specs.declared.notes.Note.{Note}
 use Rattle.dft_patterns.specs.declared.notes.NoteKind.TheVariants.{SetUp}
 use Rattle.dft_patterns.specs.Steadiness.{HaveLength}
 use Rattle.dft_scan_frame.specs.AddedPorts.{NewPort, new_port, numbered, numbered_ports, ports_from}
-use Rattle.dft_scan_hardware.specs.declared.style.Style.TheVariants.{Edt}
-use Rattle.dft_scan_hardware.specs.Ports.{added_ports, gap_in}
-use Rattle.dft_scan_hardware.specs.Statements.{scanned}
-use Rattle.dft_scan_hardware.proofs.Keeping.{adds_in_order}
+use Rattle.dft_insert.specs.declared.style.Style.TheVariants.{Edt}
+use Rattle.dft_insert.specs.Ports.{added_ports, gap_in}
+use Rattle.dft_insert.specs.Statements.{scanned}
+use Rattle.dft_insert.proofs.Keeping.{adds_in_order}
 use Rattle.dft_stil_out.specs.WrittenLength.{written_length}
 use Rattle.dft_stil_out.proofs.LengthLemmas.{written_has_length}
 use Rattle.dft_vectors.specs.PatternData.{PatternData}

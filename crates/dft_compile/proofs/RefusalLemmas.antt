@@ -16,9 +16,9 @@ use Rattle.dft_stitch.specs.declared.planned.PrepareError.TheVariants as prepare
 use Rattle.dft_stitch.proofs.PlannedLemmas.{by_rules, by_stitch}
 use Rattle.dft_scan_frame.specs.declared.error.InsertError.{InsertError}
 use Rattle.dft_scan_frame.specs.declared.error.InsertError.TheVariants as insert_error
-use Rattle.dft_scan_hardware.specs.declared.style.Style.TheVariants.{Edt}
+use Rattle.dft_insert.specs.declared.style.Style.TheVariants.{Edt}
 use Rattle.dft_scan_frame.specs.Refusals as frame
-use Rattle.dft_scan_hardware.specs.Refusals as insert
+use Rattle.dft_insert.specs.Refusals as insert
 use Rattle.dft_compile.specs.declared.error.CompileError.{CompileError}
 use Rattle.dft_compile.specs.declared.error.CompileError.TheVariants.{Rules, Stitch, Insert}
 use Rattle.dft_compile.specs.Errors.{of_rules, of_stitch, of_planning, of_insert}

@@ -19,8 +19,8 @@ use Rattle.dft_report_reader.specs.Reading.{report_of}
 use Rattle.dft_stil_tokens.specs.declared.blanks.TheConstants.{MAX_TEXT}
 use Rattle.dft_config.specs.Range.{IsInRange}
 use Rattle.dft_patterns.specs.Patterns.{Patterns}
-use Rattle.dft_scan_hardware.specs.declared.style.Style.TheVariants.{Edt}
-use Rattle.dft_scan_hardware.specs.Statements.{scanned}
+use Rattle.dft_insert.specs.declared.style.Style.TheVariants.{Edt}
+use Rattle.dft_insert.specs.Statements.{scanned}
 use Rattle.dft_stil_out.specs.Written.{noted}
 use Rattle.dft_encode.specs.declared.encoding.Encoded.{Encoded}
 use Rattle.dft_encode.specs.Compiled.{Placing, merged_of}

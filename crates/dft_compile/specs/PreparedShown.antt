@@ -1,8 +1,8 @@
 -- What a `Prepared` shows, and what holds of it.
 use Rattle.std.specs.Prelude.{◌≡◌}
 use Rattle.dft_stitch.specs.Planning.{Planned}
-use Rattle.dft_scan_hardware.specs.declared.style.Style.TheVariants.{Edt}
-use Rattle.dft_scan_hardware.specs.Statements.{scanned}
+use Rattle.dft_insert.specs.declared.style.Style.TheVariants.{Edt}
+use Rattle.dft_insert.specs.Statements.{scanned}
 use Rattle.dft_compile.specs.declared.prepared.Prepared.TheInside.{Inside}
 
 abbrev pub prepared_in : Inside → Planned

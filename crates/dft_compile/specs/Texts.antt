@@ -16,8 +16,8 @@ use Rattle.dft_report.specs.Written as report
 use Rattle.dft_stil_out.specs.Written as stil
 use Rattle.dft_verilog_out.specs.Written as netlist
 use Rattle.dft_scan.specs.Reports.{scanned_count}
-use Rattle.dft_scan_hardware.specs.declared.style.Style.TheVariants.{Edt}
-use Rattle.dft_scan_hardware.specs.Statements.{scanned}
+use Rattle.dft_insert.specs.declared.style.Style.TheVariants.{Edt}
+use Rattle.dft_insert.specs.Statements.{scanned}
 use Rattle.dft_vectors.specs.PatternData.{PatternData, merged_of}
 use Rattle.dft_vectors.specs.VectorList.{captures_in, patterns_of}
 use Rattle.dft_encode.specs.Counts.{masked_in}

@@ -1,7 +1,7 @@
 -- A compilation whose cubes are placed.
 use Rattle.std.specs.Prelude.{◌≡◌, ◌≤◌, length}
-use Rattle.dft_scan_hardware.specs.declared.style.Style.TheVariants.{Edt}
-use Rattle.dft_scan_hardware.specs.Statements.{scanned}
+use Rattle.dft_insert.specs.declared.style.Style.TheVariants.{Edt}
+use Rattle.dft_insert.specs.Statements.{scanned}
 use Rattle.dft_verilog_out.specs.Named.{GatesAreJoined}
 use Rattle.dft_compile.specs.declared.work.Work.{Work}
 

@@ -3,8 +3,8 @@
 ghost use Rattle.std.specs.Prelude.{◌<◌, ◌≤◌, ◌^◌, length, IfErr, IfOk};
 ghost use Rattle.std.specs.List.{All};
 ghost use Rattle.dft_netlist_text.specs.NetlistText.{StandsFor};
-ghost use Rattle.dft_scan_hardware.specs.Statements.{scanned};
-ghost use Rattle.dft_scan_hardware.specs.declared.style.Style.TheVariants.{Edt};
+ghost use Rattle.dft_insert.specs.Statements.{scanned};
+ghost use Rattle.dft_insert.specs.declared.style.Style.TheVariants.{Edt};
 ghost use Rattle.dft_verilog_out.specs.Named.{GatesAreJoined};
 ghost use Rattle.dft_compile.specs.Compilation.{IsCompileOf};
 ghost use Rattle.dft_compile.specs.Refusals.{IsLate};

@@ -2,8 +2,8 @@
 
 ghost use Rattle.std.specs.Prelude.{◌≡◌, None, IfErr, IfOk};
 ghost use Rattle.dft_scan_frame.specs.Statements.{IsReady};
-ghost use Rattle.dft_scan_hardware.specs.Statements.{scanned};
-ghost use Rattle.dft_scan_hardware.specs.declared.style.Style.TheVariants.{Edt};
+ghost use Rattle.dft_insert.specs.Statements.{scanned};
+ghost use Rattle.dft_insert.specs.declared.style.Style.TheVariants.{Edt};
 ghost use Rattle.dft_compile.specs.Prepared.{IsPrepared};
 ghost use Rattle.dft_compile.specs.Refusals.{IsRefusal, first_refusal};
 

@@ -2,8 +2,8 @@
 
 ghost use Rattle.std.specs.Prelude.{◌≡◌, ◌≤◌, length, option_map, IfErr, IfOk, OnOk};
 ghost use Rattle.dft_netlist_text.specs.NetlistText.{StandsFor};
-ghost use Rattle.dft_scan_hardware.specs.Statements.{scanned};
-ghost use Rattle.dft_scan_hardware.specs.declared.style.Style.TheVariants.{Edt};
+ghost use Rattle.dft_insert.specs.Statements.{scanned};
+ghost use Rattle.dft_insert.specs.declared.style.Style.TheVariants.{Edt};
 ghost use Rattle.dft_stil_tokens.specs.declared.blanks.TheConstants.{MAX_TEXT};
 ghost use Rattle.dft_report.specs.declared.limits.TheConstants.{MAX_BYTES};
 ghost use Rattle.dft_compile.specs.Compilation.{AreTextsOf};

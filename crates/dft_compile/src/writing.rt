@@ -2,8 +2,8 @@
 
 ghost use Rattle.std.specs.Prelude.{◌≡◌, ◌≤◌, None, length, IfErr, IfOk};
 ghost use Rattle.dft_stil_tokens.specs.declared.blanks.TheConstants.{MAX_TEXT};
-ghost use Rattle.dft_scan_hardware.specs.Statements.{scanned as written};
-ghost use Rattle.dft_scan_hardware.specs.declared.style.Style.TheVariants.{Edt};
+ghost use Rattle.dft_insert.specs.Statements.{scanned as written};
+ghost use Rattle.dft_insert.specs.declared.style.Style.TheVariants.{Edt};
 ghost use Rattle.dft_compile.specs.Compilation.{IsPatternText};
 ghost use Rattle.dft_compile.specs.Refusals.{IsRefusal, pattern_bytes};
 

@@ -14,8 +14,8 @@ use Rattle.dft_merge.specs.Staying.{IsMerged}
 use Rattle.dft_merge.proofs.MergedLemmas.{patterns_sound}
 use Rattle.dft_stil_out.proofs.WrittenStands.{stands_written}
 use Rattle.dft_scan_frame.specs.Statements.{IsReady}
-use Rattle.dft_scan_hardware.specs.declared.style.Style.TheVariants.{Edt}
-use Rattle.dft_scan_hardware.specs.Statements.{scanned}
+use Rattle.dft_insert.specs.declared.style.Style.TheVariants.{Edt}
+use Rattle.dft_insert.specs.Statements.{scanned}
 use Rattle.dft_vectors.specs.PatternData.{PatternData}
 use Rattle.dft_pattern_behavior.specs.Listed as listed
 use Rattle.dft_compile_laws.specs.Formed.{GiveNoClock}

@@ -8,8 +8,8 @@ use Rattle.dft_expect.specs.Captures.{output_bits}
 use Rattle.dft_stitch.specs.Chains.{plan_of}
 use Rattle.dft_patterns.specs.declared.signal.StilSignal.{StilSignal}
 use Rattle.dft_replay.specs.Rows.{net_named, nets_of, rows_from}
-use Rattle.dft_scan_hardware.specs.declared.style.Style.TheVariants.{Edt}
-use Rattle.dft_scan_hardware.specs.Statements.{scanned}
+use Rattle.dft_insert.specs.declared.style.Style.TheVariants.{Edt}
+use Rattle.dft_insert.specs.Statements.{scanned}
 use Rattle.dft_vectors.specs.Signals.{input_bits, signal_of}
 use Rattle.dft_vectors.specs.VectorList.{vectors_of}
 use Rattle.dft_vectors.proofs.OwnLemmas.{inputs_live, outputs_live}

@@ -21,9 +21,9 @@ use Rattle.dft_config.specs.Config.{Config}
 use Rattle.dft_expect.specs.Captures.{bits_out, output_bits}
 use Rattle.dft_patterns.specs.Patterns.{inputs, is_input, outputs}
 use Rattle.dft_patterns.specs.declared.signal.StilSignal.{StilSignal}
-use Rattle.dft_scan_hardware.specs.declared.style.Style.TheVariants.{Edt}
-use Rattle.dft_scan_hardware.specs.Ports.{gap_in}
-use Rattle.dft_scan_hardware.specs.Statements.{scanned}
+use Rattle.dft_insert.specs.declared.style.Style.TheVariants.{Edt}
+use Rattle.dft_insert.specs.Ports.{gap_in}
+use Rattle.dft_insert.specs.Statements.{scanned}
 use Rattle.dft_replay.specs.Vectors.{dirs_of}
 use Rattle.dft_stil_out.specs.Writable.{IsQuotable}
 use Rattle.dft_vectors.proofs.OwnLemmas.{inputs_live, outputs_live}

@@ -2,7 +2,7 @@
 use Rattle.std.proofs.Common.{ℕ, zero, suc, ◌+◌, ◌<◌, ◌≡◌, Bool, true, false, cond, List, [], ◌∷◌, ◌++◌, length, map, take, drop, get_or, Option, None, Some, slice_get, refl, sym, ap, subst, arith, ◌∙◌}
 use Rattle.std.specs.Prelude.{count_by}
 use Rattle.std.proofs.lemmas.List.Recursion.{is_count_by}
-use Rattle.dft_scan_equivalence.proofs.MadeGood.{from_at}
+use Rattle.dft_insert.proofs.MadeGood.{from_at}
 use Rattle.dft_base.specs.declared.tri.Tri.{Tri}
 use Rattle.dft_base.specs.declared.tri.Tri.TheVariants.{Zero, One, Unknown}
 use Rattle.dft_base.specs.Tri.{AboveTri, known}
@@ -23,9 +23,9 @@ use Rattle.dft_patterns.specs.declared.act.Act.{Act}
 use Rattle.dft_patterns.specs.declared.act.Act.TheVariants.{Unset, Low, High, Pulse, ExpectLow, ExpectHigh, Ignore}
 use Rattle.dft_scan_frame.specs.Moves.{moved}
 use Rattle.dft_scan_frame.specs.Statements.{IsReady}
-use Rattle.dft_scan_hardware.specs.declared.style.Style.TheVariants.{Edt}
-use Rattle.dft_scan_hardware.specs.Ports.{gap_in}
-use Rattle.dft_scan_hardware.specs.Statements.{scanned}
+use Rattle.dft_insert.specs.declared.style.Style.TheVariants.{Edt}
+use Rattle.dft_insert.specs.Ports.{gap_in}
+use Rattle.dft_insert.specs.Statements.{scanned}
 use Rattle.dft_scan_behavior.specs.Facts.{edt_hardware}
 use Rattle.dft_pattern_behavior.specs.Given.{Pattern}
 use Rattle.dft_pattern_behavior.specs.Rounds.{ShowsBefore, ShowsCapture}

@@ -11,8 +11,8 @@ use Rattle.dft_stitch.specs.Chains.{plan_of}
 use Rattle.dft_edt.specs.Vectors.{IsClearing}
 use Rattle.dft_patterns.specs.declared.act.Act.{Act}
 use Rattle.dft_scan_frame.specs.Statements.{IsReady}
-use Rattle.dft_scan_hardware.specs.declared.style.Style.TheVariants.{Edt}
-use Rattle.dft_scan_hardware.specs.Statements.{scanned}
+use Rattle.dft_insert.specs.declared.style.Style.TheVariants.{Edt}
+use Rattle.dft_insert.specs.Statements.{scanned}
 use Rattle.dft_scan_behavior.specs.Facts.{edt_hardware}
 use Rattle.dft_pattern_behavior.specs.Given.{AreCapturesFrom, AreCapturesOf, Pattern, IsLoadOf}
 use Rattle.dft_vectors.specs.PatternData.{PatternData, load_of, merged_of}

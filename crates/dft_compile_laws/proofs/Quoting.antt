@@ -30,10 +30,10 @@ use Rattle.dft_rules.specs.Refusals.{clock_as_data, first_present, has_quote, qu
 use Rattle.dft_rules.proofs.CheckLemmas.{from_clocks, from_count, from_keep, from_ports, from_present, from_resets, none_first}
 use Rattle.dft_scan_frame.specs.AddedPorts.{NewPort, new_port, numbered, ports_from}
 use Rattle.dft_scan_frame.specs.Statements.{IsReady}
-use Rattle.dft_scan_hardware.specs.declared.style.Style.TheVariants.{Edt}
-use Rattle.dft_scan_hardware.specs.Ports.{added_ports, gap_in}
-use Rattle.dft_scan_hardware.specs.Statements.{scanned}
-use Rattle.dft_scan_hardware.proofs.Keeping.{adds_in_order}
+use Rattle.dft_insert.specs.declared.style.Style.TheVariants.{Edt}
+use Rattle.dft_insert.specs.Ports.{added_ports, gap_in}
+use Rattle.dft_insert.specs.Statements.{scanned}
+use Rattle.dft_insert.proofs.Keeping.{adds_in_order}
 use Rattle.dft_compile_laws.specs.Formed.{HasQuotableBits}
 
 each_at : {X : Type 0} (P : X → Type 0) (xs : List X) (k : ℕ) (x : X) → Each P xs → slice_get xs k ≡ Some x → P x

@@ -11,8 +11,8 @@ use Rattle.dft_patterns.specs.declared.act.Act.{Act}
 use Rattle.dft_patterns.specs.Patterns.{Patterns}
 use Rattle.dft_replay.specs.Laws.{vectors_of as vectors_in}
 use Rattle.dft_replay.specs.Rows.{act_on, is_pulse, nets_of, ports_of, pulses, row_of, rows_from, rows_of as replayed_rows}
-use Rattle.dft_scan_hardware.specs.declared.style.Style.TheVariants.{Edt}
-use Rattle.dft_scan_hardware.specs.Statements.{scanned}
+use Rattle.dft_insert.specs.declared.style.Style.TheVariants.{Edt}
+use Rattle.dft_insert.specs.Statements.{scanned}
 use Rattle.dft_scan_behavior.specs.EdtVectors.{SuitsEdt}
 use Rattle.dft_merge.proofs.StayLemmas.{cubes_stay}
 use Rattle.dft_load_laws.specs.Loading.{rows_of}

@@ -22,8 +22,8 @@ use Rattle.dft_report.specs.declared.report.CubeReport.{CubeReport}
 use Rattle.dft_cube_reports.specs.Laws.{Says}
 use Rattle.dft_cube_reports.proofs.LineLemmas.{all_reports}
 use Rattle.dft_cube_reports.proofs.PlacedLemmas.{step_at}
-use Rattle.dft_scan_hardware.specs.declared.style.Style.TheVariants.{Edt}
-use Rattle.dft_scan_hardware.specs.Statements.{scanned}
+use Rattle.dft_insert.specs.declared.style.Style.TheVariants.{Edt}
+use Rattle.dft_insert.specs.Statements.{scanned}
 use Rattle.dft_compile_laws.specs.Passing.{set_of}
 use Rattle.dft_compile_laws.proofs.Listing.{rows_play}
 use Rattle.dft_load_laws.specs.Loading.{IsInto, rows_of}

@@ -17,8 +17,8 @@ use Rattle.dft_expect.specs.Captures.{output_bits}
 use Rattle.dft_expect.proofs.VectorLemmas.{outputs_count}
 use Rattle.dft_patterns.specs.declared.act.Act.{Act}
 use Rattle.dft_scan_frame.specs.Statements.{IsReady}
-use Rattle.dft_scan_hardware.specs.declared.style.Style.TheVariants.{Edt}
-use Rattle.dft_scan_hardware.specs.Statements.{scanned}
+use Rattle.dft_insert.specs.declared.style.Style.TheVariants.{Edt}
+use Rattle.dft_insert.specs.Statements.{scanned}
 use Rattle.dft_scan_behavior.specs.EdtVectors.{SuitsEdt, edt_logic}
 use Rattle.dft_pattern_behavior.specs.Given.{IsPattern, Pattern}
 use Rattle.dft_pattern_behavior.specs.Rounds.{ArePlayed, AreShown, LastLoad, Played, ShowsBefore, ShowsCaptures}

@@ -22,8 +22,8 @@ use Rattle.dft_replay.specs.Rows.{act_on, is_pulse, nets_of, ports_in, ports_of,
 use Rattle.dft_replay.specs.Verdicts.{HasVerdict}
 use Rattle.dft_replay.proofs.Soundness.{pass_sound}
 use Rattle.dft_scan_frame.specs.Statements.{IsReady}
-use Rattle.dft_scan_hardware.specs.declared.style.Style.TheVariants.{Edt}
-use Rattle.dft_scan_hardware.specs.Statements.{scanned}
+use Rattle.dft_insert.specs.declared.style.Style.TheVariants.{Edt}
+use Rattle.dft_insert.specs.Statements.{scanned}
 use Rattle.dft_scan_behavior.specs.EdtVectors.{SuitsEdt}
 use Rattle.dft_vectors.specs.PatternData.{PatternData}
 use Rattle.dft_vectors.specs.Signals.{input_bits, signals_of}

@@ -22,9 +22,9 @@ use Rattle.dft_merge.specs.Placement.{Loads, PlacesAll}
 use Rattle.dft_replay.specs.Laws.{IsRunOf, vectors_of as vectors_in}
 use Rattle.dft_replay.specs.Rows.{ports_of, rows_of as replayed_rows}
 use Rattle.dft_scan_frame.specs.Statements.{IsReady}
-use Rattle.dft_scan_hardware.specs.declared.style.Style.TheVariants.{Edt}
-use Rattle.dft_scan_hardware.specs.Statements.{scanned}
-use Rattle.dft_scan_equivalence.specs.Agreeing.{places_in}
+use Rattle.dft_insert.specs.declared.style.Style.TheVariants.{Edt}
+use Rattle.dft_insert.specs.Statements.{scanned}
+use Rattle.dft_insert.specs.Agreeing.{places_in}
 use Rattle.dft_scan_behavior.specs.EdtVectors.{SuitsEdt, edt_logic}
 use Rattle.dft_vectors.specs.PatternData.{PatternData}
 pub use Rattle.dft_vectors.specs.PatternData.{merged_of}

@@ -8,8 +8,8 @@ use Rattle.dft_config.specs.Config.{Config}
 use Rattle.dft_expect.specs.Captures.{config_ports}
 use Rattle.dft_patterns.specs.Patterns.{IsWellFormed}
 use Rattle.dft_scan_frame.specs.Statements.{IsReady}
-use Rattle.dft_scan_hardware.specs.declared.style.Style.TheVariants.{Edt}
-use Rattle.dft_scan_hardware.specs.Statements.{scanned}
+use Rattle.dft_insert.specs.declared.style.Style.TheVariants.{Edt}
+use Rattle.dft_insert.specs.Statements.{scanned}
 use Rattle.dft_stil_out.specs.Writable.{IsQuotable, IsWritable}
 use Rattle.dft_vectors.specs.PatternData.{PatternData}
 use Rattle.dft_pattern_behavior.specs.Listed.{ArePatterns}

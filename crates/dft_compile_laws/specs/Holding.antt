@@ -22,8 +22,8 @@ use Rattle.dft_report.specs.declared.report.CubeLine.TheVariants.{Encoded}
 use Rattle.dft_report.specs.declared.report.CubeReport.{CubeReport}
 use Rattle.dft_cube_reports.specs.Laws.{AreReportsOf}
 use Rattle.dft_scan_frame.specs.Statements.{IsReady}
-use Rattle.dft_scan_hardware.specs.declared.style.Style.TheVariants.{Edt}
-use Rattle.dft_scan_hardware.specs.Statements.{scanned}
+use Rattle.dft_insert.specs.declared.style.Style.TheVariants.{Edt}
+use Rattle.dft_insert.specs.Statements.{scanned}
 use Rattle.dft_scan_behavior.specs.EdtVectors.{SuitsEdt, edt_logic}
 use Rattle.dft_vectors.specs.PatternData.{PatternData}
 use Rattle.dft_compile_laws.specs.Formed.{IsFormed}

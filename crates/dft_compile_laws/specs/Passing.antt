@@ -8,8 +8,8 @@ use Rattle.dft_expect.specs.Captures.{output_bits}
 use Rattle.dft_patterns.specs.Patterns.{Patterns}
 use Rattle.dft_replay.specs.Fits.{first_misfit}
 use Rattle.dft_replay.specs.Rows.{nets_of, rows_of}
-use Rattle.dft_scan_hardware.specs.declared.style.Style.TheVariants.{Edt}
-use Rattle.dft_scan_hardware.specs.Statements.{scanned}
+use Rattle.dft_insert.specs.declared.style.Style.TheVariants.{Edt}
+use Rattle.dft_insert.specs.Statements.{scanned}
 use Rattle.dft_vectors.specs.PatternData.{PatternData}
 use Rattle.dft_vectors.specs.Signals.{input_bits, signals_of}
 use Rattle.dft_vectors.specs.VectorList.{patterns_of, vectors_of}

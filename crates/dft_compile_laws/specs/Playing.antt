@@ -9,8 +9,8 @@ use Rattle.dft_runs.specs.Passes.{after_turns}
 use Rattle.dft_stitch.specs.Chains.{plan_of}
 use Rattle.dft_edt.specs.Vectors.{IsClearing}
 use Rattle.dft_scan_frame.specs.Statements.{IsReady}
-use Rattle.dft_scan_hardware.specs.declared.style.Style.TheVariants.{Edt}
-use Rattle.dft_scan_hardware.specs.Statements.{scanned}
+use Rattle.dft_insert.specs.declared.style.Style.TheVariants.{Edt}
+use Rattle.dft_insert.specs.Statements.{scanned}
 use Rattle.dft_scan_behavior.specs.EdtVectors.{edt_logic}
 use Rattle.dft_scan_behavior.specs.Facts.{edt_hardware}
 use Rattle.dft_pattern_behavior.specs.Given.{AreCapturesOf, Pattern, IsLoadOf}

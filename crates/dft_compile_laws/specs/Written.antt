@@ -15,8 +15,8 @@ use Rattle.dft_replay.specs.Laws.{AllShow, IsRunOf}
 use Rattle.dft_replay.specs.Rows.{rows_of}
 use Rattle.dft_replay.specs.Verdicts.{HasVerdict}
 use Rattle.dft_scan_frame.specs.Statements.{IsReady}
-use Rattle.dft_scan_hardware.specs.declared.style.Style.TheVariants.{Edt}
-use Rattle.dft_scan_hardware.specs.Statements.{scanned}
+use Rattle.dft_insert.specs.declared.style.Style.TheVariants.{Edt}
+use Rattle.dft_insert.specs.Statements.{scanned}
 use Rattle.dft_vectors.specs.PatternData.{PatternData}
 use Rattle.dft_pattern_behavior.specs.Listed.{ArePatterns}
 use Rattle.dft_compile_laws.specs.Passing.{set_of}

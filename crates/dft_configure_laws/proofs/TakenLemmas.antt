@@ -5,8 +5,8 @@ use Rattle.dft_stitch.specs.declared.error.StitchError.{StitchError}
 use Rattle.dft_stitch.specs.Chains.{plan_of}
 use Rattle.dft_stitch.specs.Limits as limits
 use Rattle.dft_scan_frame.specs.declared.error.InsertError.{InsertError}
-use Rattle.dft_scan_hardware.specs.declared.style.Style.TheVariants.{Edt, Plain}
-use Rattle.dft_scan_hardware.specs.Refusals as insert
+use Rattle.dft_insert.specs.declared.style.Style.TheVariants.{Edt, Plain}
+use Rattle.dft_insert.specs.Refusals as insert
 use Rattle.dft_scan.specs.declared.error.ScanError.TheVariants as of_scan
 use Rattle.dft_scan.specs.Refusals as scan
 use Rattle.dft_scan.specs.Scans.{report_text}

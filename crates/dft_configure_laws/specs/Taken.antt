@@ -6,8 +6,8 @@ use Rattle.dft_config.specs.Config.{Config}
 use Rattle.dft_config.specs.Refusals.{IsConfig, IsRefused}
 use Rattle.dft_config_out_laws.specs.Texts.{IsForMemory}
 use Rattle.dft_stitch.specs.Chains.{plan_of}
-use Rattle.dft_scan_hardware.specs.declared.style.Style.TheVariants.{Plain}
-use Rattle.dft_scan_hardware.specs.Refusals as insert
+use Rattle.dft_insert.specs.declared.style.Style.TheVariants.{Plain}
+use Rattle.dft_insert.specs.Refusals as insert
 use Rattle.dft_scan.specs.declared.error.ScanError.TheVariants.{Insert, Report}
 use Rattle.dft_scan.specs.Refusals as scan
 use Rattle.dft_scan.specs.Scans.{report_text}

@@ -18,8 +18,8 @@ use Rattle.dft_encode.proofs.OneLemmas.{equations_one}
 use Rattle.dft_stitch.specs.Chains.{plan_of}
 use Rattle.dft_stitch.specs.Plans.{falling_head, lengths_of}
 use Rattle.dft_scan_frame.specs.declared.error.InsertError.{InsertError}
-use Rattle.dft_scan_hardware.specs.declared.style.Style.TheVariants.{Edt}
-use Rattle.dft_scan_hardware.specs.Refusals as insert
+use Rattle.dft_insert.specs.declared.style.Style.TheVariants.{Edt}
+use Rattle.dft_insert.specs.Refusals as insert
 use Rattle.dft_configure.specs.Compacting.{groups_of, masks_of}
 use Rattle.dft_configure.specs.Good.{AreGood}
 use Rattle.dft_configuring.specs.declared.configuring.Configured.{Configured}

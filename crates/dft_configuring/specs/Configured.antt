@@ -9,8 +9,8 @@ use Rattle.dft_config_out.specs.Written.{config_of, made_text}
 use Rattle.dft_rules.specs.Refusals as rules
 use Rattle.dft_stitch.specs.Chains.{plan_of}
 use Rattle.dft_stitch.specs.Limits as limits
-use Rattle.dft_scan_hardware.specs.declared.style.Style.TheVariants.{Edt}
-use Rattle.dft_scan_hardware.specs.Refusals as insert
+use Rattle.dft_insert.specs.declared.style.Style.TheVariants.{Edt}
+use Rattle.dft_insert.specs.Refusals as insert
 use Rattle.dft_configuring.specs.declared.configuring.Configured.{Configured}
 use Rattle.dft_configuring.specs.declared.wanted.Wanted.{Wanted}
 use Rattle.dft_configuring.specs.Counted.{counts_of}

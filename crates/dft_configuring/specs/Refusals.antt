@@ -7,8 +7,8 @@ use Rattle.dft_config_out.specs.Written.{config_of}
 use Rattle.dft_decompressor.specs.Fits.{IsFitting}
 use Rattle.dft_rules.specs.Refusals as rules
 use Rattle.dft_stitch.specs.Chains.{plan_of}
-use Rattle.dft_scan_hardware.specs.declared.style.Style.TheVariants.{Edt}
-use Rattle.dft_scan_hardware.specs.Refusals as insert
+use Rattle.dft_insert.specs.declared.style.Style.TheVariants.{Edt}
+use Rattle.dft_insert.specs.Refusals as insert
 use Rattle.dft_scan_frame.specs.declared.error.InsertError as scan
 use Rattle.dft_configure.specs.Roots.{domains_of}
 use Rattle.dft_configuring.specs.declared.error.Limited.TheVariants.{Chains, Outputs, Masks}

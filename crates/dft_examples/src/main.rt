@@ -3,7 +3,7 @@
 //! was worked out by hand; it promises nothing.
 #![tactic(auto)]
 
-use dft_program::told_run;
+use dft_top::told_run;
 use std::alloc::Global;
 use std::{fs, io};
 

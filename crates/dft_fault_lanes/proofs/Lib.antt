@@ -7,6 +7,7 @@ pub mod WholeLemmas
 pub mod RoundLemmas
 pub mod PlanLemmas
 pub mod SeenLemmas
+pub mod IdleLemmas
 pub mod MoveLemmas
 pub mod MarkLemmas
 pub mod CompareLemmas

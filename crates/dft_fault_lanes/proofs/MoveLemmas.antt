@@ -1,6 +1,6 @@
 -- Cells that are moved with their registers take what they would take of the nets.
 use Rattle.std.proofs.Common.{ℕ, zero, suc, Bool, true, false, ◌≡◌, ◌<◌, ◌≤◌, ◌≢◌, ◌+◌, ◌-◌, ◌⊎◌, inl, inr, List, [], ◌∷◌, length, get_or, slice_set, get_or-set_same, get_or-set_other, refl, sym, ap, subst, arith, ◌∙◌, true≢false, Option, None, Some}
-use Rattle.std.specs.Prelude.{nat_lt, slice_index_or, if◌then◌else◌}
+use Rattle.std.specs.Prelude.{nat_lt, slice_index_or, ◌==◌, ◌&&◌, if◌then◌else◌}
 use Rattle.std.proofs.lemmas.List.{get_or_past}
 use Rattle.std.proofs.lemmas.Bool.{cases_Bool, cases_eq}
 use Rattle.std.proofs.lemmas.Bool.Decides.{eqb_tells, leb_tells}
@@ -40,8 +40,10 @@ use Rattle.dft_fault_lanes.specs.Plans.{needs_of, Steers, SteersAll, HasReadsOf,
 use Rattle.dft_fault_lanes.specs.Pulses.{at_levels}
 use Rattle.dft_fault_lanes.specs.Seen.{cell_shown, seen, knows}
 use Rattle.dft_fault_lanes.specs.Moves.{NoneActs, is_carried, ShowsCell, TakesFrom, IsMoved, MovesAt, enable_of, enable_needs}
+use Rattle.dft_fault_lanes.specs.Idle.{is_idle, is_left, AreIdleUnknown}
 use Rattle.dft_fault_lanes.specs.Made.{IsPlan}
 use Rattle.dft_fault_lanes.proofs.CellLemmas.{past_unknown, taken_by, taken_past, has_or_not}
+use Rattle.dft_fault_lanes.proofs.IdleLemmas.{idle_next, left_carried, left_idle}
 use Rattle.dft_fault_lanes.proofs.SteadyLemmas.{cons_has, force_has, and_false}
 use Rattle.dft_fault_lanes.proofs.SeenLemmas.{marked_seen, needs_known, shown_known, all_wider, knows_settled, shows_held}
 use Rattle.dft_fault_lanes.proofs.WholeLemmas.{both_true, both_sets}
@@ -270,11 +272,14 @@ next_same : (x : Circuit) (ports : List Tri) (c : ℕ) (v w : ℕ → Tri) → A
 unfolding logic_at
 next_same x ports c v w same = next_agrees (logic_at x) (record { rising = true; ports = value_at ports; pulsed = λ e. false; old = v }) c (λ d. v) (λ d. w) same
 
--- a cell that is not listed is carried, or it takes no value and stays
+-- a cell that is not listed is carried, or it takes no value or is idle, and stays
 abbrev Kept : (x : Circuit) → List (Option Clamp) → Layout → Plan → (old new : List Wide) → (c : ℕ) → Type 0
 Kept x clamps l p old new c =
     ((it : Carried x clamps l p c) × (wide_at new c ≡ wide_at old it.other))
-    ⊎ ((is_changed (flop_at x.flops.items c) true p.pulsed.items ≡ false) × (wide_at new c ≡ wide_at old c))
+    ⊎ (((is_changed (flop_at x.flops.items c) true p.pulsed.items ≡ false) ⊎ (is_idle (flop_at x.flops.items c) ≡ true)) × (wide_at new c ≡ wide_at old c))
+
+zero_is : (n : ℕ) → (n == 0) ≡ true → n ≡ 0
+zero_is n up = elim (eqb_tells n 0) [ inl same ↦ same.1 | inr other ↦ absurd (true≢false (sym up ∙ other.0)) ]
 
 kept_at : (x : Circuit) (clamps : List (Option Clamp)) (signals : List NetId) (p : Plan) (old new : Contents) (c : ℕ) → IsPlan x clamps old.layout signals p → length old.values ≡ length x.flops.items → IsShifted p.moves.items old new → c < length x.flops.items →
     (Has p.taking.items c → ⊥) → Kept x clamps old.layout p old.values new.values c
@@ -283,13 +288,18 @@ kept_at x clamps signals p old new c is size shifted near none =
     let place = place_at l.places c in
     let at : IsCarried (wide_at old.values) c (wide_at new.values c) (course l p.moves.items c) = shifted.each c (omega (arith, size, near)) in
     let C : Course → Type 0 = λ k. IsCarried (wide_at old.values) c (wide_at new.values c) k in
+    let stays : flag_at p.moves.items place.register ≡ false → wide_at new.values c ≡ wide_at old.values c = λ still. subst C (ap (λ (b : Bool). if b then course_in (cells_at l.registers place.register) place.index else Rests) still) at in
     elim (cases_Bool (is_carried l p.moves.items c)) [
       | inl up ↦ (let it = carried x clamps l signals p c is near up in inl (it, subst C it.follows at))
       | inr down ↦ elim (cases_Bool (is_changed (flop_at x.flops.items c) true p.pulsed.items)) [
-        | inl changes ↦ absurd (none (is.taking.0 c near changes down))
+        | inl changes ↦ elim (cases_Bool (is_left l p.moves.items x.flops.items c)) [
+          | inl left ↦ (let idle = left_idle (is_carried l p.moves.items c) (is_idle (flop_at x.flops.items c)) (place.register == 0) down left in
+              inr (inr idle.0, stays (ap (flag_at p.moves.items) (zero_is place.register idle.1) ∙ is.rests)))
+          | inr taken ↦ absurd (none (is.taking.0 c near changes taken))
+        ]
         | inr rests ↦ elim (cases_Bool (flag_at p.moves.items place.register)) [
           | inl moves ↦ absurd (true≢false (sym (is.moving c near moves).0 ∙ rests))
-          | inr still ↦ inr (rests, subst C (ap (λ (b : Bool). if b then course_in (cells_at l.registers place.register) place.index else Rests) still) at)
+          | inr still ↦ inr (inl rests, stays still)
         ]
       ]
     ]
@@ -315,13 +325,17 @@ if_false : (b : Bool) (s t : Tri) → b ≡ false → t ≡ (if b then s else t)
 if_false true s t is = absurd (true≢false is)
 if_false false s t is = refl
 
+if_same : (b : Bool) (s t : Tri) → s ≡ t → t ≡ (if b then s else t)
+if_same true s t is = sym is
+if_same false s t is = refl
+
 -- registers move and the listed cells take their values: so all cells do
 pub moves_taken : (x : Circuit) (clamps : List (Option Clamp)) (signals : List NetId) (p : Plan) (ports : List Tri) (wides : List Wide) (old shifted new : Contents) → IsPlan x clamps old.layout signals p → length old.values ≡ length x.flops.items → length wides ≡ length x.ops.items →
-    SteersAll p.steer wides → (p.steer.free ≡ true → NoneActs x.flops.items ports) → IsShifted p.moves.items old shifted → length new.values ≡ length shifted.values →
+    SteersAll p.steer wides → (p.steer.free ≡ true → NoneActs x.flops.items ports) → AreIdleUnknown x.flops.items old.values → IsShifted p.moves.items old shifted → length new.values ≡ length shifted.values →
     ((lane c : ℕ) → lane < 512 → Has p.taking.items c → values_in new.values lane c ≡ next_at (flop_at x.flops.items c) (value_at ports) (values_in wides lane)) → ((c : ℕ) → (Has p.taking.items c → ⊥) → wide_at new.values c ≡ wide_at shifted.values c) →
     AreSettledOn x.ops.items (at_levels ports [] old.values clamps) (needs_of (length x.ops.items) p.marked.items) wides →
     AreTaken x.flops.items true p.pulsed.items ports (seen x.ops.items clamps p.marked.items old.values wides) old.values new.values
-moves_taken x clamps signals p ports wides old shifted new is size count steers free moved len taken kept settled lane c within =
+moves_taken x clamps signals p ports wides old shifted new is size count steers free idle moved len taken kept settled lane c within =
     let cell : Cell = flop_at x.flops.items c in
     let view : List Wide = seen x.ops.items clamps p.marked.items old.values wides in
     let v : ℕ → Tri = values_in wides lane in
@@ -337,22 +351,28 @@ moves_taken x clamps signals p ports wides old shifted new is size count steers 
       | inr near ↦ elim (has_or_not p.taking.items c) [
         | inl h ↦ (let here = (is.taking.1 c h).1 in
             let same : Agree v w (nets_of (next_reads cell (value_at ports) (value_from v))) = set_agrees (needs_of (length x.ops.items) p.marked.items) v w (nets_of (next_reads cell (value_at ports) (value_from v)))
-            (is.reads c here.1 (value_at ports) v (steers lane within)) (λ net need. sym (ap (λ (u : Wide). value_in u lane) (marked_seen x.ops.items clamps p.marked.items old.values wides net count need))) in
+            (is.reads c (left_carried (is_carried old.layout p.moves.items c) (is_idle cell && ((place_at old.layout.places c).register == 0)) here.1) (value_at ports) v (steers lane within)) (λ net need. sym (ap (λ (u : Wide). value_in u lane) (marked_seen x.ops.items clamps p.marked.items old.values wides net count need))) in
             taken lane c within h ∙ next_same x ports c v w same ∙ if_true up next (values_in old.values lane c) here.0)
         | inr none ↦ ap (λ (u : Wide). value_in u lane) (kept c none)
-            ∙ kept_value x clamps old.layout p ports old.values shifted.values wides lane c within near.1 free on (knows_settled x ports [] old.values clamps p.marked.items wides count is.closed settled) (kept_at x clamps signals p old shifted c is size moved near.1 none)
+            ∙ kept_value x clamps old.layout p ports old.values shifted.values wides lane c within near.1 free idle on (knows_settled x ports [] old.values clamps p.marked.items wides count is.closed settled) (kept_at x clamps signals p old shifted c is size moved near.1 none)
       ]
     ] where
-      kept_value : (x : Circuit) (clamps : List (Option Clamp)) (l : Layout) (p : Plan) (ports : List Tri) (old new wides : List Wide) (lane c : ℕ) → lane < 512 → c < length x.flops.items → (p.steer.free ≡ true → NoneActs x.flops.items ports) → Steers p.steer (values_in (seen x.ops.items clamps p.marked.items old wides) lane) →
+      kept_value : (x : Circuit) (clamps : List (Option Clamp)) (l : Layout) (p : Plan) (ports : List Tri) (old new wides : List Wide) (lane c : ℕ) → lane < 512 → c < length x.flops.items → (p.steer.free ≡ true → NoneActs x.flops.items ports) → AreIdleUnknown x.flops.items old → Steers p.steer (values_in (seen x.ops.items clamps p.marked.items old wides) lane) →
           AreSettledOn x.ops.items (at_levels ports [] old clamps) (knows x.ops.items clamps p.marked.items) (seen x.ops.items clamps p.marked.items old wides) → Kept x clamps l p old new c →
           values_in new lane c ≡ (if is_changed (flop_at x.flops.items c) true p.pulsed.items then next_at (flop_at x.flops.items c) (value_at ports) (values_in (seen x.ops.items clamps p.marked.items old wides) lane) else values_in old lane c)
-      kept_value x clamps l p ports old new wides lane c within near free on settled (inl moved) =
+      kept_value x clamps l p ports old new wides lane c within near free idle on settled (inl moved) =
           let it = moved.0 in
           let w : ℕ → Tri = values_in (seen x.ops.items clamps p.marked.items old wides) lane in
           ap (λ (u : Wide). value_in u lane) moved.1
           ∙ sym (takes_value x.ops.items clamps p.steer (flop_at x.flops.items c) it.other (value_at ports) w (values_in old lane it.other) it.from (λ up t. free up c near t) on
           (λ net shown. shows_held x ports [] old clamps p.marked.items (seen x.ops.items clamps p.marked.items old wides) lane net it.other within shown settled))
           ∙ if_true (is_changed (flop_at x.flops.items c) true p.pulsed.items) (next_at (flop_at x.flops.items c) (value_at ports) w) (values_in old lane c) it.changed
-      kept_value x clamps l p ports old new wides lane c within near free on settled (inr stays) =
+      kept_value x clamps l p ports old new wides lane c within near free idle on settled (inr stays) =
           let w : ℕ → Tri = values_in (seen x.ops.items clamps p.marked.items old wides) lane in
-          ap (λ (u : Wide). value_in u lane) stays.1 ∙ if_false (is_changed (flop_at x.flops.items c) true p.pulsed.items) (next_at (flop_at x.flops.items c) (value_at ports) w) (values_in old lane c) stays.0
+          let up : Bool = is_changed (flop_at x.flops.items c) true p.pulsed.items in
+          let next : Tri = next_at (flop_at x.flops.items c) (value_at ports) w in
+          let same : values_in new lane c ≡ values_in old lane c = ap (λ (u : Wide). value_in u lane) stays.1 in
+          elim stays.0 [
+            | inl none ↦ same ∙ if_false up next (values_in old lane c) none
+            | inr is ↦ same ∙ if_same up next (values_in old lane c) (idle_next (flop_at x.flops.items c) (value_at ports) w is ∙ sym (idle lane c within is))
+          ]

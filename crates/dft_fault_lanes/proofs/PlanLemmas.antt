@@ -49,6 +49,7 @@ use Rattle.dft_fault_lanes.specs.Pulses.{NoneFalls}
 use Rattle.dft_fault_lanes.proofs.MarkLemmas.{reads_of_needs}
 use Rattle.dft_fault_lanes.proofs.SeenLemmas.{or_only}
 use Rattle.dft_fault_lanes.proofs.MoveLemmas.{falls_stay}
+use Rattle.dft_fault_lanes.proofs.IdleLemmas.{left_falls}
 use Rattle.dft_fault_lanes.proofs.SteadyLemmas.{and_false}
 use Rattle.dft_fault_lanes.proofs.WholeLemmas.{both_sets}
 
@@ -104,7 +105,7 @@ pub no_falls : (x : Circuit) (clamps : List (Option Clamp)) (l : Layout) (signal
 no_falls x clamps l signals p is none c = elim (leb_tells (length x.flops.items) c) [
   | inl far ↦ ap (λ (k : Cell). is_changed k false p.pulsed.items) (cell_past x.flops.items c far.1) ∙ and_false (flag_at p.pulsed.items 0)
   | inr near ↦ elim (cases_Bool (is_changed (flop_at x.flops.items c) false p.pulsed.items)) [
-    | inl up ↦ (let F : List ℕ → Type 0 = λ l. Has l c in absurd (subst F none (is.falling.0 c near.1 up (none_left l c))))
+    | inl up ↦ (let F : List ℕ → Type 0 = λ l. Has l c in absurd (subst F none (is.falling.0 c near.1 up (left_falls l x.flops.items p.pulsed.items c (none_left l c) up))))
     | inr down ↦ down
   ]
 ]

@@ -8,4 +8,5 @@ pub mod Gathers
 pub mod Plans
 pub mod Seen
 pub mod Moves
+pub mod Idle
 pub mod Made

@@ -15,9 +15,10 @@ use Rattle.dft_fault_lanes.specs.declared.plans.Plan.{Plan}
 use Rattle.dft_fault_lanes.specs.Lanes.{flop_at, is_changed}
 use Rattle.dft_fault_lanes.specs.Plans.{needs_of, HasReadsOf, ArePlaces, pulse_on}
 use Rattle.dft_fault_lanes.specs.Moves.{is_carried, AreMoves, enable_needs, HasForces}
+use Rattle.dft_fault_lanes.specs.Idle.{is_left}
 
 -- A plan is of its clocks: what nets show as they rise and fall; a set of nets that is closed under reading and listed in order, which has the steer's net, all scan enables, and what the cells read that are not carried;
--- the registers that move as the clocks rise; and the other cells that take a value.
+-- the registers that move as the clocks rise; and the other cells that take a value, but for idle ones.
 pub record IsPlan (x : Circuit) (clamps : List (Option Clamp)) (l : Layout) (signals : List NetId) (p : Plan) : Type 0 where
   pub pulsing : (net : ℕ) → flag_at p.pulsed.items net ≡ pulse_on (numbers_of signals) p.pulses.items net
   pub rises : IsShownOn (logic_at x) (edges_of true (flag_at p.pulsed.items)) every (shown_at p.rises.items)
@@ -31,8 +32,8 @@ pub record IsPlan (x : Circuit) (clamps : List (Option Clamp)) (l : Layout) (sig
   pub reads : (c : ℕ) → is_carried l p.moves.items c ≡ false → HasReadsOf (needs_of (length x.ops.items) p.marked.items) p.steer (flop_at x.flops.items c)
   pub rests : flag_at p.moves.items 0 ≡ false
   pub moving : AreMoves x.ops.items clamps x.flops.items p.steer p.pulsed.items l p.moves.items
-  pub taking : ArePlaces x.flops.items true p.pulsed.items (is_carried l p.moves.items) p.taking.items
-  pub falling : ArePlaces x.flops.items false p.pulsed.items (is_carried l []) p.falling.items
+  pub taking : ArePlaces x.flops.items true p.pulsed.items (is_left l p.moves.items x.flops.items) p.taking.items
+  pub falling : ArePlaces x.flops.items false p.pulsed.items (is_left l [] x.flops.items) p.falling.items
   pub steady : p.steady ≡ true → (c : ℕ) → is_changed (flop_at x.flops.items c) true p.pulsed.items ≡ true →
       HasReadsOf (still_needs every (shown_at p.rises.items) (flop_at x.flops.items c).domain) p.steer (flop_at x.flops.items c)
 

@@ -13,6 +13,7 @@ ghost use Rattle.dft_evaluator.specs.Wides.{AreWides, IsWide, unknown_wide, valu
 ghost use Rattle.dft_fault_lanes.specs.Groups.{AreFound, AreGraded, AreSteps, IsFresh};
 ghost use Rattle.dft_fault_lanes.specs.Lanes.{AreClamps, AreSettledOn};
 ghost use Rattle.dft_fault_lanes.specs.Plans.{AreCovered, SteersAll, needs_of};
+ghost use Rattle.dft_fault_lanes.specs.Idle.{AreIdleUnknown};
 ghost use Rattle.dft_fault_lanes.specs.Made.{HasRoom, IsPlan};
 ghost use Rattle.dft_fault_lanes.specs.Pulses.{at_levels};
 
@@ -171,6 +172,7 @@ fn play(
     requires wides { length wides.old ≡ length group.circuit.now.ops.items }
     requires later { length later.old ≡ length group.circuit.now.ops.items }
     requires cells { length cells.old.values ≡ length group.circuit.now.flops.items }
+    requires idle { AreIdleUnknown group.circuit.now.flops.items cells.old.values }
     requires found { length found.old ≡ 512 }
     requires each_wide { AreWides wides.old }
     requires each_later { AreWides later.old }
@@ -180,6 +182,7 @@ fn play(
     ensures each_later { AreWides later.new }
     ensures each_cell { AreWides cells.new.values }
     ensures cells { length cells.new.values ≡ length cells.old.values }
+    ensures idle { AreIdleUnknown group.entry.circuit.now.flops.items cells.new.values }
     ensures room { HasRoom group.entry.circuit.now (length group.entry.nets.now) plan.new }
     ensures plan { IsPlan group.entry.circuit.now group.entry.clamps.now cells.new.layout group.entry.nets.now plan.new }
     ensures live { IsWide live.new (value_in live.new) }
@@ -226,6 +229,7 @@ fn run(
     requires wides { length wides.old ≡ length group.circuit.now.ops.items }
     requires later { length later.old ≡ length group.circuit.now.ops.items }
     requires cells { length cells.old.values ≡ length group.circuit.now.flops.items }
+    requires idle { AreIdleUnknown group.circuit.now.flops.items cells.old.values }
     requires found { length found.old ≡ 512 }
     requires each_wide { AreWides wides.old }
     requires each_later { AreWides later.old }

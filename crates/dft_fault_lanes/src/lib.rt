@@ -9,6 +9,7 @@ mod forces;
 mod gathering;
 mod grading;
 mod grouping;
+mod idling;
 mod laws;
 mod marking;
 mod moves;

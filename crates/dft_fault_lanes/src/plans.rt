@@ -10,15 +10,17 @@ ghost use Rattle.dft_replay.specs.Vectors.{AreSignals};
 ghost use Rattle.dft_fault_lanes.specs.Lanes.{flop_at, is_changed};
 ghost use Rattle.dft_fault_lanes.specs.Plans.{AreCovered, ArePlaces, HasReadsOf, needs_of};
 ghost use Rattle.dft_fault_lanes.specs.Moves as spec;
+ghost use Rattle.dft_fault_lanes.specs.Idle as idle;
 ghost use Rattle.dft_fault_lanes.specs.Moves.{enable_needs};
 ghost use Rattle.dft_fault_lanes.specs.Made.{HasRoom, IsPlan};
 
 use crate::clamps::Clamp;
 use crate::forces::list_forces;
+use crate::idling::is_left;
 use crate::marking::{
     Steer, covers, mark_compared, mark_net, mark_takers, read_pulses, same_pulses,
 };
-use crate::moves::{Wiring, find_moves, is_carried};
+use crate::moves::{Wiring, find_moves};
 use crate::steady::are_steady;
 use crate::vectors::{flag_pulses, lower};
 use dft_base::Tri;
@@ -30,7 +32,7 @@ use std::alloc::{AllocError, Global};
 
 /// What vectors need that pulse the same clocks, by signal and by net, at the same value of a net that scan enables come by: what nets
 /// show as the clocks rise and as they fall; the registers that move at rises; the nets that are settled, marked and at the front of a
-/// list in their order; the other cells that take a value at rises and at falls; and whether at rises all read what is still in every
+/// list in their order; the other cells that take a value at rises and at falls, but for idle ones; and whether at rises all read what is still in every
 /// lane. Then whether lanes were seen to differ at that net, so that no value is asked for; and the ports of all resets and sets.
 #[derive(Drop)]
 pub struct Plan {
@@ -51,18 +53,18 @@ pub struct Plan {
     pub forces: Vec<NetId>,
 }
 
-// Whether a cell takes a value where these clocks rise, or fall, and is not carried.
-fn is_taker(flop: &FlipFlop, rising: bool, pulsed: &[bool], carried: bool) -> bool
-    ensures up { result ≡ true → (is_changed (cell_of flop.now) rising pulsed.now ≡ true) × (carried ≡ false) }
-    ensures down { result ≡ false → carried ≡ false → is_changed (cell_of flop.now) rising pulsed.now ≡ false }
+// Whether a cell takes a value where these clocks rise, or fall, and is not left out.
+fn is_taker(flop: &FlipFlop, rising: bool, pulsed: &[bool], left: bool) -> bool
+    ensures up { result ≡ true → (is_changed (cell_of flop.now) rising pulsed.now ≡ true) × (left ≡ false) }
+    ensures down { result ≡ false → left ≡ false → is_changed (cell_of flop.now) rising pulsed.now ≡ false }
 {
-    if carried {
+    if left {
         return false;
     }
     flop.changes(rising, pulsed)
 }
 
-// Lists the cells that take a value where these clocks rise, or fall, but for those that are carried.
+// Lists the cells that take a value where these clocks rise, or fall, but for those that are carried or idle.
 fn list_places(
     flops: &[FlipFlop],
     rising: bool,
@@ -73,13 +75,13 @@ fn list_places(
 )
     requires cells { length cells.now.values ≡ length flops.now }
     requires room { length flops.now ≤ vec_capacity list.old }
-    ensures places { ArePlaces flops.now rising pulsed.now (spec.is_carried cells.now.layout moves.now) list.new.items }
+    ensures places { ArePlaces flops.now rising pulsed.now (idle.is_left cells.now.layout moves.now flops.now) list.new.items }
     ensures room { vec_capacity list.new ≡ vec_capacity list.old }
 {
     list.clear();
     for (place, flop) in flops.iter().enumerate() {
-        let carried = is_carried(cells.place(place), moves);
-        if is_taker(flop, rising, pulsed, carried) {
+        let left = is_left(flop, cells.place(place), moves);
+        if is_taker(flop, rising, pulsed, left) {
             list.push_reserved(place);
         }
     }

@@ -9,6 +9,7 @@ ghost use Rattle.dft_fault_lanes.specs.Lanes.{AreClamps, AreSettledOn, AreTaken,
 ghost use Rattle.dft_fault_lanes.specs.Plans.{SteersAll, needs_of};
 ghost use Rattle.dft_fault_lanes.specs.Seen.{knows, seen};
 ghost use Rattle.dft_fault_lanes.specs.Moves.{NoneActs};
+ghost use Rattle.dft_fault_lanes.specs.Idle.{AreIdleUnknown};
 ghost use Rattle.dft_fault_lanes.specs.Made.{IsPlan};
 ghost use Rattle.dft_fault_lanes.specs.Pulses.{ArePulsed, IsFall, IsPhase, at_levels};
 
@@ -167,6 +168,7 @@ fn take_rises(play: Play<'_>, wides: &[Wide], cells: &mut Cells)
     requires nets { length wides.now ≡ length play.circuit.now.ops.items }
     requires count { length cells.old.values ≡ length play.circuit.now.flops.items }
     requires free { play.plan.now.steer.free ≡ true → NoneActs play.circuit.now.flops.items play.ports.now }
+    requires idle { AreIdleUnknown play.circuit.now.flops.items cells.old.values }
     requires steers { SteersAll play.plan.now.steer wides.now }
     requires wides { AreWides wides.now }
     requires cells { AreWides cells.old.values }
@@ -186,6 +188,7 @@ fn rise(play: Play<'_>, wides: &[Wide], cells: &mut Cells, live: &mut Wide)
     requires nets { length wides.now ≡ length play.circuit.now.ops.items }
     requires count { length cells.old.values ≡ length play.circuit.now.flops.items }
     requires free { play.plan.now.steer.free ≡ true → NoneActs play.circuit.now.flops.items play.ports.now }
+    requires idle { AreIdleUnknown play.circuit.now.flops.items cells.old.values }
     requires steers { SteersAll play.plan.now.steer wides.now }
     requires wides { AreWides wides.now }
     requires cells { AreWides cells.old.values }
@@ -254,6 +257,7 @@ pub fn pulse(play: Play<'_>, wides: &[Wide], later: &mut [Wide], cells: &mut Cel
     requires circuit { IsCircuit play.circuit.now }
     requires plan { (signals : List ANetId) × IsPlan play.circuit.now play.clamps.now cells.old.layout signals play.plan.now }
     requires free { play.plan.now.steer.free ≡ true → NoneActs play.circuit.now.flops.items play.ports.now }
+    requires idle { AreIdleUnknown play.circuit.now.flops.items cells.old.values }
     requires steers { SteersAll play.plan.now.steer wides.now }
     requires clamped { length play.clamps.now ≡ length play.circuit.now.ops.items }
     requires clamps { AreClamps play.clamps.now }
@@ -269,6 +273,7 @@ pub fn pulse(play: Play<'_>, wides: &[Wide], later: &mut [Wide], cells: &mut Cel
     ensures layout { cells.new.layout ≡ cells.old.layout }
     ensures count { length cells.new.values ≡ length cells.old.values }
     ensures live { IsWide live.new (value_in live.new) }
+    ensures idle { AreSettledOn play.entry.circuit.now.ops.items (at_levels play.entry.ports.now [] cells.old.values play.entry.clamps.now) (needs_of (length play.entry.circuit.now.ops.items) play.entry.plan.now.marked.items) wides.now → AreIdleUnknown play.entry.circuit.now.flops.items cells.new.values }
     ensures pulsed { ArePulsed play.entry.circuit.now (needs_of (length play.entry.circuit.now.ops.items) play.entry.plan.now.marked.items) play.entry.ports.now play.entry.plan.now.pulsed.items play.entry.clamps.now wides.now cells.old.values cells.new.values live.old live.new }
 {
     rise(play, wides, cells, live);

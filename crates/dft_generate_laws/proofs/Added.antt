@@ -24,15 +24,15 @@ use Rattle.dft_parts.specs.Recipes.{Recipe, pure, ◌>>=◌, each, collect, net_
 use Rattle.dft_parts.specs.Sums.{a_driving_gate, a_sum}
 use Rattle.dft_edt.specs.Feeds.{Stage, Channel, at_feed, tap_feeds, injector_feeds, feeds}
 use Rattle.dft_edt.specs.Hardware.{group_of}
-use Rattle.dft_ring.specs.declared.ring.Ring.{Ring}
-use Rattle.dft_ring.specs.RingRecipe.{stage_terms, a_stage, a_phase, a_ring}
-use Rattle.dft_compact.specs.declared.mask_nets.MaskNets.{MaskNets}
-use Rattle.dft_compact.specs.CompactorRecipe.{a_next, a_mask, a_segment, segments, masks_at, a_gated, an_output, a_compactor}
+use Rattle.dft_edt.specs.declared.ring.Ring.{Ring}
+use Rattle.dft_edt.specs.RingRecipe.{stage_terms, a_stage, a_phase, a_ring}
+use Rattle.dft_edt.specs.declared.mask_nets.MaskNets.{MaskNets}
+use Rattle.dft_edt.specs.CompactorRecipe.{a_next, a_mask, a_segment, segments, masks_at, a_gated, an_output, a_compactor}
 use Rattle.dft_scan_frame.specs.Moves.{Gap}
 use Rattle.dft_scan_frame.specs.Pins.{domain_in, own_output}
-use Rattle.dft_scan_hardware.specs.Chained.{a_numbered_pin, a_role_pin, a_scan_in, an_open_output, own_or_made, a_row, rows, cells_at, row_at, a_lockup_clock, a_lockup_behind, a_crossing, crossing_in, a_step, a_chain, a_latched_chain, a_fed_chain, last_net}
-use Rattle.dft_scan_hardware.specs.Chained as chained
-use Rattle.dft_scan_hardware.specs.Scanned.{an_edt_chain, behind_rows, edt_recipe}
+use Rattle.dft_insert.specs.Chained.{a_numbered_pin, a_role_pin, a_scan_in, an_open_output, own_or_made, a_row, rows, cells_at, row_at, a_lockup_clock, a_lockup_behind, a_crossing, crossing_in, a_step, a_chain, a_latched_chain, a_fed_chain, last_net}
+use Rattle.dft_insert.specs.Chained as chained
+use Rattle.dft_insert.specs.Scanned.{an_edt_chain, behind_rows, edt_recipe}
 use Rattle.dft_generate.specs.Configurations.{configuration}
 use Rattle.dft_generate_laws.proofs.Sizes.{sum_of, sum_add, sum_same, one_at_most, sum_swap, AtMost, at_most, pure_none, bind_most, each_most, collect_most, each_same, collect_same, net_most, gate_most, flop_most, lockup_most, driving_most, sum_most}
 

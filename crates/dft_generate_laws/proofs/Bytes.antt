@@ -25,10 +25,10 @@ use Rattle.dft_expect.specs.Captures.{output_bits}
 use Rattle.dft_parts.specs.MadeNames.{made_net}
 use Rattle.dft_parts.specs.Recipes.{nets_in}
 use Rattle.dft_scan_frame.specs.AddedPorts.{port_name, ports_from}
-use Rattle.dft_scan_hardware.specs.declared.style.Style.TheVariants.{Edt}
-use Rattle.dft_scan_hardware.specs.Ports.{added_ports}
-use Rattle.dft_scan_hardware.specs.Statements.{scanned, made_in}
-use Rattle.dft_scan_hardware.proofs.Keeping.{adds_in_order}
+use Rattle.dft_insert.specs.declared.style.Style.TheVariants.{Edt}
+use Rattle.dft_insert.specs.Ports.{added_ports}
+use Rattle.dft_insert.specs.Statements.{scanned, made_in}
+use Rattle.dft_insert.proofs.Keeping.{adds_in_order}
 use Rattle.dft_stil_tokens.specs.declared.blanks.TheConstants.{MAX_TEXT}
 use Rattle.dft_stil_out.specs.Written.{note_line}
 use Rattle.dft_stil_out.specs.WrittenLength.{head_length, line_length, notes_length, written_length}

@@ -29,11 +29,11 @@ use Rattle.dft_parts.specs.Recipes.{start_of}
 use Rattle.dft_scan_frame.specs.declared.error.InsertError.{InsertError}
 use Rattle.dft_scan_frame.specs.Moves.{Gap, map_from}
 use Rattle.dft_scan_frame.specs.Refusals.{or_else}
-use Rattle.dft_scan_hardware.specs.declared.style.Style.TheVariants.{Edt}
-use Rattle.dft_scan_hardware.specs.Frame.{as_scan_cell, framed_instance, framed_at, frame}
-use Rattle.dft_scan_hardware.specs.Ports.{added_ports, gap_in, edt_nets}
-use Rattle.dft_scan_hardware.specs.Refusals.{as_told, ports_alone, ports_refusal, room_refusal, frame_refusal, refusal}
-use Rattle.dft_scan_hardware.specs.Scanned.{framed, parts_of}
+use Rattle.dft_insert.specs.declared.style.Style.TheVariants.{Edt}
+use Rattle.dft_insert.specs.Frame.{as_scan_cell, framed_instance, framed_at, frame}
+use Rattle.dft_insert.specs.Ports.{added_ports, gap_in, edt_nets}
+use Rattle.dft_insert.specs.Refusals.{as_told, ports_alone, ports_refusal, room_refusal, frame_refusal, refusal}
+use Rattle.dft_insert.specs.Scanned.{framed, parts_of}
 use Rattle.dft_generate.specs.Configurations.{configuration}
 use Rattle.dft_generate_laws.specs.Designs.{nets_of, design}
 use Rattle.dft_generate_laws.specs.Laws.{DesignsAreAccepted}

@@ -40,11 +40,11 @@ use Rattle.dft_parts.specs.Recipes.{nets_in, start_of}
 use Rattle.dft_parts.proofs.Growing.{parts_grow}
 use Rattle.dft_scan_frame.specs.AddedPorts.{NewPort, port_name, ports_from}
 use Rattle.dft_scan_frame.specs.Moves.{Gap, map_from}
-use Rattle.dft_scan_hardware.specs.declared.style.Style.TheVariants.{Edt}
-use Rattle.dft_scan_hardware.specs.Frame.{as_scan_cell, framed_at, framed_instance}
-use Rattle.dft_scan_hardware.specs.Ports.{added_ports, edt_nets, gap_in}
-use Rattle.dft_scan_hardware.specs.Scanned.{framed, parts_of}
-use Rattle.dft_scan_hardware.specs.Statements.{scanned}
+use Rattle.dft_insert.specs.declared.style.Style.TheVariants.{Edt}
+use Rattle.dft_insert.specs.Frame.{as_scan_cell, framed_at, framed_instance}
+use Rattle.dft_insert.specs.Ports.{added_ports, edt_nets, gap_in}
+use Rattle.dft_insert.specs.Scanned.{framed, parts_of}
+use Rattle.dft_insert.specs.Statements.{scanned}
 use Rattle.dft_generate.specs.Configurations.{configuration}
 use Rattle.dft_generate_laws.specs.Designs.{design, design_ports, flop_in, gate_in, instances_in, nets_of, numbered, scalar}
 use Rattle.dft_generate_laws.specs.Laws.{ScannedAreShort}

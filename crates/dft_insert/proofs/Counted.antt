@@ -28,13 +28,13 @@ use Rattle.dft_parts.proofs.Growing.{parts_grow}
 use Rattle.dft_scan_frame.specs.Moves.{Gap, map_from}
 use Rattle.dft_scan_frame.specs.Statements.{IsReady}
 use Rattle.dft_scan_frame.proofs.Whole.{length_map_from}
-use Rattle.dft_scan_hardware.specs.declared.style.Style.{Style}
-use Rattle.dft_scan_hardware.specs.declared.style.Style.TheVariants.{Plain, Edt}
-use Rattle.dft_scan_hardware.specs.Ports.{gap_in, edt_nets}
-use Rattle.dft_scan_hardware.specs.Scanned.{framed}
-use Rattle.dft_scan_hardware.specs.Statements.{made_in, scanned}
-use Rattle.dft_scan_equivalence.proofs.Driving.{now_at, now_instances}
-use Rattle.dft_scan_equivalence.proofs.Merging.{news}
+use Rattle.dft_insert.specs.declared.style.Style.{Style}
+use Rattle.dft_insert.specs.declared.style.Style.TheVariants.{Plain, Edt}
+use Rattle.dft_insert.specs.Ports.{gap_in, edt_nets}
+use Rattle.dft_insert.specs.Scanned.{framed}
+use Rattle.dft_insert.specs.Statements.{made_in, scanned}
+use Rattle.dft_insert.proofs.Driving.{now_at, now_instances}
+use Rattle.dft_insert.proofs.Merging.{news}
 use Rattle.dft_insert.specs.Counts.{count_behind, flip_flops_in, lockups_in, CountsAdded}
 use Rattle.dft_insert.proofs.Weights.{times, times_zero, times_one, times_two, sum_of, sum_add, total}
 use Rattle.dft_insert.proofs.WeighedRecipes.{PassesNoGate, bit_weight, weight, plain_has, edt_has, crossings_all, segments_all}

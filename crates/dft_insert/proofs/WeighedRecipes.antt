@@ -26,16 +26,16 @@ use Rattle.dft_parts.specs.Parts.{Part, ANet, AnInstance, APin}
 use Rattle.dft_parts.specs.Recipes.{Recipe, pure, ◌>>=◌, ◌>>◌, each, collect, net_at, nets_made, a_net, a_gate, a_flop, a_lockup}
 use Rattle.dft_parts.specs.Sums.{a_driving_gate, pairs, levels, first_net, a_sum}
 use Rattle.dft_parts.proofs.Stores.{lockup_shape, dff_shape}
-use Rattle.dft_ring.specs.declared.ring.Ring.{Ring}
-use Rattle.dft_ring.specs.RingRecipe.{stage_terms, a_stage, a_phase, a_ring}
-use Rattle.dft_compact.specs.declared.mask_nets.MaskNets.{MaskNets}
-use Rattle.dft_compact.specs.CompactorRecipe.{a_next, a_mask, a_segment, segments, masks_at, a_gated, an_output, a_compactor}
+use Rattle.dft_edt.specs.declared.ring.Ring.{Ring}
+use Rattle.dft_edt.specs.RingRecipe.{stage_terms, a_stage, a_phase, a_ring}
+use Rattle.dft_edt.specs.declared.mask_nets.MaskNets.{MaskNets}
+use Rattle.dft_edt.specs.CompactorRecipe.{a_next, a_mask, a_segment, segments, masks_at, a_gated, an_output, a_compactor}
 use Rattle.dft_scan_frame.specs.Moves.{Gap, moved}
 use Rattle.dft_scan_frame.specs.Pins.{domain_in, number_of, own_output}
-use Rattle.dft_scan_hardware.specs.Chained as chained
-use Rattle.dft_scan_hardware.specs.Chained.{scan_roles, a_numbered_pin, a_role_pin, a_scan_in, an_open_output, own_or_made, a_row, rows, a_lockup_clock, a_lockup_behind, a_crossing, crossing_in, a_step, a_chain, a_latched_chain, a_fed_chain, cells_at, row_at, last_net}
-use Rattle.dft_scan_hardware.specs.Ports.{plain_in, plain_out}
-use Rattle.dft_scan_hardware.specs.Scanned.{a_plain_chain, a_plain_end, plain_recipe, an_edt_chain, behind_rows, edt_recipe}
+use Rattle.dft_insert.specs.Chained as chained
+use Rattle.dft_insert.specs.Chained.{scan_roles, a_numbered_pin, a_role_pin, a_scan_in, an_open_output, own_or_made, a_row, rows, a_lockup_clock, a_lockup_behind, a_crossing, crossing_in, a_step, a_chain, a_latched_chain, a_fed_chain, cells_at, row_at, last_net}
+use Rattle.dft_insert.specs.Ports.{plain_in, plain_out}
+use Rattle.dft_insert.specs.Scanned.{a_plain_chain, a_plain_end, plain_recipe, an_edt_chain, behind_rows, edt_recipe}
 use Rattle.dft_insert.proofs.Weights.{times, times_add, sum_of, sum_add, sum_zero, sum_same, Weighs, weighs_as, weighs_pure, weighs_bind, weighs_each, none_each, none_collect, one_in_range}
 
 -- ---- the weights

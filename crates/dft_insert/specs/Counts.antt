@@ -8,9 +8,9 @@ use Rattle.dft_config.specs.Config.{Config}
 use Rattle.dft_stitch.specs.Chains.{plan_of}
 use Rattle.dft_parts.specs.Cells.{is_lockup}
 use Rattle.dft_scan_frame.specs.Statements.{IsReady}
-use Rattle.dft_scan_hardware.specs.declared.style.Style.{Style}
-use Rattle.dft_scan_hardware.specs.declared.style.Style.TheVariants.{Plain, Edt}
-use Rattle.dft_scan_hardware.specs.Statements.{scanned}
+use Rattle.dft_insert.specs.declared.style.Style.{Style}
+use Rattle.dft_insert.specs.declared.style.Style.TheVariants.{Plain, Edt}
+use Rattle.dft_insert.specs.Statements.{scanned}
 
 -- how many instances behind the first so many are of a kind that passes a test
 abbrev pub count_behind : (Kind → Bool) → (first : ℕ) → Netlist → ℕ

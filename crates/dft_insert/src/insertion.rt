@@ -5,14 +5,14 @@ ghost use Rattle.dft_rules.specs.Refusals as rules;
 ghost use Rattle.dft_stitch.specs.Chains.{plan_of};
 ghost use Rattle.dft_scan_frame.specs.Refusals.{IsRefusal};
 ghost use Rattle.dft_scan_frame.specs.Statements.{CanFinish, IsReady};
-ghost use Rattle.dft_scan_hardware.specs.Refusals.{refusal};
-ghost use Rattle.dft_scan_hardware.specs.Scanned.{added_ids, scanned_netlist};
+ghost use Rattle.dft_insert.specs.Refusals.{refusal};
+ghost use Rattle.dft_insert.specs.Scanned.{added_ids, scanned_netlist};
 
 use crate::scanned::Scanned;
+use crate::{Style, Unfinished, make_scanned};
 use dft_config::Config;
 use dft_netlist::{Design, DesignBuilder};
 use dft_scan_frame::{InsertError, memory};
-use dft_scan_hardware::{Style, Unfinished, make_scanned};
 use dft_stitch::Chains;
 use std::alloc::{AllocError, Global};
 

@@ -25,10 +25,10 @@ use Rattle.dft_edt.specs.Loads.{CarryTable}
 use Rattle.dft_edt.specs.Vectors.{IsEdtShift, IsClearing, Carries}
 use Rattle.dft_scan_frame.specs.ConfigPorts.{config_ports}
 use Rattle.dft_scan_frame.specs.Statements.{IsReady}
-use Rattle.dft_scan_hardware.specs.declared.style.Style.TheVariants.{Edt}
-use Rattle.dft_scan_hardware.specs.Ports.{gap_in}
-use Rattle.dft_scan_equivalence.specs.Agreeing.{ports_in}
-use Rattle.dft_scan_equivalence.proofs.MadeGood.{from_at}
+use Rattle.dft_insert.specs.declared.style.Style.TheVariants.{Edt}
+use Rattle.dft_insert.specs.Ports.{gap_in}
+use Rattle.dft_insert.specs.Agreeing.{ports_in}
+use Rattle.dft_insert.proofs.MadeGood.{from_at}
 use Rattle.dft_scan_behavior.specs.EdtVectors.{edt_logic}
 use Rattle.dft_scan_behavior.specs.Facts.{chain_nets, edt_hardware}
 use Rattle.dft_scan_behavior.proofs.EdtUnder.{edt_rank}

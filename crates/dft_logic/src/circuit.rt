@@ -14,7 +14,7 @@ pub enum Operand {
     Net(NetId),
     Tied(bool),
     /// Nothing: the pin of this number of an instance is joined to no net.
-    Loose(InstanceId, usize),
+    Loose(InstanceId, u32),
 }
 
 /// Operands in order. A clause sees them as a list.

@@ -27,12 +27,12 @@ impl Model for Table {
     ghost invariant = { IsPacked };
 }
 
-// So many numbers, as an end.
-fn end_of(count: usize) -> Result<u32, AllocError>
-    ensures { IfOk result (λ end. end ≡ count) }
+// A count as a word of 32 bits. So many things as no such word counts take more memory than there is.
+pub(crate) fn word_of(count: usize) -> Result<u32, AllocError>
+    ensures { IfOk result (λ word. word ≡ count) }
 {
     match u32::try_from(count) {
-        Ok(end) => Ok(end),
+        Ok(word) => Ok(word),
         Err(_past) => Err(AllocError),
     }
 }
@@ -85,7 +85,7 @@ pub(crate) fn packed(alloc: Global, lists: &[Numbers]) -> Result<Table, AllocErr
     let mut numbers = Vec::new(alloc);
     for list in lists {
         numbers.extend_from_slice(list.as_slice())?;
-        ends.push(end_of(numbers.len())?)?;
+        ends.push(word_of(numbers.len())?)?;
     }
     Ok(Table { ends, numbers })
 }

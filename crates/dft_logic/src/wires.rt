@@ -6,6 +6,7 @@ ghost use Rattle.dft_logic.specs.Circuit.{source_at};
 ghost use Rattle.dft_logic.specs.Compiling.{wired_at, wired_by, inputs_in, found_in};
 
 use crate::circuit::{Operand, Operands};
+use crate::packed::word_of;
 use dft_cells::{Cell, Role};
 use dft_netlist::{Instance, InstanceId, Signal, is_role, role_at};
 use std::alloc::{AllocError, Global};
@@ -18,7 +19,7 @@ pub(crate) struct Wire {
 }
 
 // What a pin takes its value from.
-pub(crate) fn operand(instance: InstanceId, pin: usize, signal: Signal) -> Operand
+pub(crate) fn operand(instance: InstanceId, pin: u32, signal: Signal) -> Operand
     ensures { source_at result ≡ source_of instance.0 pin signal }
 {
     match signal {
@@ -41,7 +42,7 @@ pub(crate) fn wires(
     let mut wires = Vec::new(alloc);
     for (pin, signal) in instance.pins.as_slice().iter().enumerate() {
         if let Some(role) = role_at(library, instance.cell, pin) {
-            let source = operand(number, pin, *signal);
+            let source = operand(number, word_of(pin)?, *signal);
             wires.push(Wire { role, source })?;
         }
     }

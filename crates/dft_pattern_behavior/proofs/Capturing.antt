@@ -53,12 +53,12 @@ use Rattle.dft_scan_frame.specs.ConfigPorts.{config_ports}
 use Rattle.dft_scan_frame.specs.Statements.{IsReady}
 use Rattle.dft_scan_frame.proofs.Contained.{AreMatched}
 use Rattle.dft_scan_frame.proofs.Kept.{design_ports_few}
-use Rattle.dft_scan_hardware.specs.declared.style.Style.TheVariants.{Edt}
-use Rattle.dft_scan_hardware.specs.Statements.{scanned}
-use Rattle.dft_scan_equivalence.specs.Agreeing.{places_in, ports_in}
-use Rattle.dft_scan_equivalence.proofs.Driving.{ports_before}
-use Rattle.dft_scan_equivalence.proofs.Matching.{instance_matched}
-use Rattle.dft_scan_equivalence.proofs.Sparing.{spared}
+use Rattle.dft_insert.specs.declared.style.Style.TheVariants.{Edt}
+use Rattle.dft_insert.specs.Statements.{scanned}
+use Rattle.dft_insert.specs.Agreeing.{places_in, ports_in}
+use Rattle.dft_insert.proofs.Driving.{ports_before}
+use Rattle.dft_insert.proofs.Matching.{instance_matched}
+use Rattle.dft_insert.proofs.Sparing.{spared}
 use Rattle.dft_scan_behavior.specs.Capturing.{design_logic}
 use Rattle.dft_scan_behavior.specs.EdtVectors.{SuitsEdt, edt_logic}
 use Rattle.dft_scan_behavior.specs.Facts.{edt_hardware}

@@ -23,10 +23,10 @@ use Rattle.dft_patterns.specs.declared.act.Act.{Act}
 use Rattle.dft_patterns.specs.Steadiness.{is_pulse}
 use Rattle.dft_scan_frame.specs.ConfigPorts.{config_ports}
 use Rattle.dft_scan_frame.specs.Statements.{IsReady}
-use Rattle.dft_scan_hardware.specs.declared.style.Style.TheVariants.{Edt}
-use Rattle.dft_scan_hardware.specs.Ports.{gap_in}
-use Rattle.dft_scan_hardware.specs.Statements.{scanned}
-use Rattle.dft_scan_equivalence.specs.Agreeing.{ports_in}
+use Rattle.dft_insert.specs.declared.style.Style.TheVariants.{Edt}
+use Rattle.dft_insert.specs.Ports.{gap_in}
+use Rattle.dft_insert.specs.Statements.{scanned}
+use Rattle.dft_insert.specs.Agreeing.{ports_in}
 use Rattle.dft_pattern_behavior.proofs.Clocks.{named_input, pulsed_clock, reset_rests}
 use Rattle.dft_vectors.specs.AddedPorts.{added_inputs, no_bits, ring_clock, set_all, shifting}
 use Rattle.dft_vectors.specs.OwnPorts.{inputs_by, outputs_ignored, pulsing_vector, quiet_vector, set_to}

@@ -17,11 +17,11 @@ use Rattle.dft_netlist.proofs.LiveDriven.{AreBefore, before_front, before_back}
 use Rattle.dft_config.specs.Config.{Config}
 use Rattle.dft_scan_frame.specs.AddedPorts.{NewPort, new_port, numbered, ports_from}
 use Rattle.dft_scan_frame.specs.Statements.{IsReady}
-use Rattle.dft_scan_hardware.specs.declared.style.Style.TheVariants.{Edt}
-use Rattle.dft_scan_hardware.specs.Ports.{added_ports, compression_ports, gap_in}
-use Rattle.dft_scan_hardware.specs.Statements.{scanned}
-use Rattle.dft_scan_hardware.proofs.Keeping.{adds_in_order}
-use Rattle.dft_scan_equivalence.proofs.Driving.{ports_before}
+use Rattle.dft_insert.specs.declared.style.Style.TheVariants.{Edt}
+use Rattle.dft_insert.specs.Ports.{added_ports, compression_ports, gap_in}
+use Rattle.dft_insert.specs.Statements.{scanned}
+use Rattle.dft_insert.proofs.Keeping.{adds_in_order}
+use Rattle.dft_insert.proofs.Driving.{ports_before}
 use Rattle.dft_vectors.specs.Signals.{bits_in, input_bits}
 use Rattle.dft_pattern_behavior.proofs.Listed.{AllNets, all_both, is_in}
 

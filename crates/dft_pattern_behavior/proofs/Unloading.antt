@@ -32,8 +32,8 @@ use Rattle.dft_expect.specs.Loaded.{loaded_of, loaded_values}
 use Rattle.dft_expect.specs.Masks.{always_of, by_chain, is_unknown}
 use Rattle.dft_expect.proofs.MaskLemmas.{unmasked}
 use Rattle.dft_scan_frame.specs.Statements.{IsReady}
-use Rattle.dft_scan_hardware.specs.declared.style.Style.TheVariants.{Edt}
-use Rattle.dft_scan_equivalence.specs.Agreeing.{ports_in}
+use Rattle.dft_insert.specs.declared.style.Style.TheVariants.{Edt}
+use Rattle.dft_insert.specs.Agreeing.{ports_in}
 use Rattle.dft_scan_behavior.specs.EdtVectors.{SuitsEdt, edt_logic}
 use Rattle.dft_scan_behavior.specs.Experiments.{Carry}
 use Rattle.dft_scan_behavior.specs.Facts.{chain_nets, edt_hardware}

@@ -14,8 +14,8 @@ use Rattle.dft_patterns.specs.declared.act.Act.{Act}
 use Rattle.dft_patterns.specs.declared.act.Act.TheVariants.{Unset, Low, High, Pulse, ExpectLow, ExpectHigh, Ignore}
 use Rattle.dft_patterns.specs.Steadiness.{is_pulse}
 use Rattle.dft_scan_frame.specs.Statements.{IsReady}
-use Rattle.dft_scan_hardware.specs.declared.style.Style.TheVariants.{Edt}
-use Rattle.dft_scan_hardware.specs.Statements.{scanned}
+use Rattle.dft_insert.specs.declared.style.Style.TheVariants.{Edt}
+use Rattle.dft_insert.specs.Statements.{scanned}
 use Rattle.dft_scan_behavior.specs.EdtVectors.{SuitsEdt}
 use Rattle.dft_scan_behavior.specs.Facts.{edt_hardware}
 use Rattle.dft_pattern_behavior.specs.Given.{AreCapturesFrom, Pattern, IsLoadOf}

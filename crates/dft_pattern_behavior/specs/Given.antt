@@ -19,8 +19,8 @@ use Rattle.dft_expect.specs.declared.response.Response.{Response}
 use Rattle.dft_expect.specs.Captures.{IsCapture, capture_clock, captured_domains, vector_of}
 use Rattle.dft_expect.specs.Loaded.{loaded_of}
 use Rattle.dft_expect.specs.Masks.{always_of, by_chain, masks_of}
-use Rattle.dft_scan_hardware.specs.declared.style.Style.TheVariants.{Edt}
-use Rattle.dft_scan_equivalence.specs.Agreeing.{places_in}
+use Rattle.dft_insert.specs.declared.style.Style.TheVariants.{Edt}
+use Rattle.dft_insert.specs.Agreeing.{places_in}
 use Rattle.dft_scan_behavior.specs.Experiments.{Carry, Send}
 use Rattle.dft_scan_behavior.specs.Facts.{edt_hardware}
 

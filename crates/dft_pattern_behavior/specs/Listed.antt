@@ -9,8 +9,8 @@ use Rattle.dft_config.specs.Config.{Config}
 use Rattle.dft_runs.specs.Passes.{AreRounds}
 use Rattle.dft_stitch.specs.Chains.{plan_of}
 use Rattle.dft_scan_frame.specs.Statements.{IsReady}
-use Rattle.dft_scan_hardware.specs.declared.style.Style.TheVariants.{Edt}
-use Rattle.dft_scan_hardware.specs.Statements.{scanned}
+use Rattle.dft_insert.specs.declared.style.Style.TheVariants.{Edt}
+use Rattle.dft_insert.specs.Statements.{scanned}
 use Rattle.dft_scan_behavior.specs.EdtVectors.{SuitsEdt, edt_logic}
 use Rattle.dft_pattern_behavior.specs.Given.{Pattern, IsPattern}
 use Rattle.dft_pattern_behavior.specs.Rounds.{AreShown, LastLoad, Played}

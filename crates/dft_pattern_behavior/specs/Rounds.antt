@@ -18,8 +18,8 @@ use Rattle.dft_expect.specs.Captures.{output_bits}
 use Rattle.dft_expect.specs.Expected.{output_bit}
 use Rattle.dft_expect.specs.Masks.{by_chain}
 use Rattle.dft_scan_frame.specs.Statements.{IsReady}
-use Rattle.dft_scan_hardware.specs.declared.style.Style.TheVariants.{Edt}
-use Rattle.dft_scan_equivalence.specs.Agreeing.{places_in}
+use Rattle.dft_insert.specs.declared.style.Style.TheVariants.{Edt}
+use Rattle.dft_insert.specs.Agreeing.{places_in}
 use Rattle.dft_scan_behavior.specs.EdtVectors.{SuitsEdt, edt_logic}
 use Rattle.dft_scan_behavior.specs.Experiments.{Carry}
 use Rattle.dft_scan_behavior.specs.Facts.{edt_hardware}

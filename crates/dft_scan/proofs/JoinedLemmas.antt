@@ -21,13 +21,13 @@ use Rattle.dft_parts.specs.Parts.{Part, ANet, AnInstance, APin, Making, joined_t
 use Rattle.dft_parts.specs.Recipes.{at_nets}
 use Rattle.dft_scan_frame.specs.Moves.{Gap, moved_signal, map_from}
 use Rattle.dft_scan_frame.proofs.Joined.{connected}
-use Rattle.dft_scan_hardware.specs.declared.style.Style.{Style}
-use Rattle.dft_scan_hardware.specs.Frame.{as_scan_cell, framed_instance, framed_at}
-use Rattle.dft_scan_hardware.specs.Ports.{gap_in}
-use Rattle.dft_scan_hardware.specs.Scanned.{framed, parts_of}
-use Rattle.dft_scan_hardware.specs.Statements.{scanned}
-use Rattle.dft_scan_hardware.proofs.Chains.{parts_hold}
-use Rattle.dft_scan_hardware.proofs.Joins.{Each}
+use Rattle.dft_insert.specs.declared.style.Style.{Style}
+use Rattle.dft_insert.specs.Frame.{as_scan_cell, framed_instance, framed_at}
+use Rattle.dft_insert.specs.Ports.{gap_in}
+use Rattle.dft_insert.specs.Scanned.{framed, parts_of}
+use Rattle.dft_insert.specs.Statements.{scanned}
+use Rattle.dft_insert.proofs.Chains.{parts_hold}
+use Rattle.dft_insert.proofs.Joins.{Each}
 use Rattle.dft_verilog_out.specs.Named.{IsJoinedGate, GatesAreJoined}
 
 -- ---- pins

@@ -19,9 +19,9 @@ use Rattle.dft_stitch.specs.Planning as planning
 use Rattle.dft_stitch.proofs.PlannedLemmas.{by_rules, by_stitch}
 use Rattle.dft_scan_frame.specs.declared.error.InsertError.{InsertError}
 use Rattle.dft_scan_frame.specs.declared.error.InsertError.TheVariants as insert_error
-use Rattle.dft_scan_hardware.specs.declared.style.Style.TheVariants.{Plain}
+use Rattle.dft_insert.specs.declared.style.Style.TheVariants.{Plain}
 use Rattle.dft_scan_frame.specs.Refusals as frame
-use Rattle.dft_scan_hardware.specs.Refusals as insert
+use Rattle.dft_insert.specs.Refusals as insert
 use Rattle.dft_report.specs.declared.error.ReportError.{ReportError}
 use Rattle.dft_report.specs.declared.error.ReportError.TheVariants as report_error
 use Rattle.dft_report.specs.declared.limits.TheConstants.{MAX_BYTES}

@@ -6,8 +6,8 @@ use Rattle.dft_config.specs.Config.{Config}
 use Rattle.dft_rules.specs.Refusals as rules
 use Rattle.dft_stitch.specs.Chains.{plan_of}
 use Rattle.dft_stitch.specs.Limits as stitch
-use Rattle.dft_scan_hardware.specs.declared.style.Style.TheVariants.{Plain}
-use Rattle.dft_scan_hardware.specs.Refusals as insert
+use Rattle.dft_insert.specs.declared.style.Style.TheVariants.{Plain}
+use Rattle.dft_insert.specs.Refusals as insert
 use Rattle.dft_report.specs.declared.error.ReportError.{ReportError}
 use Rattle.dft_report.specs.declared.error.ReportError.TheVariants.{K6}
 use Rattle.dft_report.specs.declared.limits.TheConstants.{MAX_BYTES}

@@ -7,8 +7,8 @@ use Rattle.dft_rules.specs.declared.judged.Judged.{Judged}
 use Rattle.dft_rules.specs.Rules.{judgements}
 use Rattle.dft_stitch.specs.Chains.{plan_of}
 use Rattle.dft_stitch.specs.Plans.{Plan}
-use Rattle.dft_scan_hardware.specs.declared.style.Style.TheVariants.{Plain}
-use Rattle.dft_scan_hardware.specs.Statements.{scanned}
+use Rattle.dft_insert.specs.declared.style.Style.TheVariants.{Plain}
+use Rattle.dft_insert.specs.Statements.{scanned}
 use Rattle.dft_report.specs.Written as report
 use Rattle.dft_verilog_out.specs.Written as netlist
 use Rattle.dft_scan.specs.declared.texts.Counts.{Counts}

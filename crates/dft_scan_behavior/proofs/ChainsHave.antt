@@ -12,11 +12,11 @@ use Rattle.dft_stitch.specs.Chains.{plan_of}
 use Rattle.dft_stitch.specs.Plans.{cell_at}
 use Rattle.dft_chains.specs.Hardware.{IsScanCell, Leads}
 use Rattle.dft_scan_frame.specs.Statements.{IsReady}
-use Rattle.dft_scan_hardware.specs.declared.style.Style.{Style}
-use Rattle.dft_scan_hardware.specs.Ports.{gap_in}
-use Rattle.dft_scan_hardware.specs.Statements.{scanned}
-use Rattle.dft_scan_equivalence.specs.Agreeing.{ports_in}
-use Rattle.dft_scan_equivalence.proofs.Containing.{enable_input}
+use Rattle.dft_insert.specs.declared.style.Style.{Style}
+use Rattle.dft_insert.specs.Ports.{gap_in}
+use Rattle.dft_insert.specs.Statements.{scanned}
+use Rattle.dft_insert.specs.Agreeing.{ports_in}
+use Rattle.dft_insert.proofs.Containing.{enable_input}
 use Rattle.dft_scan_behavior.specs.Facts.{taken_by, HasScanChains}
 use Rattle.dft_scan_behavior.proofs.Outputs.{has_chain, at_chain}
 use Rattle.dft_scan_behavior.proofs.Planned.{now_pins, IsPlanned, planned, pin_source, scan_cell}

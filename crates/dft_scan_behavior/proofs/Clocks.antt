@@ -20,8 +20,8 @@ use Rattle.dft_scan_frame.specs.Moves.{moved}
 use Rattle.dft_scan_frame.specs.Statements.{IsReady}
 use Rattle.dft_scan_frame.proofs.Kept.{root_among, clock_among}
 use Rattle.dft_scan_frame.proofs.Whole.{moved_front}
-use Rattle.dft_scan_hardware.specs.declared.style.Style.{Style}
-use Rattle.dft_scan_hardware.specs.Ports.{gap_in}
+use Rattle.dft_insert.specs.declared.style.Style.{Style}
+use Rattle.dft_insert.specs.Ports.{gap_in}
 
 -- ---- the clock
 

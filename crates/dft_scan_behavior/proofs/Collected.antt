@@ -11,7 +11,7 @@ use Rattle.dft_netlist.specs.Netlist.{Netlist}
 use Rattle.dft_parts.specs.Recipes.{Start, Recipe, behind, collect}
 use Rattle.dft_scan_frame.specs.Moves.{Gap}
 use Rattle.dft_scan_frame.specs.Pins.{number_of, own_output}
-use Rattle.dft_scan_hardware.specs.Chained.{scan_roles, a_numbered_pin, an_open_output, own_or_made, an_output, a_row, rows}
+use Rattle.dft_insert.specs.Chained.{scan_roles, a_numbered_pin, an_open_output, own_or_made, an_output, a_row, rows}
 use Rattle.dft_scan_behavior.proofs.FirstNets.{first_at, first-append, or_first, Found, found_first, found_later, part_found}
 
 -- ---- values

@@ -8,15 +8,15 @@ use Rattle.dft_parts.specs.Growth.{HasParts}
 use Rattle.dft_parts.specs.Parts.{Part}
 use Rattle.dft_parts.specs.Recipes.{Start, behind, each, start_of}
 use Rattle.dft_parts.proofs.Growing.{parts_grow}
-use Rattle.dft_compact.specs.CompactorRecipe.{a_compactor}
+use Rattle.dft_edt.specs.CompactorRecipe.{a_compactor}
 use Rattle.dft_scan_frame.proofs.Whole.{length_map_from}
-use Rattle.dft_scan_hardware.specs.declared.style.Style.{Style}
-use Rattle.dft_scan_hardware.specs.declared.style.Style.TheVariants.{Plain, Edt}
-use Rattle.dft_scan_hardware.specs.Chained.{last_net}
-use Rattle.dft_scan_hardware.specs.Frame.{framed_at}
-use Rattle.dft_scan_hardware.specs.Ports.{gap_in}
-use Rattle.dft_scan_hardware.specs.Scanned.{a_plain_chain, a_plain_end, plain_recipe, behind_rows, edt_recipe, framed}
-use Rattle.dft_scan_hardware.specs.Statements.{scanned, made_in}
+use Rattle.dft_insert.specs.declared.style.Style.{Style}
+use Rattle.dft_insert.specs.declared.style.Style.TheVariants.{Plain, Edt}
+use Rattle.dft_insert.specs.Chained.{last_net}
+use Rattle.dft_insert.specs.Frame.{framed_at}
+use Rattle.dft_insert.specs.Ports.{gap_in}
+use Rattle.dft_insert.specs.Scanned.{a_plain_chain, a_plain_end, plain_recipe, behind_rows, edt_recipe, framed}
+use Rattle.dft_insert.specs.Statements.{scanned, made_in}
 use Rattle.dft_scan_behavior.specs.Facts.{rows_in, ports_of, ring_parts, chain_parts, compactor_start}
 
 -- ---- style Plain

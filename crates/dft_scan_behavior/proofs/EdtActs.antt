@@ -19,8 +19,8 @@ use Rattle.dft_edt.specs.Vectors.{ShiftedBits}
 use Rattle.dft_edt.proofs.Loads.{shift_in_runs, holds_in_runs, known_one}
 use Rattle.dft_edt.proofs.Steps.{clear_law, shift_law, mask_law, hold_law, rest_law, output_law, output_in_runs}
 use Rattle.dft_scan_frame.specs.Statements.{IsReady}
-use Rattle.dft_scan_hardware.specs.declared.style.Style.TheVariants.{Edt}
-use Rattle.dft_scan_equivalence.specs.Agreeing.{ports_in}
+use Rattle.dft_insert.specs.declared.style.Style.TheVariants.{Edt}
+use Rattle.dft_insert.specs.Agreeing.{ports_in}
 use Rattle.dft_scan_behavior.specs.EdtVectors.{SuitsEdt, edt_logic, IsShift, last_cell, VectorsActInRuns, VectorsAct}
 use Rattle.dft_scan_behavior.specs.Facts.{chain_nets, edt_hardware}
 use Rattle.dft_scan_behavior.proofs.EdtUnder.{edt_under, edt_heads, edt_rank}

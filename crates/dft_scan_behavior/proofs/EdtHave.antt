@@ -16,15 +16,15 @@ use Rattle.dft_stitch.proofs.OrderLemmas.{head_is}
 use Rattle.dft_parts.specs.Recipes.{net_at}
 use Rattle.dft_parts.specs.Standing.{IsClockNet}
 use Rattle.dft_edt.specs.Hardware.{EdtNets, IsEntered, HasPhase, HasEnd}
-use Rattle.dft_ring.specs.RingStands.{with_ring, HasRingParts}
-use Rattle.dft_compact.specs.CompactorStands.{HasGated, HasCompactorParts}
+use Rattle.dft_edt.specs.RingStands.{with_ring, HasRingParts}
+use Rattle.dft_edt.specs.CompactorStands.{HasGated, HasCompactorParts}
 use Rattle.dft_scan_frame.specs.Statements.{IsReady}
-use Rattle.dft_scan_hardware.specs.declared.style.Style.TheVariants.{Edt}
-use Rattle.dft_scan_hardware.specs.Chained.{last_net}
-use Rattle.dft_scan_hardware.specs.Ports.{gap_in}
-use Rattle.dft_scan_hardware.specs.Statements.{scanned}
-use Rattle.dft_scan_equivalence.specs.Agreeing.{ports_in}
-use Rattle.dft_scan_equivalence.proofs.MadeGood.{from_at}
+use Rattle.dft_insert.specs.declared.style.Style.TheVariants.{Edt}
+use Rattle.dft_insert.specs.Chained.{last_net}
+use Rattle.dft_insert.specs.Ports.{gap_in}
+use Rattle.dft_insert.specs.Statements.{scanned}
+use Rattle.dft_insert.specs.Agreeing.{ports_in}
+use Rattle.dft_insert.proofs.MadeGood.{from_at}
 use Rattle.dft_scan_behavior.specs.Facts.{chain_nets, rows_in, ports_of, ring_start, ring_parts, ring_number, no_nets, edt_hardware, HasEdtHardware}
 use Rattle.dft_scan_behavior.proofs.ChainsFilled.{chain_filled}
 use Rattle.dft_scan_behavior.proofs.ChainsHave.{into_is, chains_have}

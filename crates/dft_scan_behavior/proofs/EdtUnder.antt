@@ -9,10 +9,10 @@ use Rattle.dft_stitch.specs.Plans.{falling_head}
 use Rattle.dft_edt.specs.Hardware.{HeadsAre}
 use Rattle.dft_edt.proofs.Staying.{hardware_stays, heads_stay}
 use Rattle.dft_scan_frame.specs.Statements.{IsReady}
-use Rattle.dft_scan_hardware.specs.declared.style.Style.TheVariants.{Edt}
-use Rattle.dft_scan_hardware.specs.Statements.{scanned}
-use Rattle.dft_scan_equivalence.proofs.Finished.{scanned_orderable}
-use Rattle.dft_scan_equivalence.specs.Agreeing.{ports_in}
+use Rattle.dft_insert.specs.declared.style.Style.TheVariants.{Edt}
+use Rattle.dft_insert.specs.Statements.{scanned}
+use Rattle.dft_insert.proofs.Finished.{scanned_orderable}
+use Rattle.dft_insert.specs.Agreeing.{ports_in}
 use Rattle.dft_scan_behavior.specs.EdtVectors.{SuitsEdt, edt_logic, HasEdtUnder}
 use Rattle.dft_scan_behavior.specs.Facts.{chain_nets, edt_hardware}
 use Rattle.dft_scan_behavior.proofs.EdtHave.{head_edge, edt_has}

@@ -11,7 +11,7 @@ use Rattle.dft_parts.specs.Growth.{HasParts, instances_in}
 use Rattle.dft_parts.specs.Parts.{Part, ANet, AnInstance, APin, joined_to, pin_joined}
 use Rattle.dft_parts.specs.Recipes.{Start, Recipe, ◌>>=◌, behind, each}
 use Rattle.dft_parts.proofs.Trees.{front, back}
-use Rattle.dft_scan_hardware.proofs.Joins.{Each, JoinsAt, joined_in, stays_joined, joined_if}
+use Rattle.dft_insert.proofs.Joins.{Each, JoinsAt, joined_in, stays_joined, joined_if}
 
 -- the net of the first of these parts that joins a pin of an instance
 abbrev pub first_at : List Part → (i p : ℕ) → Option NetId

@@ -15,11 +15,11 @@ use Rattle.dft_parts.specs.Parts.{Part}
 use Rattle.dft_parts.specs.Recipes.{net_at, start_of}
 use Rattle.dft_parts.proofs.Growing.{parts_grow}
 use Rattle.dft_parts.proofs.Stores.{dff_shape}
-use Rattle.dft_scan_hardware.specs.declared.style.Style.TheVariants.{Edt}
-use Rattle.dft_scan_hardware.specs.Chained.{cells_at, row_at, last_net}
-use Rattle.dft_scan_hardware.specs.Ports.{gap_in}
-use Rattle.dft_scan_hardware.specs.Scanned.{an_edt_chain, framed}
-use Rattle.dft_scan_hardware.specs.Statements.{scanned, made_in}
+use Rattle.dft_insert.specs.declared.style.Style.TheVariants.{Edt}
+use Rattle.dft_insert.specs.Chained.{cells_at, row_at, last_net}
+use Rattle.dft_insert.specs.Ports.{gap_in}
+use Rattle.dft_insert.specs.Scanned.{an_edt_chain, framed}
+use Rattle.dft_insert.specs.Statements.{scanned, made_in}
 use Rattle.dft_scan_behavior.specs.Facts.{rows_in, ports_of, ring_start, ring_parts, ring_number, chains_start, chain_parts, compactor_start, compactor_number, edt_hardware}
 use Rattle.dft_scan_behavior.specs.FlopOrder.{FlopsInOrder}
 use Rattle.dft_scan_behavior.proofs.Cuts.{compactor_list, rest_of, made_cut, all_there}

@@ -25,16 +25,16 @@ use Rattle.dft_parts.specs.Recipes.{Start, Recipe, pure, ◌>>◌, behind, each,
 use Rattle.dft_parts.specs.Sums.{a_driving_gate, a_sum}
 use Rattle.dft_edt.specs.Hardware.{group_of}
 use Rattle.dft_config.specs.Segments.{segment_length, segment_start}
-use Rattle.dft_ring.specs.RingRecipe.{stage_terms, a_stage, a_phase, a_ring}
-use Rattle.dft_ring.specs.RingStands.{run_parts, stage_flop}
-use Rattle.dft_ring.proofs.PartLists.{instances_in-append, each_parts, each_more}
-use Rattle.dft_compact.specs.CompactorRecipe.{a_next, a_mask, a_segment, segments, masks_at, a_gated, a_compactor}
-use Rattle.dft_compact.specs.CompactorRecipe as compact
-use Rattle.dft_compact.proofs.MaskFacts.{segment_count, cut_count}
+use Rattle.dft_edt.specs.RingRecipe.{stage_terms, a_stage, a_phase, a_ring}
+use Rattle.dft_edt.specs.RingStands.{run_parts, stage_flop}
+use Rattle.dft_edt.proofs.PartLists.{instances_in-append, each_parts, each_more}
+use Rattle.dft_edt.specs.CompactorRecipe.{a_next, a_mask, a_segment, segments, masks_at, a_gated, a_compactor}
+use Rattle.dft_edt.specs.CompactorRecipe as compact
+use Rattle.dft_edt.proofs.MaskFacts.{segment_count, cut_count}
 use Rattle.dft_edt.proofs.Steps.{all_segments}
 use Rattle.dft_scan_frame.specs.Moves.{Gap}
 use Rattle.dft_scan_frame.specs.Pins.{domain_in, own_output}
-use Rattle.dft_scan_hardware.specs.Chained.{a_numbered_pin, a_role_pin, a_scan_in, an_open_output, own_or_made, an_output, a_row, rows, a_lockup_clock, a_lockup_behind, a_crossing, crossing_in, a_step, a_chain, a_latched_chain, a_fed_chain}
+use Rattle.dft_insert.specs.Chained.{a_numbered_pin, a_role_pin, a_scan_in, an_open_output, own_or_made, an_output, a_row, rows, a_lockup_clock, a_lockup_behind, a_crossing, crossing_in, a_step, a_chain, a_latched_chain, a_fed_chain}
 use Rattle.dft_scan_behavior.proofs.FlopsListed.{flops_in, flops-append, Quiet, quiet_bind, quiet_pure, quiet_each, quiet_collect, quiet_net, quiet_gate, quiet_driving, quiet_lockup, quiet_sum}
 
 -- ---- one flip-flop

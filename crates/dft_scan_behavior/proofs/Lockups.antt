@@ -39,16 +39,16 @@ use Rattle.dft_scan_frame.specs.Pins as pins
 use Rattle.dft_scan_frame.specs.Statements.{IsReady}
 use Rattle.dft_scan_frame.proofs.Kept.{design_ports_few}
 use Rattle.dft_scan_frame.proofs.Mergings.{moved_driver}
-use Rattle.dft_scan_hardware.specs.declared.style.Style.{Style}
-use Rattle.dft_scan_hardware.specs.Chained.{row_at}
-use Rattle.dft_scan_hardware.specs.Ports.{gap_in}
-use Rattle.dft_scan_hardware.specs.Scanned.{framed}
-use Rattle.dft_scan_hardware.specs.Statements.{scanned, made_in}
-use Rattle.dft_scan_equivalence.proofs.Finished.{scanned_single}
-use Rattle.dft_scan_equivalence.specs.Agreeing.{ports_in}
-use Rattle.dft_scan_equivalence.proofs.Driving.{driver_kept}
-use Rattle.dft_scan_equivalence.proofs.Matching.{longer}
-use Rattle.dft_scan_equivalence.proofs.Sparing.{spared}
+use Rattle.dft_insert.specs.declared.style.Style.{Style}
+use Rattle.dft_insert.specs.Chained.{row_at}
+use Rattle.dft_insert.specs.Ports.{gap_in}
+use Rattle.dft_insert.specs.Scanned.{framed}
+use Rattle.dft_insert.specs.Statements.{scanned, made_in}
+use Rattle.dft_insert.proofs.Finished.{scanned_single}
+use Rattle.dft_insert.specs.Agreeing.{ports_in}
+use Rattle.dft_insert.proofs.Driving.{driver_kept}
+use Rattle.dft_insert.proofs.Matching.{longer}
+use Rattle.dft_insert.proofs.Sparing.{spared}
 use Rattle.dft_scan_behavior.specs.Facts.{rows_in}
 use Rattle.dft_scan_behavior.proofs.Clocks.{net_is, same_clock, port_among, port_stays}
 use Rattle.dft_scan_behavior.proofs.Outputs.{IsShown, means}

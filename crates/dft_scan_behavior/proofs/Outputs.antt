@@ -22,14 +22,14 @@ use Rattle.dft_parts.specs.Recipes.{start_of}
 use Rattle.dft_scan_frame.specs.Moves.{Gap, at_net, moved, moved_signal}
 use Rattle.dft_scan_frame.specs.Pins.{number_of, net_of, own_output}
 use Rattle.dft_scan_frame.specs.Statements.{IsReady}
-use Rattle.dft_scan_hardware.specs.declared.style.Style.{Style}
-use Rattle.dft_scan_hardware.specs.Chained.{scan_roles, own_or_made}
-use Rattle.dft_scan_hardware.specs.Ports.{gap_in}
-use Rattle.dft_scan_hardware.specs.Scanned.{framed}
-use Rattle.dft_scan_hardware.specs.Statements.{scanned, made_in}
-use Rattle.dft_scan_hardware.proofs.Joins.{stays_joined}
-use Rattle.dft_scan_equivalence.specs.Agreeing.{ports_in}
-use Rattle.dft_scan_equivalence.proofs.Driving.{index_is, moved_index}
+use Rattle.dft_insert.specs.declared.style.Style.{Style}
+use Rattle.dft_insert.specs.Chained.{scan_roles, own_or_made}
+use Rattle.dft_insert.specs.Ports.{gap_in}
+use Rattle.dft_insert.specs.Scanned.{framed}
+use Rattle.dft_insert.specs.Statements.{scanned, made_in}
+use Rattle.dft_insert.proofs.Joins.{stays_joined}
+use Rattle.dft_insert.specs.Agreeing.{ports_in}
+use Rattle.dft_insert.proofs.Driving.{index_is, moved_index}
 use Rattle.dft_scan_behavior.specs.Facts.{rows_in}
 use Rattle.dft_scan_behavior.proofs.Collected.{rows_found, rows_own, rows_none}
 use Rattle.dft_scan_behavior.proofs.Cuts.{rest_of, made_cut}

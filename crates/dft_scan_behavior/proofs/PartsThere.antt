@@ -9,16 +9,16 @@ use Rattle.dft_parts.specs.Standing.{IsClockNet}
 use Rattle.dft_parts.proofs.Growing.{parts_grow}
 use Rattle.dft_parts.proofs.Trees.{front, back}
 use Rattle.dft_edt.specs.Hardware.{EdtNets}
-use Rattle.dft_ring.specs.RingStands.{with_ring, HasRingParts}
-use Rattle.dft_ring.proofs.RingFacts.{ring_stands}
-use Rattle.dft_compact.specs.CompactorStands.{with_compactor, HasCompactorParts}
-use Rattle.dft_compact.proofs.CompactorFacts.{compactor_stands}
+use Rattle.dft_edt.specs.RingStands.{with_ring, HasRingParts}
+use Rattle.dft_edt.proofs.RingFacts.{ring_stands}
+use Rattle.dft_edt.specs.CompactorStands.{with_compactor, HasCompactorParts}
+use Rattle.dft_edt.proofs.CompactorFacts.{compactor_stands}
 use Rattle.dft_scan_frame.specs.Statements.{IsReady}
-use Rattle.dft_scan_hardware.specs.declared.style.Style.TheVariants.{Edt}
-use Rattle.dft_scan_hardware.specs.Chained.{last_net}
-use Rattle.dft_scan_hardware.specs.Scanned.{framed}
-use Rattle.dft_scan_hardware.specs.Statements.{scanned, made_in}
-use Rattle.dft_scan_equivalence.proofs.Finished.{scanned_single}
+use Rattle.dft_insert.specs.declared.style.Style.TheVariants.{Edt}
+use Rattle.dft_insert.specs.Chained.{last_net}
+use Rattle.dft_insert.specs.Scanned.{framed}
+use Rattle.dft_insert.specs.Statements.{scanned, made_in}
+use Rattle.dft_insert.proofs.Finished.{scanned_single}
 use Rattle.dft_scan_behavior.proofs.Cuts.{compactor_list, all_there}
 use Rattle.dft_scan_behavior.specs.Facts.{ports_of, rows_in, ring_start, ring_parts, chain_parts, compactor_start, ring_number, compactor_number}
 

@@ -18,15 +18,15 @@ use Rattle.dft_parts.specs.Growth.{HasParts, instances_in}
 use Rattle.dft_parts.specs.Recipes.{each, net_at}
 use Rattle.dft_parts.proofs.Standing.{gate_stands}
 use Rattle.dft_parts.proofs.Trees.{back}
-use Rattle.dft_ring.proofs.PartLists.{each_there, range_at}
+use Rattle.dft_edt.proofs.PartLists.{each_there, range_at}
 use Rattle.dft_scan_frame.specs.Statements.{IsReady}
-use Rattle.dft_scan_hardware.specs.declared.style.Style.TheVariants.{Plain}
-use Rattle.dft_scan_hardware.specs.Chained.{row_at, last_net}
-use Rattle.dft_scan_hardware.specs.Ports.{gap_in, plain_out}
-use Rattle.dft_scan_hardware.specs.Scanned.{a_plain_end}
-use Rattle.dft_scan_hardware.specs.Statements.{scanned}
-use Rattle.dft_scan_equivalence.proofs.Finished.{scanned_single}
-use Rattle.dft_scan_equivalence.specs.Agreeing.{ports_in}
+use Rattle.dft_insert.specs.declared.style.Style.TheVariants.{Plain}
+use Rattle.dft_insert.specs.Chained.{row_at, last_net}
+use Rattle.dft_insert.specs.Ports.{gap_in, plain_out}
+use Rattle.dft_insert.specs.Scanned.{a_plain_end}
+use Rattle.dft_insert.specs.Statements.{scanned}
+use Rattle.dft_insert.proofs.Finished.{scanned_single}
+use Rattle.dft_insert.specs.Agreeing.{ports_in}
 use Rattle.dft_scan_behavior.specs.Facts.{rows_in, plain_nets, HasPlainHardware}
 use Rattle.dft_scan_behavior.proofs.ChainsHave.{into_is, chains_have}
 use Rattle.dft_scan_behavior.proofs.Cuts.{plain_chain_parts, ends_start, end_parts, rest_of, all_there}

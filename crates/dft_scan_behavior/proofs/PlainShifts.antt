@@ -1,10 +1,10 @@
 -- The chains of a scanned netlist of style Plain shift, and their ends are shown.
 use Rattle.dft_stitch.specs.Chains.{plan_of}
 use Rattle.dft_chains.proofs.Shiftings.{shift_experiment, ends_show}
-use Rattle.dft_scan_hardware.specs.declared.style.Style.TheVariants.{Plain}
-use Rattle.dft_scan_hardware.specs.Statements.{scanned}
-use Rattle.dft_scan_equivalence.proofs.Finished.{scanned_orderable}
-use Rattle.dft_scan_equivalence.specs.Agreeing.{ports_in}
+use Rattle.dft_insert.specs.declared.style.Style.TheVariants.{Plain}
+use Rattle.dft_insert.specs.Statements.{scanned}
+use Rattle.dft_insert.proofs.Finished.{scanned_orderable}
+use Rattle.dft_insert.specs.Agreeing.{ports_in}
 use Rattle.dft_scan_behavior.specs.Facts.{plain_nets}
 use Rattle.dft_scan_behavior.specs.PlainLaws.{plain_logic, ScannedShifts, ScannedShows}
 use Rattle.dft_scan_behavior.proofs.Heights.{ranked}

@@ -33,20 +33,20 @@ use Rattle.dft_scan_frame.specs.Moves.{at_net, moved_signal}
 use Rattle.dft_scan_frame.specs.Statements.{IsReady}
 use Rattle.dft_scan_frame.proofs.Contained.{AreMatched}
 use Rattle.dft_scan_frame.proofs.Standing.{IsScannedFlop, stands_scanned}
-use Rattle.dft_scan_hardware.specs.declared.style.Style.{Style}
-use Rattle.dft_scan_hardware.specs.Chained.{roles_of, scan_roles}
-use Rattle.dft_scan_hardware.specs.Frame.{framed_pins, as_scan_cell, framed_instance}
-use Rattle.dft_scan_hardware.specs.Ports.{gap_in}
-use Rattle.dft_scan_hardware.specs.Scanned.{framed}
-use Rattle.dft_scan_hardware.specs.Statements.{scanned, made_in}
-use Rattle.dft_scan_hardware.proofs.Frames.{scan_pair}
-use Rattle.dft_scan_hardware.proofs.Joins.{joined_in, stays_joined}
-use Rattle.dft_scan_hardware.proofs.Keeping.{scanned_names}
-use Rattle.dft_scan_equivalence.proofs.Finished.{scanned_single}
-use Rattle.dft_scan_equivalence.specs.Agreeing.{ports_in, places_in}
-use Rattle.dft_scan_equivalence.proofs.Sparing.{spared}
-use Rattle.dft_scan_equivalence.proofs.Matching.{ports_alike, now_there, instance_matched}
-use Rattle.dft_scan_equivalence.proofs.Merging.{joined_at}
+use Rattle.dft_insert.specs.declared.style.Style.{Style}
+use Rattle.dft_insert.specs.Chained.{roles_of, scan_roles}
+use Rattle.dft_insert.specs.Frame.{framed_pins, as_scan_cell, framed_instance}
+use Rattle.dft_insert.specs.Ports.{gap_in}
+use Rattle.dft_insert.specs.Scanned.{framed}
+use Rattle.dft_insert.specs.Statements.{scanned, made_in}
+use Rattle.dft_insert.proofs.Frames.{scan_pair}
+use Rattle.dft_insert.proofs.Joins.{joined_in, stays_joined}
+use Rattle.dft_insert.proofs.Keeping.{scanned_names}
+use Rattle.dft_insert.proofs.Finished.{scanned_single}
+use Rattle.dft_insert.specs.Agreeing.{ports_in, places_in}
+use Rattle.dft_insert.proofs.Sparing.{spared}
+use Rattle.dft_insert.proofs.Matching.{ports_alike, now_there, instance_matched}
+use Rattle.dft_insert.proofs.Merging.{joined_at}
 use Rattle.dft_scan_behavior.specs.Facts.{taken_by}
 use Rattle.dft_scan_behavior.proofs.Clocks.{ActsBy, acts_pins, port_among, port_stays}
 use Rattle.dft_scan_behavior.proofs.ScanShapes.{IsScanShape, scan_shape, pin_number, output_lists}

@@ -29,12 +29,12 @@ use Rattle.dft_scan_frame.specs.Moves.{map_from}
 use Rattle.dft_scan_frame.proofs.Kept.{numbered_count}
 use Rattle.dft_scan_frame.proofs.Containing.{input_less}
 use Rattle.dft_scan_frame.proofs.Fine.{driver_fine}
-use Rattle.dft_scan_hardware.specs.declared.style.Style.TheVariants.{Plain, Edt}
-use Rattle.dft_scan_hardware.specs.Ports.{added_ports, gap_in}
-use Rattle.dft_scan_hardware.specs.Statements.{scanned, made_in}
-use Rattle.dft_scan_equivalence.specs.Agreeing.{ports_in, edt_clock_net}
-use Rattle.dft_scan_equivalence.proofs.Driving.{now_at, all_is, skips, ports_below, ports_before}
-use Rattle.dft_scan_equivalence.proofs.Merging.{news}
+use Rattle.dft_insert.specs.declared.style.Style.TheVariants.{Plain, Edt}
+use Rattle.dft_insert.specs.Ports.{added_ports, gap_in}
+use Rattle.dft_insert.specs.Statements.{scanned, made_in}
+use Rattle.dft_insert.specs.Agreeing.{ports_in, edt_clock_net}
+use Rattle.dft_insert.proofs.Driving.{now_at, all_is, skips, ports_below, ports_before}
+use Rattle.dft_insert.proofs.Merging.{news}
 
 abbrev AreInputs : List NewPort → Type 0
 AreInputs ports = AllByRecursion (λ (port : NewPort). port.dir ≡ dir.Input) ports

@@ -12,8 +12,8 @@ use Rattle.dft_edt.specs.Hardware.{EdtNets, HeadsAre, IsEdt}
 use Rattle.dft_edt.proofs.Loads.{load_in_rounds, load_in_runs}
 use Rattle.dft_edt.proofs.Unloads.{masks_pass, unload_in_rounds, unload_in_runs}
 use Rattle.dft_scan_frame.specs.Statements.{IsReady}
-use Rattle.dft_scan_hardware.specs.declared.style.Style.TheVariants.{Edt}
-use Rattle.dft_scan_equivalence.specs.Agreeing.{ports_in}
+use Rattle.dft_insert.specs.declared.style.Style.TheVariants.{Edt}
+use Rattle.dft_insert.specs.Agreeing.{ports_in}
 use Rattle.dft_scan_behavior.specs.EdtVectors.{SuitsEdt, edt_logic}
 use Rattle.dft_scan_behavior.specs.Experiments.{LoadsInRuns, LoadsInRounds, LoadsReach, UnloadsInRuns, UnloadsInRounds, MasksArrive, UnloadsShow}
 use Rattle.dft_scan_behavior.specs.Facts.{chain_nets, edt_hardware}

@@ -27,15 +27,15 @@ use Rattle.dft_parts.proofs.Stores.{port_shows}
 use Rattle.dft_scan_frame.specs.Moves.{at_net, moved_signal}
 use Rattle.dft_scan_frame.specs.Pins.{number_of}
 use Rattle.dft_scan_frame.specs.Statements.{IsReady}
-use Rattle.dft_scan_hardware.specs.declared.style.Style.{Style}
-use Rattle.dft_scan_hardware.specs.declared.style.Style.TheVariants.{Plain, Edt}
-use Rattle.dft_scan_hardware.specs.Chained.{scan_roles, a_chain, cells_at, row_at}
-use Rattle.dft_scan_hardware.specs.Ports.{gap_in, plain_in}
-use Rattle.dft_scan_hardware.specs.Scanned.{a_plain_chain, an_edt_chain, framed}
-use Rattle.dft_scan_hardware.specs.Statements.{scanned, made_in}
-use Rattle.dft_scan_hardware.proofs.Free.{ring_free}
-use Rattle.dft_scan_hardware.proofs.Joins.{JoinsAt}
-use Rattle.dft_scan_equivalence.specs.Agreeing.{ports_in}
+use Rattle.dft_insert.specs.declared.style.Style.{Style}
+use Rattle.dft_insert.specs.declared.style.Style.TheVariants.{Plain, Edt}
+use Rattle.dft_insert.specs.Chained.{scan_roles, a_chain, cells_at, row_at}
+use Rattle.dft_insert.specs.Ports.{gap_in, plain_in}
+use Rattle.dft_insert.specs.Scanned.{a_plain_chain, an_edt_chain, framed}
+use Rattle.dft_insert.specs.Statements.{scanned, made_in}
+use Rattle.dft_insert.proofs.Free.{ring_free}
+use Rattle.dft_insert.proofs.Joins.{JoinsAt}
+use Rattle.dft_insert.specs.Agreeing.{ports_in}
 use Rattle.dft_scan_behavior.specs.Facts.{rows_in, ports_of, ring_start, ring_parts, chains_start, chain_parts}
 use Rattle.dft_scan_behavior.proofs.ChainNets.{IsFed, IfHere, AllCross, AllStep, entry_found, crossing_first, step_first, chain_apart, fed_found, fed_fits}
 use Rattle.dft_scan_behavior.proofs.Cuts.{plain_start, plain_chain_parts, end_parts, compactor_list, rest_of, made_cut, all_there}

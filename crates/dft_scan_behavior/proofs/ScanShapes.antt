@@ -15,8 +15,8 @@ use Rattle.dft_netlist.specs.Drivers.{Source, Driver, Driven, Flop, connections_
 use Rattle.dft_netlist.specs.Logic.{same_role, pin_of}
 use Rattle.dft_scan_frame.specs.Pins.{number_of}
 use Rattle.dft_scan_frame.proofs.ScanPairs.{ScanPair, Plain, PlainBoth, Resets, ResetsBoth, Sets, SetsBoth}
-use Rattle.dft_scan_hardware.specs.Frame.{framed_pins}
-use Rattle.dft_scan_hardware.proofs.Keeping.{past}
+use Rattle.dft_insert.specs.Frame.{framed_pins}
+use Rattle.dft_insert.proofs.Keeping.{past}
 
 -- ---- shapes
 

@@ -19,8 +19,8 @@ use Rattle.dft_edt.specs.Loads.{CarryTable, load_sum}
 use Rattle.dft_edt.specs.Unloads.{SendMasks, Rest, AreMasked, end_bit, end_value}
 use Rattle.dft_edt.specs.Vectors.{IsClearing, Clears}
 use Rattle.dft_scan_frame.specs.Statements.{IsReady}
-use Rattle.dft_scan_hardware.specs.declared.style.Style.TheVariants.{Edt}
-use Rattle.dft_scan_equivalence.specs.Agreeing.{ports_in}
+use Rattle.dft_insert.specs.declared.style.Style.TheVariants.{Edt}
+use Rattle.dft_insert.specs.Agreeing.{ports_in}
 use Rattle.dft_scan_behavior.specs.Facts.{chain_nets, edt_hardware}
 use Rattle.dft_scan_behavior.specs.EdtVectors.{SuitsEdt, edt_logic, IsShift}
 

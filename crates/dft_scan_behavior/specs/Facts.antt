@@ -17,18 +17,18 @@ use Rattle.dft_parts.specs.declared.edt_ports.EdtPorts.{EdtPorts}
 use Rattle.dft_parts.specs.Growth.{instances_in}
 use Rattle.dft_parts.specs.Parts.{Part}
 use Rattle.dft_parts.specs.Recipes.{Start, Given, behind, each, start_of}
-use Rattle.dft_ring.specs.declared.ring.Ring.{Ring}
-use Rattle.dft_ring.specs.RingRecipe.{a_ring}
-use Rattle.dft_ring.specs.RingStands.{with_ring}
-use Rattle.dft_compact.specs.CompactorStands.{with_compactor}
+use Rattle.dft_edt.specs.declared.ring.Ring.{Ring}
+use Rattle.dft_edt.specs.RingRecipe.{a_ring}
+use Rattle.dft_edt.specs.RingStands.{with_ring}
+use Rattle.dft_edt.specs.CompactorStands.{with_compactor}
 use Rattle.dft_scan_frame.specs.Statements.{IsReady}
-use Rattle.dft_scan_hardware.specs.declared.style.Style.{Style}
-use Rattle.dft_scan_hardware.specs.declared.style.Style.TheVariants.{Plain, Edt}
-use Rattle.dft_scan_hardware.specs.Chained.{rows, last_net}
-use Rattle.dft_scan_hardware.specs.Ports.{gap_in, plain_in, plain_out, edt_nets}
-use Rattle.dft_scan_hardware.specs.Scanned.{an_edt_chain, framed}
-use Rattle.dft_scan_hardware.specs.Statements.{scanned}
-use Rattle.dft_scan_equivalence.specs.Agreeing.{ports_in}
+use Rattle.dft_insert.specs.declared.style.Style.{Style}
+use Rattle.dft_insert.specs.declared.style.Style.TheVariants.{Plain, Edt}
+use Rattle.dft_insert.specs.Chained.{rows, last_net}
+use Rattle.dft_insert.specs.Ports.{gap_in, plain_in, plain_out, edt_nets}
+use Rattle.dft_insert.specs.Scanned.{an_edt_chain, framed}
+use Rattle.dft_insert.specs.Statements.{scanned}
+use Rattle.dft_insert.specs.Agreeing.{ports_in}
 
 -- ---- chains
 

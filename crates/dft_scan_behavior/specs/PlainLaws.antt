@@ -11,9 +11,9 @@ use Rattle.dft_stitch.specs.Plans.{cell_at}
 use Rattle.dft_runs.specs.Passes.{after_turns}
 use Rattle.dft_chains.specs.Shifts.{AreShifts, AreShifted, at_strobe}
 use Rattle.dft_scan_frame.specs.Statements.{IsReady}
-use Rattle.dft_scan_hardware.specs.declared.style.Style.TheVariants.{Plain}
-use Rattle.dft_scan_hardware.specs.Statements.{scanned}
-use Rattle.dft_scan_equivalence.specs.Agreeing.{ports_in}
+use Rattle.dft_insert.specs.declared.style.Style.TheVariants.{Plain}
+use Rattle.dft_insert.specs.Statements.{scanned}
+use Rattle.dft_insert.specs.Agreeing.{ports_in}
 use Rattle.dft_scan_behavior.specs.Facts.{plain_nets}
 
 -- the scanned netlist of style Plain under the configuration's ports

@@ -13,7 +13,7 @@ use Rattle.dft_netlist.specs.Logic as meanings
 use Rattle.dft_netlist.specs.Settled.{value_given}
 use Rattle.dft_rules.specs.Rules.{judgements}
 use Rattle.dft_stitch.specs.Chains.{clock_of}
-use Rattle.dft_capture.specs.Captures.{Moving, Settled, AreSettled, IsSettledFrom, after_moves, captured, meaning_in, next_by_pins, sources_at}
+use Rattle.dft_capture.specs.Captures.{Moving, Settled, AreSettled, after_moves, captured, meaning_in, next_by_pins, sources_at}
 use Rattle.dft_seek.specs.Searches.{Given, Search, cells_in, has_cell, has_falling, is_of, moving_of, port_values, takes_at}
 use Rattle.dft_seek.specs.Walks.{is_among, is_passed, taken_nets}
 use Rattle.dft_seek.proofs.NoScan.{HasNoScanPins}
@@ -76,18 +76,22 @@ pub record AreSame (n k : Netlist) (m : Moving) (ports state given held : ℕ �
   pub of_ports : (net : ℕ) → Set net → driver n net ≡ drivers.Input → m.is_clock net ≡ false → ports net ≡ given net
   pub of_cells : (net i : ℕ) (inverted : Bool) → Set net → driver n net ≡ Flop i inverted → m.holds i ≡ true → state i ≡ held i
 
+-- the set's nets have their settled values
+abbrev pub IsSettledOn : Netlist → Moving → (ports state values : ℕ → Tri) → (Set : ℕ → Type 0) → Type 0
+IsSettledOn n m ports state values Set = (net : ℕ) → Set net → values net ≡ value_given (sources_at ports state) values net (meaning_in m net (driver n net))
+
 agree_within : (n k : Netlist) (m : Moving) (rank : ℕ → ℕ) (ports state given held a b : ℕ → Tri) (Set : ℕ → Type 0) → IsOrdered n rank → AreSame n k m ports state given held Set →
-    IsSettledFrom n m ports state a → IsSettledFrom k m given held b → (fuel net : ℕ) → rank net < fuel → Set net → a net ≡ b net
+    IsSettledOn n m ports state a Set → IsSettledOn k m given held b Set → (fuel net : ℕ) → rank net < fuel → Set net → a net ≡ b net
 agree_within n k m rank ports state given held a b Set order same settled its zero net less in_set = absurd (omega arith)
 agree_within n k m rank ports state given held a b Set order same settled its (suc fuel) net less in_set =
     let reads : AgreeAt (gate_reads (driver n net)) a b = λ from is.
     agree_within n k m rank ports state given held a b Set order same settled its fuel from (omega (arith, reads_below n rank net (driver n net) from (order.after net) is)) (same.reads net from in_set is) in
-    settled net
+    settled net in_set
     ∙ value_same m ports state given held a b net (driver n net) reads (same.of_ports net in_set) (λ i inverted. same.of_cells net i inverted in_set)
-    ∙ ap (λ (d : Driver). value_given (sources_at given held) b net (meaning_in m net d)) (same.driven net in_set) ∙ sym (its net)
+    ∙ ap (λ (d : Driver). value_given (sources_at given held) b net (meaning_in m net d)) (same.driven net in_set) ∙ sym (its net in_set)
 
 pub agree_on : (n k : Netlist) (m : Moving) (rank : ℕ → ℕ) (ports state given held a b : ℕ → Tri) (Set : ℕ → Type 0) → IsOrdered n rank → AreSame n k m ports state given held Set →
-    IsSettledFrom n m ports state a → IsSettledFrom k m given held b → (net : ℕ) → Set net → a net ≡ b net
+    IsSettledOn n m ports state a Set → IsSettledOn k m given held b Set → (net : ℕ) → Set net → a net ≡ b net
 agree_on n k m rank ports state given held a b Set order same settled its net in_set = agree_within n k m rank ports state given held a b Set order same settled its (suc (rank net)) net (omega arith) in_set
 
 -- ---- a whole capture
@@ -119,9 +123,17 @@ pub record AgreeTwice (s : Search) (a b : Settled) (Set : ℕ → Type 0) : Type
   pub first : (net : ℕ) → Set net → a.first net ≡ b.first net
   pub second : has_falling s ≡ true → (net : ℕ) → Set net → a.second net ≡ b.second net
 
-pub agree_twice : (s : Search) (n k : Netlist) (rank : ℕ → ℕ) (g h : Given) (a b : Settled) (Set : ℕ → Type 0) → IsOrdered n rank → HasNoScanPins s → AreAlike s n k g h Set →
-    AreSettled n (moving_of s) (port_values s g) g.cells a → AreSettled k (moving_of s) (port_values s h) h.cells b → AgreeTwice s a b Set
-agree_twice s n k rank g h a b Set order none alike are also =
+-- before the clock rises, and where the domain has a falling cell before it falls, the set's nets have their settled values
+pub record AreSettledOn (s : Search) (n : Netlist) (g : Given) (a : Settled) (Set : ℕ → Type 0) : Type 0 where
+  pub first : IsSettledOn n (moving_of s) (port_values s g) g.cells a.first Set
+  pub second : has_falling s ≡ true → IsSettledOn n (moving_of s) (port_values s g) (after_moves n (moving_of s).rises a.first g.cells) a.second Set
+
+pub settled_on : (s : Search) (n : Netlist) (g : Given) (a : Settled) (Set : ℕ → Type 0) → AreSettled n (moving_of s) (port_values s g) g.cells a → AreSettledOn s n g a Set
+settled_on s n g a Set are = record { first = λ net in_set. are.first net; second = λ falls net in_set. are.second net }
+
+pub agree_parts : (s : Search) (n k : Netlist) (rank : ℕ → ℕ) (g h : Given) (a b : Settled) (Set : ℕ → Type 0) → IsOrdered n rank → HasNoScanPins s → AreAlike s n k g h Set →
+    AreSettledOn s n g a Set → AreSettledOn s k h b Set → AgreeTwice s a b Set
+agree_parts s n k rank g h a b Set order none alike are also =
     let m : Moving = moving_of s in
     let first : (net : ℕ) → Set net → a.first net ≡ b.first net = agree_on n k m rank (port_values s g) g.cells (port_values s h) h.cells a.first b.first Set order alike.same are.first also.first in
     let risen : has_falling s ≡ true → AreSame n k m (port_values s g) (after_moves n m.rises a.first g.cells) (port_values s h) (after_moves k m.rises b.first h.cells) Set = λ falls. record {
@@ -135,8 +147,12 @@ agree_twice s n k rank g h a b Set order none alike are also =
     } in
     record {
       first = first;
-      second = λ falls. agree_on n k m rank (port_values s g) (after_moves n m.rises a.first g.cells) (port_values s h) (after_moves k m.rises b.first h.cells) a.second b.second Set order (risen falls) are.second also.second;
+      second = λ falls. agree_on n k m rank (port_values s g) (after_moves n m.rises a.first g.cells) (port_values s h) (after_moves k m.rises b.first h.cells) a.second b.second Set order (risen falls) (are.second falls) (also.second falls);
     }
+
+pub agree_twice : (s : Search) (n k : Netlist) (rank : ℕ → ℕ) (g h : Given) (a b : Settled) (Set : ℕ → Type 0) → IsOrdered n rank → HasNoScanPins s → AreAlike s n k g h Set →
+    AreSettled n (moving_of s) (port_values s g) g.cells a → AreSettled k (moving_of s) (port_values s h) h.cells b → AgreeTwice s a b Set
+agree_twice s n k rank g h a b Set order none alike are also = agree_parts s n k rank g h a b Set order none alike (settled_on s n g a Set are) (settled_on s k h b Set also)
 
 -- ---- what is captured
 

@@ -4,7 +4,7 @@ use Rattle.std.specs.Prelude.{if◌then◌else◌, nat_lt}
 use Rattle.std.specs.List.{AllByRecursion, list_any}
 use Rattle.std.proofs.lemmas.Bool.{eqb-true, eq-eqb, lt-ltb, le-ltb}
 use Rattle.std.proofs.lemmas.Bool.Decides.{leb_tells}
-use Rattle.std.proofs.lemmas.List.{get_or_past}
+use Rattle.std.proofs.lemmas.List.{get_or_default, get_or_past}
 use Rattle.std.proofs.lemmas.List.Elements.{filter-append}
 use Rattle.std.proofs.lemmas.Option.{none-some, same_Some}
 use Rattle.dft_netlist.specs.declared.ids.NetId.{NetId}
@@ -15,13 +15,14 @@ use Rattle.dft_netlist.specs.Orders.{Has, numbers_of}
 use Rattle.dft_expect.specs.Captures.{output_bits}
 use Rattle.dft_logic.specs.Circuit.{flag_at}
 use Rattle.dft_faults.specs.declared.fault.Fault.{Fault}
-use Rattle.dft_seek.specs.Searches.{Search, Point, Output, Response, cells_in, drivable_ports, takes_at}
+use Rattle.dft_seek.specs.Searches.{Search, Point, Output, Response, cells_in, drivable_ports, points_of, takes_at}
 use Rattle.dft_seek.specs.Walks.{Cell, Port, Variable, IsReached, IsVariable, Walks, ends_of, is_among, shows, taken_nets, walked_from}
 use Rattle.dft_seek.specs.Walks as walks
 use Rattle.dft_seek.specs.Marks.{IsDrawn, IsSpread, Path, Raises, steps_at}
 use Rattle.dft_seek.specs.Marks as marks
 use Rattle.dft_seek.specs.Pins.{pins_at, taken_by}
-use Rattle.dft_seek.specs.Cones.{AreBefore, AreBehind, AreTaking, LeadsIn, cone_of, shown_in}
+use Rattle.dft_sweep.specs.Fields.{is_needed}
+use Rattle.dft_seek.specs.Cones.{AreBefore, AreBehind, AreNeeded, AreTaking, LeadsIn, cone_of, shown_in}
 use Rattle.dft_seek.specs.Rigs.{IsRig, search_in, search_of, shows_in}
 use Rattle.dft_seek.specs.Steps.{shown_at}
 use Rattle.dft_seek.specs.declared.cones.Cone.{Cone}
@@ -403,3 +404,65 @@ variables_are r f cone leading shown rig table before flags live cells ports =
           | inl out ↦ port_past net out.1 ∙ past_end net leads
           | inr less ↦ port_live net less.1 ∙ before.whole net less.1 leads
         ]
+
+-- ---- the nets that are needed
+
+-- a net that leads to an end is needed,
+needed_at : (r : Rig) (f : Fault) (ends : List ℕ) (needed : List Bool) (net : ℕ) → AreBefore (search_in r f) ends needed → LeadsIn (search_in r f) ends net → is_needed needed net ≡ true
+needed_at r f ends needed net before leads = elim (leb_tells (length r.design.now.nets) net) [
+  | inl out ↦ get_or_past needed net true (let past = out.1 in let e = before.size in omega (arith, past, e))
+  | inr less ↦ get_or_default needed net true false (let l = less.1 in let e = before.size in omega (arith, l, e)) ∙ before.whole net less.1 leads
+]
+
+-- and what is needed leads to an end, if it is a net of the design
+needed_leads : (r : Rig) (f : Fault) (ends : List ℕ) (needed : List Bool) (net : ℕ) → AreBefore (search_in r f) ends needed → net < length r.design.now.nets → is_needed needed net ≡ true → LeadsIn (search_in r f) ends net
+needed_leads r f ends needed net before less is = before.sound net (get_or_default needed net false true (let e = before.size in omega (arith, less, e)) ∙ is)
+
+-- from where a walk goes on to a needed net, there is one
+needed_steps : (r : Rig) (f : Fault) (ends : List ℕ) (needed : List Bool) (net from : ℕ) → IsRig r → AreBefore (search_in r f) ends needed → is_needed needed net ≡ true →
+    is_among from (walked_from (search_in r f) (driver r.design.now net)) ≡ true → is_needed needed from ≡ true
+needed_steps r f ends needed net from rig before is among =
+    let step : is_among from (steps_at r.steps.items net) ≡ true = ap (is_among from) (steps_are r f net rig) ∙ among in
+    let less : net < length r.design.now.nets = (let l = step_live r from net step in let e = rig.table in omega (arith, l, e)) in
+    let leads = needed_leads r f ends needed net before less is in
+    needed_at r f ends needed from before
+    (record { to = leads.to; among = leads.among; walk = walk_of r f from leads.to rig (path_before (steps_at r.steps.items) from net leads.to step (path_of r f net leads.to rig leads.walk)) })
+
+-- what holds of the nets of a list
+all_nets : (P : ℕ → Type 0) (nets : List NetId) → ((k : ℕ) → is_among k (numbers_of nets) ≡ true → P k) → AllByRecursion (λ net. P net.0) nets
+all_nets P [] each = tt
+all_nets P (net ∷ nets) each = (each net.0 (among_here net.0 (numbers_of nets)), all_nets P nets (λ k is. each k (among_right k (net.0 ∷ []) (numbers_of nets) is)))
+
+-- and of those at the pins of cells
+all_pins : (r : Rig) (P : ℕ → Type 0) (cells : List InstanceId) → IsRig r → ((k : ℕ) → is_among k (flat_map (λ cell. taken_by (pins_at r.pins.items cell.0)) cells) ≡ true → P k) →
+    AllByRecursion (λ cell. (from : ℕ) → is_among from (taken_nets r.design.now cell.0) ≡ true → P from) cells
+all_pins r P [] rig each = tt
+all_pins r P (c ∷ cells) rig each =
+    let rest : List ℕ = flat_map (λ cell. taken_by (pins_at r.pins.items cell.0)) cells in (
+      λ from is. each from (among_left from (taken_by (pins_at r.pins.items c.0)) rest (ap (is_among from) (taken_kept r.design.now c.0 (pins_at r.pins.items c.0) (rig.pins.each c.0)) ∙ is)),
+      all_pins r P cells rig (λ k is. each k (among_right k (taken_by (pins_at r.pins.items c.0)) rest is)),
+    )
+
+-- there is no point, or a first one, which is chosen
+first_point : (chosen : Point → Bool) (points : List Point) → AllByRecursion (λ p. chosen p ≡ true) points → (points ≡ []) ⊎ ((p : Point) × ((slice_get points 0 ≡ Some p) × (chosen p ≡ true)))
+first_point chosen [] all = inl refl
+first_point chosen (p ∷ points) all = inr (p, (refl, all.0))
+
+pub needed_are : (r : Rig) (f : Fault) (cone : Cone) → IsRig r → AreBefore (search_in r f) (ends_in r cone) cone.needed.items → walks.AreReached (search_in r f) (cone_of cone).points → AreNeeded r f cone
+needed_are r f cone rig before reached =
+    let s : Search = search_in r f in
+    let ends : List ℕ = ends_in r cone in
+    let needed : List Bool = cone.needed.items in
+    let taken : List ℕ = flat_map (λ cell. taken_by (pins_at r.pins.items cell.0)) cone.responses.items in
+    let at_end : (k : ℕ) → is_among k ends ≡ true → is_needed needed k ≡ true = λ k is. needed_at r f ends needed k before (record { to = k; among = is; walk = walks.Here }) in
+    record {
+      steps = λ net from is among. needed_steps r f ends needed net from rig before is among;
+      outputs = all_nets (λ k. is_needed needed k ≡ true) cone.outputs.items (λ k is. at_end k (among_left k (numbers_of cone.outputs.items) taken is));
+      responses = all_pins r (λ k. is_needed needed k ≡ true) cone.responses.items rig (λ k is. at_end k (among_right k (numbers_of cone.outputs.items) taken is));
+      site = elim (first_point reached.chosen (cone_of cone).points (subst (AllByRecursion (λ p. reached.chosen p ≡ true)) (sym reached.are) (all_chosen reached.chosen (points_of s)))) [
+        | inl none ↦ inl none
+        | inr first ↦ (let is = reached.sound first.0 first.1.1 in
+            inr (needed_at r f ends needed f.net.0 before
+            (record { to = is.to; among = points_ends r f cone.outputs.items cone.responses.items 0 is.to first.0 rig first.1.0 is.ends; walk = is.walk })))
+      ];
+    }

@@ -1,11 +1,11 @@
--- From settled tables of some sources to those of others, and from the values of all nets to those where a net is stuck.
+-- From tables that are settled at needed nets of some sources to those of others, and from the values of all nets to those where a net is stuck.
 use Rattle.std.proofs.Common.{ℕ, ◌≡◌, ◌⊎◌, inl, inr, Bool, true, false, List, length, Option, None, Some, refl, sym, subst, ap, arith, ◌∙◌, slice_set, get_or-set_same, true≢false, ◌<◌}
 use Rattle.std.specs.Prelude.{if◌then◌else◌, replicate}
 use Rattle.std.specs.Global.{Vec}
 use Rattle.std.proofs.lemmas.Bool.Decides.{eqb_tells, leb_tells}
-use Rattle.std.proofs.lemmas.List.{get_or-replicate, get_or_past, length-replicate, length-set}
+use Rattle.std.proofs.lemmas.List.{get_or-replicate, get_or_past, length-replicate}
 use Rattle.dft_base.specs.declared.tri.Tri.{Tri}
-use Rattle.dft_base.specs.declared.tri.Tri.TheVariants.{Unknown}
+use Rattle.dft_base.specs.declared.tri.Tri.TheVariants.{One, Unknown}
 use Rattle.dft_netlist.specs.Logic.{Meaning, Input, Clock, Gate, Joined, Flop, Lockup, Free}
 use Rattle.dft_netlist.specs.Orders.{Has}
 use Rattle.dft_netlist.specs.Settled.{TriSources, inverse, value_given}
@@ -16,12 +16,11 @@ use Rattle.dft_logic.specs.Circuit.{flag_at, meaning, op_at}
 use Rattle.dft_logic.specs.Tables.{list_at}
 use Rattle.dft_logic.specs.Values.{value_at}
 use Rattle.dft_sweep.specs.declared.field.Stuck.{Stuck}
-use Rattle.dft_sweep.specs.Fields.{IsGivenBy, bit_at, with_bit}
+use Rattle.dft_sweep.specs.Fields.{IsGivenBy, IsGivenIf, bit_at, is_needed, with_bit}
 use Rattle.dft_sweep.proofs.Sweeps.{given_any}
 use Rattle.dft_faults.specs.declared.fault.Fault.{Fault}
-use Rattle.dft_seek.specs.Nodes.{AreAssigned, AreEvaluated, AreReady, AreSame, AreSettledFor, IsFirst, IsNear, IsSecond, IsSettled, risen_at, sources_in, stuck_of}
-use Rattle.dft_seek.specs.Rigs.{IsRig, IsSettledSome, means_of}
-use Rattle.dft_seek.specs.declared.cones.Cone.{Cone}
+use Rattle.dft_seek.specs.Nodes.{AreEvaluated, AreSame, AreSettledFor, IsFirst, IsNear, IsSecond, IsSettled, risen_at, sources_in, stuck_of}
+use Rattle.dft_seek.specs.Rigs.{IsRig, IsSettledSome, means_of, sources_by}
 use Rattle.dft_seek.specs.declared.looking.Table.{Table}
 use Rattle.dft_seek.specs.declared.looking.Values.{Values}
 use Rattle.dft_seek.specs.declared.rig.Rig.{Rig}
@@ -29,35 +28,47 @@ use Rattle.dft_seek.specs.declared.rig.Rig.{Rig}
 -- ---- a table
 
 -- a net that is not marked is a source, or has the value that it has from other sources
-pub near_other : (r : Rig) (stuck : Option Stuck) (t : Table) (other : TriSources) (k : ℕ) → IsRig r → IsNear r stuck t → flag_at t.marked.items k ≡ false →
-    Has (list_at r.circuit.sources 0) k ⊎ IsGivenBy (means_of r.circuit stuck) other t.values.items k
-near_other r stuck t other k rig near down =
+pub near_other : (r : Rig) (needed : List Bool) (stuck : Option Stuck) (t : Table) (other : TriSources) (k : ℕ) → IsRig r → IsNear r needed stuck t → flag_at t.marks.marked.items k ≡ false →
+    Has (list_at r.circuit.sources 0) k ⊎ IsGivenIf needed (means_of r.circuit stuck) other t.values.items k
+near_other r needed stuck t other k rig near down =
     elim (given_any r.circuit (bit_at stuck k) near.sources other k (value_at t.values.items) (meaning (op_at r.circuit.ops.items k)) rig.circuit refl) [
       | inl own ↦ inl own
-      | inr same ↦ inr (near.given k down ∙ same)
+      | inr same ↦ inr (λ needs. near.given k down needs ∙ same)
     ]
 
 -- a settled table is near those of any sources
-pub table_near : (r : Rig) (stuck : Option Stuck) (t : Table) → IsSettled r stuck t → IsNear r stuck t
-table_near r stuck t is = record { values = is.values; marked = is.marked; sources = is.settled.sources; given = λ k down. is.settled.given k }
+pub table_near : (r : Rig) (needed : List Bool) (stuck : Option Stuck) (t : Table) → IsSettled r needed stuck t → IsNear r needed stuck t
+table_near r needed stuck t is = record { values = is.values; marked = is.marked; sources = is.settled.sources; given = λ k down. is.settled.given k; busy = λ k up. absurd (true≢false (sym up ∙ is.clear k)) }
 
--- So is one where no net is stuck, if the stuck net is marked.
-pub stuck_near : (r : Rig) (f : Fault) (old new : Table) → IsSettled r None old → new.values.items ≡ old.values.items → new.marked.items ≡ slice_set old.marked.items f.net.0 true → f.net.0 < length r.design.now.nets → IsNear r (stuck_of f) new
-stuck_near r f old new is same marks live = record {
-  values = ap (λ (l : List Tri). length l) same ∙ is.values;
-  marked = ap (λ (l : List Bool). length l) marks ∙ length-set old.marked.items f.net.0 true ∙ is.marked;
-  sources = is.settled.sources;
-  given = λ k down. subst (λ (l : List Tri). IsGivenBy (means_of r.circuit (stuck_of f)) is.settled.sources l k) (sym same) (is.settled.given k ∙ means k down);
-}
+-- So is one where no net is stuck, if the stuck net is marked where it is needed.
+pub stuck_given : (r : Rig) (f : Fault) (needed : List Bool) (sources : TriSources) (values : List Tri) (old new : List Bool) → ((k : ℕ) → IsGivenBy (means_of r.circuit None) sources values k) →
+    new ≡ (if is_needed needed f.net.0 then slice_set old f.net.0 true else old) → f.net.0 < length old → (k : ℕ) → flag_at new k ≡ false → IsGivenIf needed (means_of r.circuit (stuck_of f)) sources values k
+stuck_given r f needed sources values old new given marks live k down needs = given k ∙ means
   where
-    up : (k : ℕ) → f.net.0 ≡ k → flag_at new.marked.items k ≡ true
-    up k here = ap (λ (j : ℕ). flag_at new.marked.items j) (sym here) ∙ ap (λ (l : List Bool). flag_at l f.net.0) marks ∙ get_or-set_same old.marked.items f.net.0 true false (let e = is.marked in omega (arith, live, e))
+    up : f.net.0 ≡ k → flag_at new k ≡ true
+    up here =
+        ap (λ (j : ℕ). flag_at new j) (sym here) ∙ ap (λ (l : List Bool). flag_at l f.net.0) marks
+        ∙ ap (λ (b : Bool). flag_at (if b then slice_set old f.net.0 true else old) f.net.0) (ap (is_needed needed) here ∙ needs) ∙ get_or-set_same old f.net.0 true false live
 
-    means : (k : ℕ) → flag_at new.marked.items k ≡ false → value_given is.settled.sources (value_at old.values.items) k (means_of r.circuit None k) ≡ value_given is.settled.sources (value_at old.values.items) k (means_of r.circuit (stuck_of f) k)
-    means k down = elim (eqb_tells f.net.0 k) [
-      | inl here ↦ absurd (true≢false (sym (up k here.1) ∙ down))
-      | inr other ↦ sym (ap (λ (b : Bool). value_given is.settled.sources (value_at old.values.items) k (with_bit (if b then Some f.value else None) (meaning (op_at r.circuit.ops.items k)))) other.0)
+    means : value_given sources (value_at values) k (means_of r.circuit None k) ≡ value_given sources (value_at values) k (means_of r.circuit (stuck_of f) k)
+    means = elim (eqb_tells f.net.0 k) [
+      | inl here ↦ absurd (true≢false (sym (up here.1) ∙ down))
+      | inr other ↦ sym (ap (λ (b : Bool). value_given sources (value_at values) k (with_bit (if b then Some f.value else None) (meaning (op_at r.circuit.ops.items k)))) other.0)
     ]
+
+-- the base is settled for values of ports and cells of which none is known
+unknown_given : (r : Rig) (ports cells v : ℕ → Tri) (k : ℕ) (m : Meaning) → ((net : ℕ) → ports net ≡ Unknown) → ((c : ℕ) → cells c ≡ Unknown) → value_given (sources_by r.resets.items r.holds.items (λ net. Unknown) (λ c. Unknown)) v k m ≡ value_given (sources_in r ports cells) v k m
+unknown_given r ports cells v k Input no_port no_cell = ap (λ (t : Tri). if flag_at r.resets.items k then One else t) (sym (no_port k))
+unknown_given r ports cells v k Clock no_port no_cell = refl
+unknown_given r ports cells v k (Gate kind inputs) no_port no_cell = refl
+unknown_given r ports cells v k (Joined source) no_port no_cell = refl
+unknown_given r ports cells v k (Flop c inverted) no_port no_cell = ap (λ (t : Tri). if inverted then inverse (if flag_at r.holds.items c then t else Unknown) else (if flag_at r.holds.items c then t else Unknown)) (sym (no_cell c))
+unknown_given r ports cells v k (Lockup c e high source) no_port no_cell = refl
+unknown_given r ports cells v k Free no_port no_cell = refl
+
+pub base_given : (r : Rig) (ports cells : ℕ → Tri) (values : List Tri) → IsRig r → ((net : ℕ) → ports net ≡ Unknown) → ((c : ℕ) → cells c ≡ Unknown) → values ≡ r.base.items → (k : ℕ) → IsGivenBy (means_of r.circuit None) (sources_in r ports cells) values k
+base_given r ports cells values rig no_port no_cell is = λ k. subst (λ (l : List Tri). IsGivenBy (means_of r.circuit None) (sources_in r ports cells) l k) (sym is)
+    (rig.base.given k ∙ unknown_given r ports cells (value_at r.base.items) k (means_of r.circuit None k) no_port no_cell)
 
 -- no flag is up
 pub none_up : (n k : ℕ) → flag_at (replicate n false) k ≡ false
@@ -75,12 +86,12 @@ base_near x sources values marked k size marks down = elim (leb_tells (length x.
 ]
 
 -- the table with which a search begins
-pub base_settled : (r : Rig) (t : Table) → IsRig r → t.values.items ≡ r.base.items → t.marked.items ≡ replicate (length r.base.items) false → IsSettled r None t
-base_settled r t rig values marks = record {
+pub base_settled : (r : Rig) (needed : List Bool) (t : Table) → IsRig r → t.values.items ≡ r.base.items → t.marks.marked.items ≡ replicate (length r.base.items) false → IsSettled r needed None t
+base_settled r needed t rig values marks = record {
   values = ap (λ (l : List Tri). length l) values ∙ rig.base.size ∙ rig.nets;
   marked = ap (λ (l : List Bool). length l) marks ∙ length-replicate (length r.base.items) false ∙ rig.base.size ∙ rig.nets;
   clear = λ k. ap (λ (l : List Bool). flag_at l k) marks ∙ none_up (length r.base.items) k;
-  settled = subst (IsSettledSome (means_of r.circuit None)) (sym values) rig.base.settled;
+  settled = subst (IsSettledSome needed (means_of r.circuit None)) (sym values) (record { sources = sources_by r.resets.items r.holds.items (λ net. Unknown) (λ c. Unknown); given = λ k needs. rig.base.given k });
 }
 
 -- ---- values of cells
@@ -99,8 +110,8 @@ given_with r ports a b v k (Lockup c e high source) same = refl
 given_with r ports a b v k Free same = refl
 
 -- values of cells that agree where cells hold values
-pub settled_cells : (r : Rig) (stuck : Option Stuck) (ports a b : ℕ → Tri) (values : List Tri) → ((c : ℕ) → flag_at r.holds.items c ≡ true → a c ≡ b c) → AreSettledFor r stuck ports a values → AreSettledFor r stuck ports b values
-settled_cells r stuck ports a b values same settled = λ k. settled k ∙ given_with r ports a b (value_at values) k (means_of r.circuit stuck k) same
+pub settled_cells : (r : Rig) (needed : List Bool) (stuck : Option Stuck) (ports a b : ℕ → Tri) (values : List Tri) → ((c : ℕ) → flag_at r.holds.items c ≡ true → a c ≡ b c) → AreSettledFor r needed stuck ports a values → AreSettledFor r needed stuck ports b values
+settled_cells r needed stuck ports a b values same settled = λ k needs. settled k needs ∙ given_with r ports a b (value_at values) k (means_of r.circuit stuck k) same
 
 -- a flip-flop that holds a value is an instance of the design
 pub held_live : (r : Rig) (c : ℕ) → IsRig r → flag_at r.holds.items c ≡ true → c < length r.design.now.instances
@@ -110,42 +121,31 @@ held_live r c rig holds = elim (leb_tells (length r.holds.items) c) [
 ]
 
 -- the same values of ports and cells
-pub settled_lists : (r : Rig) (stuck : Option Stuck) (p q ports cells values : List Tri) → p ≡ ports → q ≡ cells → AreSettledFor r stuck (value_at p) (value_at q) values → AreSettledFor r stuck (value_at ports) (value_at cells) values
-settled_lists r stuck p q ports cells values one two settled =
-    subst (λ (l : List Tri). AreSettledFor r stuck (value_at l) (value_at cells) values) one (subst (λ (l : List Tri). AreSettledFor r stuck (value_at p) (value_at l) values) two settled)
+pub settled_lists : (r : Rig) (needed : List Bool) (stuck : Option Stuck) (p q ports cells values : List Tri) → p ≡ ports → q ≡ cells → AreSettledFor r needed stuck (value_at p) (value_at q) values → AreSettledFor r needed stuck (value_at ports) (value_at cells) values
+settled_lists r needed stuck p q ports cells values one two settled =
+    subst (λ (l : List Tri). AreSettledFor r needed stuck (value_at l) (value_at cells) values) one (subst (λ (l : List Tri). AreSettledFor r needed stuck (value_at p) (value_at l) values) two settled)
 
 -- and of nets before the clock rises
-pub settled_after : (r : Rig) (stuck : Option Stuck) (p q u ports cells first values : List Tri) → p ≡ ports → q ≡ cells → u ≡ first → AreSettledFor r stuck (value_at p) (risen_at r q u) values → AreSettledFor r stuck (value_at ports) (risen_at r cells first) values
-settled_after r stuck p q u ports cells first values one two three settled =
-    subst (λ (l : List Tri). AreSettledFor r stuck (value_at l) (risen_at r cells first) values) one
-    (subst (λ (l : List Tri). AreSettledFor r stuck (value_at p) (risen_at r l first) values) two (subst (λ (l : List Tri). AreSettledFor r stuck (value_at p) (risen_at r q l) values) three settled))
+pub settled_after : (r : Rig) (needed : List Bool) (stuck : Option Stuck) (p q u ports cells first values : List Tri) → p ≡ ports → q ≡ cells → u ≡ first → AreSettledFor r needed stuck (value_at p) (risen_at r q u) values → AreSettledFor r needed stuck (value_at ports) (risen_at r cells first) values
+settled_after r needed stuck p q u ports cells first values one two three settled =
+    subst (λ (l : List Tri). AreSettledFor r needed stuck (value_at l) (risen_at r cells first) values) one
+    (subst (λ (l : List Tri). AreSettledFor r needed stuck (value_at p) (risen_at r l first) values) two (subst (λ (l : List Tri). AreSettledFor r needed stuck (value_at p) (risen_at r q l) values) three settled))
 
 -- ---- one step after another
-
-pub assigned_ready : (r : Rig) (f : Fault) (cone : Cone) (bits : List Bool) (old new : Values) → AreReady r f old → AreAssigned cone bits old new → AreReady r f new
-assigned_ready r f cone bits old new ready are = record {
-  cells = are.count ∙ ready.cells;
-  ports = are.size ∙ ready.ports;
-  risen = ap (λ (v : Vec Tri). length v.items) are.risen ∙ ready.risen;
-  good = subst (IsSettled r None) (sym are.good) ready.good;
-  bad = subst (IsSettled r (stuck_of f)) (sym are.bad) ready.bad;
-  good_after = subst (IsSettled r None) (sym are.good_after) ready.good_after;
-  bad_after = subst (IsSettled r (stuck_of f)) (sym are.bad_after) ready.bad_after;
-}
 
 pub same_twice : (a b c : Values) → AreSame a b → AreSame b c → AreSame a c
 same_twice a b c one two = record { cells = two.cells ∙ one.cells; ports = two.ports ∙ one.ports }
 
-pub evaluated : (r : Rig) (f : Fault) (old mid new : Values) → IsFirst r f old mid → IsSecond r f mid new → AreEvaluated r f new
-evaluated r f old mid new first second = record {
+pub evaluated : (r : Rig) (f : Fault) (needed : List Bool) (old mid new : Values) → IsFirst r f needed old mid → IsSecond r f needed mid new → AreEvaluated r f needed new
+evaluated r f needed old mid new first second = record {
   good = with_same None mid.good new.good second.good first.good;
   bad = with_same (stuck_of f) mid.bad new.bad second.bad first.bad;
   good_after = second.good_after;
   bad_after = second.bad_after;
 }
   where
-    with_same : (stuck : Option Stuck) (s t : Table) → t ≡ s → AreSettledFor r stuck (value_at mid.ports.items) (value_at mid.cells.items) s.values.items → AreSettledFor r stuck (value_at new.ports.items) (value_at new.cells.items) t.values.items
+    with_same : (stuck : Option Stuck) (s t : Table) → t ≡ s → AreSettledFor r needed stuck (value_at mid.ports.items) (value_at mid.cells.items) s.values.items → AreSettledFor r needed stuck (value_at new.ports.items) (value_at new.cells.items) t.values.items
     with_same stuck s t same settled =
-        subst (λ (u : Table). AreSettledFor r stuck (value_at new.ports.items) (value_at new.cells.items) u.values.items) (sym same)
-        (subst (λ (p : Vec Tri). AreSettledFor r stuck (value_at p.items) (value_at new.cells.items) s.values.items) (sym second.same.ports)
-        (subst (λ (p : Vec Tri). AreSettledFor r stuck (value_at mid.ports.items) (value_at p.items) s.values.items) (sym second.same.cells) settled))
+        subst (λ (u : Table). AreSettledFor r needed stuck (value_at new.ports.items) (value_at new.cells.items) u.values.items) (sym same)
+        (subst (λ (p : Vec Tri). AreSettledFor r needed stuck (value_at p.items) (value_at new.cells.items) s.values.items) (sym second.same.ports)
+        (subst (λ (p : Vec Tri). AreSettledFor r needed stuck (value_at mid.ports.items) (value_at p.items) s.values.items) (sym second.same.cells) settled))

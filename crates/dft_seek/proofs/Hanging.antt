@@ -134,7 +134,7 @@ pub record Leads (s : Search) (points : List Point) (net : ℕ) : Type 0 where
   pub leads : LeadsTo s net point
 
 -- a walk can begin one step earlier
-earlier : (s : Search) (from net to : ℕ) → is_among from (walked_from s (driver s.design net)) ≡ true → Walks s net to → Walks s from to
+pub earlier : (s : Search) (from net to : ℕ) → is_among from (walked_from s (driver s.design net)) ≡ true → Walks s net to → Walks s from to
 earlier s from net to is Here = Onward Here is
 earlier s from net to is (Onward {by = by} walk step) = Onward (earlier s from net by is walk) step
 
@@ -159,7 +159,7 @@ IsKept s n net = (driver n net ≡ driver s.design net) ⊎ (driver n net ≡ Jo
 stuck_is_no : (d e : Driver) (value : Bool) → d ≡ Joined (Tied value) → d ≡ e → is_input e ≡ true → ⊥
 stuck_is_no d e value stuck is input = absurd (let x : true ≡ false = sym input ∙ ap is_input (sym is ∙ stuck) in let f : ⊥ = cc in f)
 
-stuck_is_no_cell : (d : Driver) (i : ℕ) (inverted value : Bool) → d ≡ Joined (Tied value) → d ≡ Flop i inverted → ⊥
+pub stuck_is_no_cell : (d : Driver) (i : ℕ) (inverted value : Bool) → d ≡ Joined (Tied value) → d ≡ Flop i inverted → ⊥
 stuck_is_no_cell d i inverted value stuck is = absurd (let e : Joined (Tied value) ≡ Flop i inverted = sym stuck ∙ is in let f : ⊥ = cc in f)
 
 drivable_is : (s : Search) (net : ℕ) → driver s.design net ≡ drivers.Input → (config_ports s.design s.config).is_clock net ≡ false → (config_ports s.design s.config).is_reset net ≡ false → is_drivable s net ≡ true

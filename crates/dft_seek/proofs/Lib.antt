@@ -18,10 +18,13 @@ pub mod NodeLemmas
 pub mod ConeLemmas
 pub mod RigLemmas
 pub mod Chosen
-pub mod AssignLemmas
 pub mod EvaluateLemmas
 pub mod StepLemmas
 pub mod Filled
 pub mod CubeLemmas
 pub mod PreparedLemmas
 pub mod ShownLemmas
+pub mod BitPlaces
+pub mod OpenLemmas
+pub mod GivenLemmas
+pub mod OnceLemmas

@@ -12,36 +12,38 @@ use Rattle.dft_base.specs.declared.tri.Tri.TheVariants.{One, Unknown}
 use Rattle.dft_netlist.specs.declared.ids.NetId.{NetId}
 use Rattle.dft_netlist.specs.declared.ids.InstanceId.{InstanceId}
 use Rattle.dft_netlist.specs.Netlist.{Netlist}
-use Rattle.dft_netlist.specs.Drivers.{Driver}
+use Rattle.dft_netlist.specs.Drivers.{Driver, driver}
 use Rattle.dft_netlist.specs.Logic.{Meaning, Input, Clock, Gate, Joined, Flop, Lockup, Free}
 use Rattle.dft_netlist.specs.Settled.{inverse, value_given}
 use Rattle.dft_expect.specs.Loaded.{bit_of_cell, or_unknown}
 use Rattle.dft_logic.specs.declared.circuit.Op.TheVariants as op
 use Rattle.dft_logic.specs.Circuit.{flag_at, meaning, op_at}
 use Rattle.dft_logic.specs.Values.{value_at}
-use Rattle.dft_sweep.specs.Fields.{with_bit}
-use Rattle.dft_capture.specs.Captures.{IsSettledFrom, Settled, after_moves, captured, meaning_in, next_by_pins, sources_at}
-use Rattle.dft_capture.proofs.Settling.{settled_there}
+use Rattle.dft_sweep.specs.Fields.{IsGivenBy, is_needed, with_bit}
+use Rattle.dft_capture.specs.Captures.{after_moves, captured, meaning_in, next_by_pins, sources_at}
+use Rattle.dft_capture.proofs.Settling.{capture_there}
 use Rattle.dft_faults.specs.declared.fault.Fault.{Fault}
 use Rattle.dft_faults.specs.Faulty.{faulty, IsFault}
 use Rattle.dft_faults.proofs.Finished.{order_stays}
-use Rattle.dft_seek.specs.Searches.{AreBoth, Both, Given, Point, Output, Response, Search, agree, detects_at, differ, has_falling, moving_of, port_values, takes_at}
-use Rattle.dft_seek.specs.Walks.{Cell, Port, Variable}
-use Rattle.dft_seek.specs.Trees.{Looks, Verdict, agrees_at, bit_for, is_bit, is_found, is_whole, node_at, site_stays, verdict_of}
+use Rattle.dft_seek.specs.Searches.{AreBoth, Both, Given, Point, Output, Response, Search, agree, detects_at, differ, faulty_at, good_at, has_falling, moving_of, port_values, takes_at}
+use Rattle.dft_seek.specs.Walks.{Cell, Port, Variable, is_among, taken_nets}
+use Rattle.dft_seek.specs.Trees.{Dead, Looks, Verdict, agrees_at, bit_for, is_bit, is_dead, is_found, is_whole, node_at, site_stays, verdict_of}
 use Rattle.dft_seek.specs.Assigned.{bit_of_net}
-use Rattle.dft_seek.specs.Cones.{AreTaking, cone_of}
+use Rattle.dft_seek.specs.Cones.{AreNeeded, AreTaking, cone_of}
 use Rattle.dft_seek.specs.Pins.{next_by, pins_at}
-use Rattle.dft_seek.specs.Nodes.{AreEvaluated, AreSettledFor, captured_at, found_at, risen_at, same_at, sources_in, stays_at, stuck_of, verdict_at}
-use Rattle.dft_seek.specs.Rigs.{IsRig, held_meaning, search_in}
+use Rattle.dft_seek.specs.Nodes.{AreEvaluated, captured_at, found_at, risen_at, same_at, sources_in, stays_at, stuck_of, verdict_at}
+use Rattle.dft_seek.specs.Rigs.{IsRig, held_meaning, means_of, search_in}
 use Rattle.dft_seek.specs.declared.cones.Cone.{Cone}
 use Rattle.dft_seek.specs.declared.looking.Values.{Values}
 use Rattle.dft_seek.specs.declared.rig.Rig.{Rig}
-use Rattle.dft_seek.proofs.Alike.{has_some}
+use Rattle.dft_seek.proofs.Alike.{AgreeTwice, AreAlike, AreSettledOn, agree_parts, gate_reads, response_same, settled_on}
 use Rattle.dft_seek.proofs.EvaluateLemmas.{held_live}
 use Rattle.dft_seek.proofs.PinLemmas.{next_stays}
 use Rattle.dft_seek.proofs.PinsKept.{next_kept}
 use Rattle.dft_seek.proofs.TreeLemmas.{whole_at}
-use Rattle.dft_seek.proofs.Unreached.{other_driver, stuck_driver}
+use Rattle.dft_seek.proofs.Hanging.{IsKept, stuck_is_no_cell}
+use Rattle.dft_seek.proofs.NoScan.{no_scan_pins}
+use Rattle.dft_seek.proofs.Unreached.{along_gate, other_driver, stuck_driver, through_cell}
 
 -- ---- the bits of a node
 
@@ -99,27 +101,29 @@ port_as : (r : Rig) (f : Fault) (g : Given) (ports : ℕ → Tri) (k : ℕ) → 
     (if flag_at r.resets.items k then One else ports k) ≡ port_values (search_in r f) g k
 port_as r f g ports k rig same is = λ t. if rig.resets k t then One else same k (input_live r k rig is) t
 
--- the settled values of the design
-pub good_settled : (r : Rig) (f : Fault) (g : Given) (ports cells state : ℕ → Tri) (v : List Tri) → IsRig r → ((net : ℕ) → net < length r.design.now.nets → ports net ≡ g.ports net) →
-    ((c : ℕ) → flag_at r.holds.items c ≡ true → cells c ≡ state c) → AreSettledFor r None ports cells v → IsSettledFrom r.design.now (moving_of (search_in r f)) (port_values (search_in r f) g) state (value_at v)
-good_settled r f g ports cells state v rig of_ports of_cells settled net =
-    settled net ∙ given_as r ports cells (port_values (search_in r f) g) state (value_at v) net (meaning (op_at r.circuit.ops.items net)) (port_as r f g ports net rig of_ports) of_cells
+-- the settled value of a net of the design
+good_given : (r : Rig) (f : Fault) (g : Given) (ports cells state : ℕ → Tri) (v : List Tri) (net : ℕ) → IsRig r → ((net : ℕ) → net < length r.design.now.nets → ports net ≡ g.ports net) →
+    ((c : ℕ) → flag_at r.holds.items c ≡ true → cells c ≡ state c) → IsGivenBy (means_of r.circuit None) (sources_in r ports cells) v net →
+    value_at v net ≡ value_given (sources_at (port_values (search_in r f) g) state) (value_at v) net (meaning_in (moving_of (search_in r f)) net (driver r.design.now net))
+good_given r f g ports cells state v net rig of_ports of_cells given =
+    given ∙ given_as r ports cells (port_values (search_in r f) g) state (value_at v) net (meaning (op_at r.circuit.ops.items net)) (port_as r f g ports net rig of_ports) of_cells
     ∙ ap (value_given (sources_at (port_values (search_in r f) g) state) (value_at v) net) (rig.means net)
 
 not_same : (a b : ℕ) → (a ≡ b → ⊥) → (b == a) ≡ false
 not_same a b other = elim (eqb_tells b a) [ inl same ↦ absurd (other (sym same.1)) | inr apart ↦ apart.0 ]
 
--- those of the design with the fault
-pub bad_settled : (r : Rig) (f : Fault) (g : Given) (ports cells state : ℕ → Tri) (v : List Tri) → IsRig r → IsFault r.design.now f → ((net : ℕ) → net < length r.design.now.nets → ports net ≡ g.ports net) →
-    ((c : ℕ) → flag_at r.holds.items c ≡ true → cells c ≡ state c) → AreSettledFor r (stuck_of f) ports cells v → IsSettledFrom (faulty r.design.now f) (moving_of (search_in r f)) (port_values (search_in r f) g) state (value_at v)
-bad_settled r f g ports cells state v rig fault of_ports of_cells settled net =
+-- that of one of the design with the fault
+bad_given : (r : Rig) (f : Fault) (g : Given) (ports cells state : ℕ → Tri) (v : List Tri) (net : ℕ) → IsRig r → IsFault r.design.now f → ((net : ℕ) → net < length r.design.now.nets → ports net ≡ g.ports net) →
+    ((c : ℕ) → flag_at r.holds.items c ≡ true → cells c ≡ state c) → IsGivenBy (means_of r.circuit (stuck_of f)) (sources_in r ports cells) v net →
+    value_at v net ≡ value_given (sources_at (port_values (search_in r f) g) state) (value_at v) net (meaning_in (moving_of (search_in r f)) net (driver (faulty r.design.now f) net))
+bad_given r f g ports cells state v net rig fault of_ports of_cells its =
     let s : Search = search_in r f in
     let m : Meaning = meaning (op_at r.circuit.ops.items net) in
     let given : Bool → Tri = λ b. value_given (sources_in r ports cells) (value_at v) net (with_bit (if b then Some f.value else None) m) in
     let from : Driver → Tri = λ d. value_given (sources_at (port_values s g) state) (value_at v) net (meaning_in (moving_of s) net d) in
     elim (eqb_tells net f.net.0) [
-      | inl same ↦ settled net ∙ ap given (eq-eqb f.net.0 net (sym same.1)) ∙ sym (ap from (stuck_driver s net fault same.0))
-      | inr other ↦ settled net ∙ ap given (not_same net f.net.0 other.1) ∙ given_as r ports cells (port_values s g) state (value_at v) net m (port_as r f g ports net rig of_ports) of_cells
+      | inl same ↦ its ∙ ap given (eq-eqb f.net.0 net (sym same.1)) ∙ sym (ap from (stuck_driver s net fault same.0))
+      | inr other ↦ its ∙ ap given (not_same net f.net.0 other.1) ∙ given_as r ports cells (port_values s g) state (value_at v) net m (port_as r f g ports net rig of_ports) of_cells
           ∙ ap (value_given (sources_at (port_values s g) state) (value_at v) net) (rig.means net) ∙ sym (ap from (other_driver s net fault other.0))
     ]
 
@@ -134,76 +138,137 @@ bad_next r f values c rig = next_kept r.design.now c (pins_at r.pins.items c) va
 
 -- ---- both captures
 
--- the values before the clock falls: those of the table, where a cell takes its next value then
-abbrev pub second_of : Rig → List Tri → (other : ℕ → Tri) → ℕ → Tri
-second_of r after other = if r.any_falls then value_at after else other
-
-picked : (P : (ℕ → Tri) → Type 0) (b : Bool) (x y : ℕ → Tri) → (b ≡ true → P x) → P y → P (if b then x else y)
-picked P true x y one other = one refl
-picked P false x y one other = other
+-- the values of the tables, where the needed nets alone have theirs
+abbrev pub told_by : Values → Both
+told_by v = record {
+  good = record { first = value_at v.good.values.items; second = value_at v.good_after.values.items };
+  faulty = record { first = value_at v.bad.values.items; second = value_at v.bad_after.values.items };
+}
 
 -- what the tables give is what the node's assignment gives
 pub record IsAssigned (r : Rig) (v : Values) (g : Given) : Type 0 where
   pub cells : (c : ℕ) → flag_at r.holds.items c ≡ true → value_at v.cells.items c ≡ g.cells c
   pub ports : (net : ℕ) → net < length r.design.now.nets → value_at v.ports.items net ≡ g.ports net
 
-pub both_of : (r : Rig) (f : Fault) (v : Values) (g : Given) → IsRig r → IsFault r.design.now f → IsAssigned r v g → AreEvaluated r f v →
-    (good_other : ℕ → Tri) × ((bad_other : ℕ → Tri) × AreBoth (search_in r f) g (record {
-      good = record { first = value_at v.good.values.items; second = second_of r v.good_after.values.items good_other };
-      faulty = record { first = value_at v.bad.values.items; second = second_of r v.bad_after.values.items bad_other };
-    }))
-both_of r f v g rig fault given are =
+-- a net is needed
+abbrev pub IsNeeded : Cone → (net : ℕ) → Type 0
+IsNeeded cone net = is_needed cone.needed.items net ≡ true
+
+good_told : (r : Rig) (f : Fault) (cone : Cone) (v : Values) (g : Given) → IsRig r → IsAssigned r v g → AreEvaluated r f cone.needed.items v → AreSettledOn (search_in r f) r.design.now g (told_by v).good (IsNeeded cone)
+good_told r f cone v g rig given are = record {
+  first = λ net needs. good_given r f g (value_at v.ports.items) (value_at v.cells.items) g.cells v.good.values.items net rig given.ports given.cells (are.good net needs);
+  second = λ falls net needs.
+      good_given r f g (value_at v.ports.items) (risen_at r v.cells.items v.good.values.items) (after_moves r.design.now (moving_of (search_in r f)).rises (value_at v.good.values.items) g.cells) v.good_after.values.items net rig given.ports
+      (λ c holds. risen_as r f r.design.now g v.cells.items v.good.values.items c rig (next_kept r.design.now c (pins_at r.pins.items c) (value_at v.good.values.items) (rig.pins.each c)) (given.cells c holds))
+      (are.good_after (rig.any_falls ∙ falls) net needs);
+}
+
+bad_told : (r : Rig) (f : Fault) (cone : Cone) (v : Values) (g : Given) → IsRig r → IsFault r.design.now f → IsAssigned r v g → AreEvaluated r f cone.needed.items v →
+    AreSettledOn (search_in r f) (faulty r.design.now f) g (told_by v).faulty (IsNeeded cone)
+bad_told r f cone v g rig fault given are = record {
+  first = λ net needs. bad_given r f g (value_at v.ports.items) (value_at v.cells.items) g.cells v.bad.values.items net rig fault given.ports given.cells (are.bad net needs);
+  second = λ falls net needs.
+      bad_given r f g (value_at v.ports.items) (risen_at r v.cells.items v.bad.values.items) (after_moves (faulty r.design.now f) (moving_of (search_in r f)).rises (value_at v.bad.values.items) g.cells) v.bad_after.values.items net rig fault given.ports
+      (λ c holds. risen_as r f (faulty r.design.now f) g v.cells.items v.bad.values.items c rig (bad_next r f (value_at v.bad.values.items) c rig) (given.cells c holds)) (are.bad_after (rig.any_falls ∙ falls) net needs);
+}
+
+-- ---- needed nets are settled by needed nets alone
+
+-- each walk to a needed net comes from a needed one
+needed_alike : (r : Rig) (f : Fault) (cone : Cone) (n : Netlist) (g : Given) → AreNeeded r f cone → ((net : ℕ) → IsKept (search_in r f) n net) → ((values : ℕ → Tri) (c : ℕ) → next_by_pins n values c ≡ next_by_pins r.design.now values c) →
+    AreAlike (search_in r f) n n g g (IsNeeded cone)
+needed_alike r f cone n g needs kept next = record {
+  same = record {
+    driven = λ net here. refl;
+    reads = λ net from here is. elim (kept net) [
+      | inl same ↦ needs.steps net from here (along_gate (search_in r f) from (driver r.design.now net) (ap (λ (d : Driver). is_among from (gate_reads d)) (sym same) ∙ is))
+      | inr stuck ↦ absurd (let e : false ≡ true = ap (λ (d : Driver). is_among from (gate_reads d)) (sym stuck) ∙ is in let x : ⊥ = cc in x)
+    ];
+    of_ports = λ net here is clock. refl;
+    of_cells = λ net i inverted here is held. refl;
+  };
+  passes = λ net i inverted from here is passed among. elim (kept net) [
+    | inl same ↦ needs.steps net from here (through_cell (search_in r f) from i inverted (driver r.design.now net) (sym same ∙ is) passed among)
+    | inr stuck ↦ absurd (stuck_is_no_cell (driver n net) i inverted f.value stuck is)
+  ];
+  next = next;
+  its_next = next;
+}
+
+good_kept : (r : Rig) (f : Fault) (cone : Cone) (g : Given) → AreNeeded r f cone → AreAlike (search_in r f) r.design.now r.design.now g g (IsNeeded cone)
+good_kept r f cone g needs = needed_alike r f cone r.design.now g needs (λ net. inl refl) (λ values c. refl)
+
+bad_kept : (r : Rig) (f : Fault) (cone : Cone) (g : Given) → IsFault r.design.now f → AreNeeded r f cone → AreAlike (search_in r f) (faulty r.design.now f) (faulty r.design.now f) g g (IsNeeded cone)
+bad_kept r f cone g fault needs = needed_alike r f cone (faulty r.design.now f) g needs
+    (λ net. elim (eqb_tells net f.net.0) [
+      | inl same ↦ inr (stuck_driver (search_in r f) net fault same.0)
+      | inr other ↦ inl (other_driver (search_in r f) net fault other.0)
+    ])
+    (λ values c. next_stays r.design.now f values c)
+
+-- the captures of an assignment show at needed nets what the tables tell
+pub record AreTold (r : Rig) (f : Fault) (cone : Cone) (v : Values) (b : Both) : Type 0 where
+  pub good : AgreeTwice (search_in r f) b.good (told_by v).good (IsNeeded cone)
+  pub faulty : AgreeTwice (search_in r f) b.faulty (told_by v).faulty (IsNeeded cone)
+
+are_told : (r : Rig) (f : Fault) (cone : Cone) (v : Values) (g : Given) (b : Both) → IsRig r → IsFault r.design.now f → AreNeeded r f cone → IsAssigned r v g → AreEvaluated r f cone.needed.items v → AreBoth (search_in r f) g b → AreTold r f cone v b
+are_told r f cone v g b rig fault needs given are both =
     let s : Search = search_in r f in
-    let n : Netlist = r.design.now in
-    let bad : Netlist = faulty n f in
-    let rises : ℕ → Bool = (moving_of s).rises in
-    let good_state : ℕ → Tri = after_moves n rises (value_at v.good.values.items) g.cells in
-    let bad_state : ℕ → Tri = after_moves bad rises (value_at v.bad.values.items) g.cells in
-    let good_there = settled_there n (moving_of s) rig.rank (port_values s g) good_state rig.ordered in
-    let bad_there = settled_there bad (moving_of s) rig.rank (port_values s g) bad_state (order_stays n f rig.rank fault rig.ordered) in (
-      good_there.0,
-      (
-        bad_there.0,
-        record {
-          good = record {
-            first = good_settled r f g (value_at v.ports.items) (value_at v.cells.items) g.cells v.good.values.items rig given.ports given.cells are.good;
-            second = picked (IsSettledFrom n (moving_of s) (port_values s g) good_state) r.any_falls (value_at v.good_after.values.items) good_there.0
-                (λ falls. good_settled r f g (value_at v.ports.items) (risen_at r v.cells.items v.good.values.items) good_state v.good_after.values.items rig given.ports
-                (λ c holds. risen_as r f n g v.cells.items v.good.values.items c rig (next_kept n c (pins_at r.pins.items c) (value_at v.good.values.items) (rig.pins.each c)) (given.cells c holds)) (are.good_after falls)) good_there.1;
-          };
-          faulty = record {
-            first = bad_settled r f g (value_at v.ports.items) (value_at v.cells.items) g.cells v.bad.values.items rig fault given.ports given.cells are.bad;
-            second = picked (IsSettledFrom bad (moving_of s) (port_values s g) bad_state) r.any_falls (value_at v.bad_after.values.items) bad_there.0
-                (λ falls. bad_settled r f g (value_at v.ports.items) (risen_at r v.cells.items v.bad.values.items) bad_state v.bad_after.values.items rig fault given.ports
-                (λ c holds. risen_as r f bad g v.cells.items v.bad.values.items c rig (bad_next r f (value_at v.bad.values.items) c rig) (given.cells c holds)) (are.bad_after falls)) bad_there.1;
-          };
-        },
-      ),
-    )
+    let none = no_scan_pins s rig.library in
+    record {
+      good = agree_parts s r.design.now r.design.now rig.rank g g b.good (told_by v).good (IsNeeded cone) rig.ordered none (good_kept r f cone g needs) (settled_on s r.design.now g b.good (IsNeeded cone) both.good) (good_told r f cone v g rig given are);
+      faulty = agree_parts s (faulty r.design.now f) (faulty r.design.now f) rig.rank g g b.faulty (told_by v).faulty (IsNeeded cone) (order_stays r.design.now f rig.rank fault rig.ordered) none (bad_kept r f cone g fault needs)
+          (settled_on s (faulty r.design.now f) g b.faulty (IsNeeded cone) both.faulty) (bad_told r f cone v g rig fault given are);
+    }
+
+-- the nets of a point are needed
+abbrev IsSeen : Rig → Cone → Point → Type 0
+IsSeen r cone (Output net) = IsNeeded cone net
+IsSeen r cone (Response cell) = (from : ℕ) → is_among from (taken_nets r.design.now cell) ≡ true → IsNeeded cone from
+
+cells_seen : (r : Rig) (cone : Cone) (cells : List InstanceId) → AllByRecursion (λ cell. (from : ℕ) → is_among from (taken_nets r.design.now cell.0) ≡ true → IsNeeded cone from) cells →
+    AllByRecursion (IsSeen r cone) (map (λ cell. Response cell.0) cells)
+cells_seen r cone [] all = tt
+cells_seen r cone (c ∷ cells) all = (all.0, cells_seen r cone cells all.1)
+
+nets_seen : (r : Rig) (cone : Cone) (nets : List NetId) (rest : List Point) → AllByRecursion (λ net. IsNeeded cone net.0) nets → AllByRecursion (IsSeen r cone) rest → AllByRecursion (IsSeen r cone) (map (λ net. Output net.0) nets ++ rest)
+nets_seen r cone [] rest all others = others
+nets_seen r cone (net ∷ nets) rest all others = (all.0, nets_seen r cone nets rest all.1 others)
+
+all_seen : (r : Rig) (f : Fault) (cone : Cone) → AreNeeded r f cone → AllByRecursion (IsSeen r cone) (cone_of cone).points
+all_seen r f cone needs = nets_seen r cone cone.outputs.items (map (λ cell. Response cell.0) cone.responses.items) needs.outputs (cells_seen r cone cone.responses.items needs.responses)
+
+-- so each point shows what the tables tell
+point_good : (r : Rig) (f : Fault) (cone : Cone) (v : Values) (g : Given) (b : Both) (point : Point) → IsRig r → AreNeeded r f cone → AreTold r f cone v b → IsSeen r cone point → good_at (search_in r f) g b point ≡ good_at (search_in r f) g (told_by v) point
+point_good r f cone v g b (Output net) rig needs told seen = told.good.first net seen
+point_good r f cone v g b (Response c) rig needs told seen =
+    response_same (search_in r f) r.design.now r.design.now g g b.good (told_by v).good (IsNeeded cone) c (no_scan_pins (search_in r f) rig.library) (good_kept r f cone g needs) told.good seen (λ no_fall no_rise. refl)
+
+point_bad : (r : Rig) (f : Fault) (cone : Cone) (v : Values) (g : Given) (b : Both) (point : Point) → IsRig r → IsFault r.design.now f → AreNeeded r f cone → AreTold r f cone v b → IsSeen r cone point →
+    faulty_at (search_in r f) g b point ≡ faulty_at (search_in r f) g (told_by v) point
+point_bad r f cone v g b (Output net) rig fault needs told seen = told.faulty.first net seen
+point_bad r f cone v g b (Response c) rig fault needs told seen =
+    response_same (search_in r f) (faulty r.design.now f) (faulty r.design.now f) g g b.faulty (told_by v).faulty (IsNeeded cone) c (no_scan_pins (search_in r f) rig.library) (bad_kept r f cone g fault needs) told.faulty seen (λ no_fall no_rise. refl)
 
 -- ---- points
 
 -- what a cell of the domain captures, in the design or in the design with the fault
-captured_as : (r : Rig) (f : Fault) (n : Netlist) (g : Given) (first after : List Tri) (other : ℕ → Tri) (c : ℕ) → IsRig r → ((values : ℕ → Tri) → next_by (pins_at r.pins.items c) values ≡ next_by_pins n values c) →
+captured_as : (r : Rig) (f : Fault) (n : Netlist) (g : Given) (first after : List Tri) (c : ℕ) → IsRig r → ((values : ℕ → Tri) → next_by (pins_at r.pins.items c) values ≡ next_by_pins n values c) →
     (takes_at (search_in r f) false c || takes_at (search_in r f) true c) ≡ true →
-    captured n (moving_of (search_in r f)) g.cells (record { first = value_at first; second = second_of r after other }) c ≡ captured_at r first after c
-captured_as r f n g first after other c rig next takes = by (takes_at s true c) (takes_at s false c) (flag_at r.falls.items c) refl refl (rig.falls c) takes
+    captured n (moving_of (search_in r f)) g.cells (record { first = value_at first; second = value_at after }) c ≡ captured_at r first after c
+captured_as r f n g first after c rig next takes = by (takes_at s true c) (takes_at s false c) (flag_at r.falls.items c) (rig.falls c) takes
   where
     s : Search
     s = search_in r f
 
-    falls_there : takes_at s true c ≡ true → r.any_falls ≡ true
-    falls_there is = rig.any_falls ∙ has_some s c is
-
-    by : (falls rises flag : Bool) → takes_at s true c ≡ falls → takes_at s false c ≡ rises → flag ≡ takes_at s true c → (rises || falls) ≡ true →
-        (if falls then next_by_pins n (second_of r after other) c else (if rises then next_by_pins n (value_at first) c else g.cells c))
+    by : (falls rises flag : Bool) → flag ≡ falls → (rises || falls) ≡ true →
+        (if falls then next_by_pins n (value_at after) c else (if rises then next_by_pins n (value_at first) c else g.cells c))
         ≡ (if flag then next_by (pins_at r.pins.items c) (value_at after) else next_by (pins_at r.pins.items c) (value_at first))
-    by true rises true is rise same some =
-        ap (λ (b : Bool). next_by_pins n (if b then value_at after else other) c) (falls_there is) ∙ sym (next (value_at after))
-    by true rises false is rise same some = absurd (let e : false ≡ true = same ∙ is in let x : ⊥ = cc in x)
-    by false true false is rise same some = sym (next (value_at first))
-    by false true true is rise same some = absurd (let e : true ≡ false = same ∙ is in let x : ⊥ = cc in x)
-    by false false flag is rise same some = absurd (let e : false ≡ true = some in let x : ⊥ = cc in x)
+    by true rises true same some = sym (next (value_at after))
+    by true rises false same some = absurd (let e : false ≡ true = same in let x : ⊥ = cc in x)
+    by false true false same some = sym (next (value_at first))
+    by false true true same some = absurd (let e : true ≡ false = same in let x : ⊥ = cc in x)
+    by false false flag same some = absurd (let e : false ≡ true = some in let x : ⊥ = cc in x)
 
 -- ---- lists of points
 
@@ -246,73 +311,96 @@ count_of cone =
 
 -- ---- the verdict
 
-found_same : (r : Rig) (f : Fault) (cone : Cone) (bits : List Bool) (v : Values) (good_other bad_other : ℕ → Tri) → IsRig r → AreTaking r cone.responses.items →
-    is_found (search_in r f) (cone_of cone) bits (record {
-      good = record { first = value_at v.good.values.items; second = second_of r v.good_after.values.items good_other };
-      faulty = record { first = value_at v.bad.values.items; second = second_of r v.bad_after.values.items bad_other };
-    }) ≡ found_at r cone v.good.values.items v.good_after.values.items v.bad.values.items v.bad_after.values.items
-found_same r f cone bits v good_other bad_other rig taking =
+found_same : (r : Rig) (f : Fault) (cone : Cone) (bits : List Bool) (v : Values) → IsRig r → AreTaking r cone.responses.items →
+    is_found (search_in r f) (cone_of cone) bits (told_by v) ≡ found_at r cone v.good.values.items v.good_after.values.items v.bad.values.items v.bad_after.values.items
+found_same r f cone bits v rig taking =
     let s : Search = search_in r f in
     let g : Given = node_at (cone_of cone).variables bits in
-    let b : Both = record {
-      good = record { first = value_at v.good.values.items; second = second_of r v.good_after.values.items good_other };
-      faulty = record { first = value_at v.bad.values.items; second = second_of r v.bad_after.values.items bad_other };
-    } in
-    let test : Point → Bool = detects_at s g b in
+    let test : Point → Bool = detects_at s g (told_by v) in
     list_any-append test (map (λ net. Output net.0) cone.outputs.items) (map (λ cell. Response cell.0) cone.responses.items)
     ∙ (λ t. any_mapped test (λ (net : NetId). Output net.0) cone.outputs.items t || any_mapped test (λ (cell : InstanceId). Response cell.0) cone.responses.items t)
     ∙ ap (λ (x : Bool). list_any (λ net. differ (value_at v.good.values.items net.0) (value_at v.bad.values.items net.0)) cone.outputs.items || x)
     (any_alike (λ (cell : InstanceId). (takes_at s false cell.0 || takes_at s true cell.0) ≡ true) (λ cell. test (Response cell.0))
     (λ cell. differ (captured_at r v.good.values.items v.good_after.values.items cell.0) (captured_at r v.bad.values.items v.bad_after.values.items cell.0)) cone.responses.items taking
-    (λ cell takes t. differ (captured_as r f r.design.now g v.good.values.items v.good_after.values.items good_other cell.0 rig (λ values. next_kept r.design.now cell.0 (pins_at r.pins.items cell.0) values (rig.pins.each cell.0)) takes t)
-    (captured_as r f (faulty r.design.now f) g v.bad.values.items v.bad_after.values.items bad_other cell.0 rig (λ values. bad_next r f values cell.0 rig) takes t)))
+    (λ cell takes t. differ (captured_as r f r.design.now g v.good.values.items v.good_after.values.items cell.0 rig (λ values. next_kept r.design.now cell.0 (pins_at r.pins.items cell.0) values (rig.pins.each cell.0)) takes t)
+    (captured_as r f (faulty r.design.now f) g v.bad.values.items v.bad_after.values.items cell.0 rig (λ values. bad_next r f values cell.0 rig) takes t)))
 
-agrees_same : (r : Rig) (f : Fault) (cone : Cone) (bits : List Bool) (v : Values) (good_other bad_other : ℕ → Tri) → IsRig r → AreTaking r cone.responses.items →
-    list_all (agrees_at (search_in r f) (node_at (cone_of cone).variables bits) (record {
-      good = record { first = value_at v.good.values.items; second = second_of r v.good_after.values.items good_other };
-      faulty = record { first = value_at v.bad.values.items; second = second_of r v.bad_after.values.items bad_other };
-    })) (cone_of cone).points ≡ same_at r cone v.good.values.items v.good_after.values.items v.bad.values.items v.bad_after.values.items
-agrees_same r f cone bits v good_other bad_other rig taking =
+agrees_same : (r : Rig) (f : Fault) (cone : Cone) (bits : List Bool) (v : Values) → IsRig r → AreTaking r cone.responses.items →
+    list_all (agrees_at (search_in r f) (node_at (cone_of cone).variables bits) (told_by v)) (cone_of cone).points ≡ same_at r cone v.good.values.items v.good_after.values.items v.bad.values.items v.bad_after.values.items
+agrees_same r f cone bits v rig taking =
     let s : Search = search_in r f in
     let g : Given = node_at (cone_of cone).variables bits in
-    let b : Both = record {
-      good = record { first = value_at v.good.values.items; second = second_of r v.good_after.values.items good_other };
-      faulty = record { first = value_at v.bad.values.items; second = second_of r v.bad_after.values.items bad_other };
-    } in
-    let test : Point → Bool = agrees_at s g b in
+    let test : Point → Bool = agrees_at s g (told_by v) in
     list_all-append test (map (λ net. Output net.0) cone.outputs.items) (map (λ cell. Response cell.0) cone.responses.items)
     ∙ (λ t. all_mapped test (λ (net : NetId). Output net.0) cone.outputs.items t && all_mapped test (λ (cell : InstanceId). Response cell.0) cone.responses.items t)
     ∙ ap (λ (x : Bool). list_all (λ net. agree (value_at v.good.values.items net.0) (value_at v.bad.values.items net.0)) cone.outputs.items && x)
     (all_alike (λ (cell : InstanceId). (takes_at s false cell.0 || takes_at s true cell.0) ≡ true) (λ cell. test (Response cell.0))
     (λ cell. agree (captured_at r v.good.values.items v.good_after.values.items cell.0) (captured_at r v.bad.values.items v.bad_after.values.items cell.0)) cone.responses.items taking
-    (λ cell takes t. agree (captured_as r f r.design.now g v.good.values.items v.good_after.values.items good_other cell.0 rig (λ values. next_kept r.design.now cell.0 (pins_at r.pins.items cell.0) values (rig.pins.each cell.0)) takes t)
-    (captured_as r f (faulty r.design.now f) g v.bad.values.items v.bad_after.values.items bad_other cell.0 rig (λ values. bad_next r f values cell.0 rig) takes t)))
+    (λ cell takes t. agree (captured_as r f r.design.now g v.good.values.items v.good_after.values.items cell.0 rig (λ values. next_kept r.design.now cell.0 (pins_at r.pins.items cell.0) values (rig.pins.each cell.0)) takes t)
+    (captured_as r f (faulty r.design.now f) g v.bad.values.items v.bad_after.values.items cell.0 rig (λ values. bad_next r f values cell.0 rig) takes t)))
 
-stays_same_at : (r : Rig) (f : Fault) (v : Values) (good_other : ℕ → Tri) (bad : Settled) → IsRig r →
-    site_stays (search_in r f) (record { good = record { first = value_at v.good.values.items; second = second_of r v.good_after.values.items good_other }; faulty = bad }) ≡ stays_at r f v.good.values.items v.good_after.values.items
-stays_same_at r f v good_other bad rig = ap (λ (b : Bool). is_bit f.value (value_at v.good.values.items f.net.0) && b) (by r.any_falls (has_falling (search_in r f)) rig.any_falls)
+stays_same_at : (r : Rig) (f : Fault) (v : Values) → IsRig r → site_stays (search_in r f) (told_by v) ≡ stays_at r f v.good.values.items v.good_after.values.items
+stays_same_at r f v rig = ap (λ (b : Bool). is_bit f.value (value_at v.good.values.items f.net.0) && (not b || is_bit f.value (value_at v.good_after.values.items f.net.0))) (sym rig.any_falls)
+
+-- what is known where the domain has a falling cell
+where_falls : (falls : Bool) (t u : Bool) → (falls ≡ true → t ≡ u) → (not falls || t) ≡ (not falls || u)
+where_falls true t u same = same refl
+where_falls false t u same = refl
+
+stays_told : (r : Rig) (f : Fault) (cone : Cone) (v : Values) (b : Both) → IsNeeded cone f.net.0 → AreTold r f cone v b → site_stays (search_in r f) b ≡ site_stays (search_in r f) (told_by v)
+stays_told r f cone v b needs told =
+    λ t. is_bit f.value (told.good.first f.net.0 needs t)
+    && where_falls (has_falling (search_in r f)) (is_bit f.value (b.good.second f.net.0)) (is_bit f.value (value_at v.good_after.values.items f.net.0)) (λ falls. ap (is_bit f.value) (told.good.second falls f.net.0 needs)) t
+
+-- where there is no point a node is dead
+no_points : (test more : Point → Bool) (points : List Point) (x y whole : Bool) → points ≡ [] → verdict_of (list_any test points) (x || (list_all more points || whole)) ≡ verdict_of (list_any test points) (y || (list_all more points || whole))
+no_points test more [] x y whole none = dead x ∙ sym (dead y)
   where
-    by : (any falls : Bool) → any ≡ falls → (not falls || is_bit f.value ((if any then value_at v.good_after.values.items else good_other) f.net.0)) ≡ (not any || is_bit f.value (value_at v.good_after.values.items f.net.0))
-    by true true same = refl
-    by false false same = refl
-    by true false same = absurd (let f : ⊥ = cc in f)
-    by false true same = absurd (let f : ⊥ = cc in f)
+    dead : (z : Bool) → verdict_of false (z || true) ≡ Dead
+    dead true = refl
+    dead false = refl
+no_points test more (p ∷ points) x y whole none = absurd cc
+
+-- by the captures of its assignment a node is what it is by the tables
+verdict_told : (r : Rig) (f : Fault) (cone : Cone) (bits : List Bool) (v : Values) (b : Both) → IsRig r → IsFault r.design.now f → AreNeeded r f cone → AreTold r f cone v b →
+    verdict_of (is_found (search_in r f) (cone_of cone) bits b) (is_dead (search_in r f) (cone_of cone) bits b) ≡ verdict_of (is_found (search_in r f) (cone_of cone) bits (told_by v)) (is_dead (search_in r f) (cone_of cone) bits (told_by v))
+verdict_told r f cone bits v b rig fault needs told =
+    let s : Search = search_in r f in
+    let g : Given = node_at (cone_of cone).variables bits in
+    let points : List Point = (cone_of cone).points in
+    let whole : Bool = is_whole (cone_of cone).variables bits in
+    let seen = all_seen r f cone needs in
+    let found : list_any (detects_at s g b) points ≡ list_any (detects_at s g (told_by v)) points =
+    any_alike (IsSeen r cone) (detects_at s g b) (detects_at s g (told_by v)) points seen (λ p is t. differ (point_good r f cone v g b p rig needs told is t) (point_bad r f cone v g b p rig fault needs told is t)) in
+    let agrees : list_all (agrees_at s g b) points ≡ list_all (agrees_at s g (told_by v)) points =
+    all_alike (IsSeen r cone) (agrees_at s g b) (agrees_at s g (told_by v)) points seen (λ p is t. agree (point_good r f cone v g b p rig needs told is t) (point_bad r f cone v g b p rig fault needs told is t)) in
+    (λ t. verdict_of (found t) (site_stays s b || (agrees t || whole)))
+    ∙ elim needs.site [
+      | inl none ↦ no_points (detects_at s g (told_by v)) (agrees_at s g (told_by v)) points (site_stays s b) (site_stays s (told_by v)) whole none
+      | inr site ↦ ap (λ (x : Bool). verdict_of (list_any (detects_at s g (told_by v)) points) (x || (list_all (agrees_at s g (told_by v)) points || whole))) (stays_told r f cone v b site told)
+    ]
+
+-- an assignment has its captures
+both_there : (r : Rig) (f : Fault) (g : Given) → IsRig r → IsFault r.design.now f → (b : Both) × AreBoth (search_in r f) g b
+both_there r f g rig fault =
+    let s : Search = search_in r f in
+    let good = capture_there r.design.now (moving_of s) rig.rank (port_values s g) g.cells rig.ordered in
+    let bad = capture_there (faulty r.design.now f) (moving_of s) rig.rank (port_values s g) g.cells (order_stays r.design.now f rig.rank fault rig.ordered) in
+    (record { good = good.0; faulty = bad.0 }, record { good = good.1; faulty = bad.1 })
 
 -- what the tables tell of a node is what it is
-pub looks_at : (r : Rig) (f : Fault) (cone : Cone) (bits : List Bool) (v : Values) (verdict : Verdict) → IsRig r → IsFault r.design.now f → AreTaking r cone.responses.items → IsAssigned r v (node_at (cone_of cone).variables bits) →
-    AreEvaluated r f v → verdict ≡ verdict_at r f cone bits v → Looks (search_in r f) (cone_of cone) bits verdict
-looks_at r f cone bits v verdict rig fault taking given are is =
-    let found = both_of r f v (node_at (cone_of cone).variables bits) rig fault given are in
+pub looks_at : (r : Rig) (f : Fault) (cone : Cone) (bits : List Bool) (v : Values) (verdict : Verdict) → IsRig r → IsFault r.design.now f → AreTaking r cone.responses.items → AreNeeded r f cone →
+    IsAssigned r v (node_at (cone_of cone).variables bits) → AreEvaluated r f cone.needed.items v → verdict ≡ verdict_at r f cone bits v → Looks (search_in r f) (cone_of cone) bits verdict
+looks_at r f cone bits v verdict rig fault taking needs given are is =
+    let g : Given = node_at (cone_of cone).variables bits in
+    let there = both_there r f g rig fault in
     record {
-      both = record {
-        good = record { first = value_at v.good.values.items; second = second_of r v.good_after.values.items found.0 };
-        faulty = record { first = value_at v.bad.values.items; second = second_of r v.bad_after.values.items found.1.0 };
-      };
-      are = found.1.1;
+      both = there.0;
+      are = there.1;
       is =
-          (λ t. verdict_of (found_same r f cone bits v found.0 found.1.0 rig taking t)
-          (stays_same_at r f v found.0 (record { first = value_at v.bad.values.items; second = second_of r v.bad_after.values.items found.1.0 }) rig t
-          || (agrees_same r f cone bits v found.0 found.1.0 rig taking t || whole_same (cone_of cone).variables bits (length cone.cells.items + length cone.ports.items) (count_of cone) t)))
+          verdict_told r f cone bits v there.0 rig fault needs (are_told r f cone v g there.0 rig fault needs given are there.1)
+          ∙ (λ t. verdict_of (found_same r f cone bits v rig taking t)
+          (stays_same_at r f v rig t || (agrees_same r f cone bits v rig taking t || whole_same (cone_of cone).variables bits (length cone.cells.items + length cone.ports.items) (count_of cone) t)))
           ∙ sym is;
     }
 

@@ -1,13 +1,22 @@
-//! The values that a node gives cells and ports.
+//! The values that nodes give cells and ports, one after another.
 
-ghost use Rattle.std.specs.Prelude.{◌≡◌, ℕ, ◌<◌, Some, drop, length};
+ghost use Rattle.std.specs.Prelude.{◌≡◌, ◌∷◌, [], ◌++◌, ℕ, ◌<◌, Bool, Some, drop, length, vec_capacity};
 ghost use Rattle.dft_base.specs.declared.tri.Tri.TheVariants.{Unknown};
-ghost use Rattle.dft_expect.specs.Loaded.{bit_of_cell, or_unknown};
-ghost use Rattle.dft_logic.specs.Values as values_of;
-ghost use Rattle.dft_seek.specs.Assigned.{bit_of_net, value_or};
+ghost use Rattle.dft_netlist.specs.Orders.{Has};
+ghost use Rattle.dft_faults.specs.declared.fault.Fault.{Fault as FaultOf};
+ghost use Rattle.dft_seek.specs.Assigned.{IsPut, value_or};
+ghost use Rattle.dft_seek.specs.Cones.{AreOnce};
+ghost use Rattle.dft_seek.specs.Nodes as spec;
+ghost use Rattle.dft_seek.specs.Nodes.{AreAt, AreMarkable, AreOpen};
+ghost use Rattle.dft_seek.specs.Rigs.{IsRig};
 
+use crate::cones::Cone;
+use crate::looking::Values;
+use crate::rig::Rig;
+use crate::showing::showing_of;
 use dft_base::Tri;
 use dft_netlist::{InstanceId, NetId};
+use dft_sweep::mark_all;
 
 // The value of a bit.
 fn known(bit: bool) -> Tri
@@ -16,56 +25,13 @@ fn known(bit: bool) -> Tri
     if bit { Tri::One } else { Tri::Zero }
 }
 
-// Takes all values away.
-fn clear(values: &mut [Tri])
-    ensures size { length values.new ≡ length values.old }
-    ensures each { (k : ℕ) → values_of.value_at values.new k ≡ Unknown }
-{
-    for value in values.iter_mut() {
-        *value = Tri::Unknown;
-    }
-}
-
 // Gives a place a value, if it is there.
 fn put(values: &mut [Tri], place: u32, value: Tri)
-    ensures size { length values.new ≡ length values.old }
-    ensures here { place < length values.old → values_of.value_at values.new place ≡ value }
-    ensures other { (k : ℕ) → (k ≡ place → ⊥) → values_of.value_at values.new k ≡ values_of.value_at values.old k }
+    ensures { IsPut values.old values.new place value }
 {
     if (place as usize) < values.len() {
         values[place as usize] = value;
     }
-}
-
-// Gives cells their bits; of two for one cell the first one counts.
-fn give_cells(values: &mut [Tri], cells: &[InstanceId], bits: &[bool])
-    ensures size { length values.new ≡ length values.old }
-    ensures each { (c : ℕ) → c < length values.old → values_of.value_at values.new c ≡ value_or (bit_of_cell cells.now bits.now c) (values_of.value_at values.old c) }
-{
-    let count = cells.len().min(bits.len());
-    for index in (0..count).rev() {
-        put(values, cells[index].0, known(bits[index]));
-    }
-}
-
-// Gives ports their bits; of two for one port the first one counts.
-fn give_ports(values: &mut [Tri], ports: &[NetId], bits: &[bool])
-    ensures size { length values.new ≡ length values.old }
-    ensures each { (net : ℕ) → net < length values.old → values_of.value_at values.new net ≡ value_or (bit_of_net ports.now bits.now net) (values_of.value_at values.old net) }
-{
-    let count = ports.len().min(bits.len());
-    for index in (0..count).rev() {
-        put(values, ports[index].0, known(bits[index]));
-    }
-}
-
-// The values of cells where these have bits, and no other one is known.
-pub(crate) fn assign_cells(values: &mut [Tri], cells: &[InstanceId], bits: &[bool])
-    ensures size { length values.new ≡ length values.old }
-    ensures each { (c : ℕ) → c < length values.old → values_of.value_at values.new c ≡ or_unknown (bit_of_cell cells.now bits.now c) }
-{
-    clear(values);
-    give_cells(values, cells, bits);
 }
 
 // The bits from a place on.
@@ -79,11 +45,85 @@ pub(crate) fn rest(bits: &[bool], from: usize) -> &[bool]
     }
 }
 
-// The values of ports where these have the bits from a place on, and no other one is known.
-pub(crate) fn assign_ports(values: &mut [Tri], ports: &[NetId], bits: &[bool], from: usize)
-    ensures size { length values.new ≡ length values.old }
-    ensures each { (net : ℕ) → net < length values.old → values_of.value_at values.new net ≡ or_unknown (bit_of_net ports.now (drop from bits.now) net) }
-{
-    clear(values);
-    give_ports(values, ports, rest(bits, from));
+impl Rig<'_> {
+    // Marks nets that are needed in the values before the clock rises.
+    fn mark(&self, cone: &Cone, nets: &[u32], v: &mut Values)
+        requires live { (k : ℕ) → Has nets.now k → k < length self.now.design.now.nets }
+        requires marks { AreMarkable self.now v.old }
+        ensures { spec.AreMarked self.now cone.now.needed.items nets.now v.old v.new }
+    {
+        mark_all(&self.places, &cone.needed, nets, &mut v.good.marks);
+        mark_all(&self.places, &cone.needed, nets, &mut v.bad.marks);
+    }
+
+    // Gives a cell a value.
+    fn give_cell(&self, cone: &Cone, cell: InstanceId, value: Tri, v: &mut Values)
+        requires rig { IsRig self.now }
+        requires marks { AreMarkable self.now v.old }
+        ensures marks { AreMarkable self.now v.new }
+        ensures opens { (f : FaultOf) → AreOpen self.now f cone.now.needed.items v.old → AreOpen self.now f cone.now.needed.items v.new }
+        ensures cells { IsPut v.old.cells.items v.new.cells.items cell.0 value }
+        ensures ports { v.new.ports ≡ v.old.ports }
+    {
+        put(&mut v.cells, cell.0, value);
+        self.mark(cone, showing_of(&self.showing, cell), v);
+    }
+
+    // Gives a port a value.
+    fn give_port(&self, cone: &Cone, net: NetId, value: Tri, v: &mut Values)
+        requires rig { IsRig self.now }
+        requires live { net.0 < length self.now.design.now.nets }
+        requires marks { AreMarkable self.now v.old }
+        ensures marks { AreMarkable self.now v.new }
+        ensures opens { (f : FaultOf) → AreOpen self.now f cone.now.needed.items v.old → AreOpen self.now f cone.now.needed.items v.new }
+        ensures ports { IsPut v.old.ports.items v.new.ports.items net.0 value }
+        ensures cells { v.new.cells ≡ v.old.cells }
+    {
+        put(&mut v.ports, net.0, value);
+        self.mark(cone, &[net.0], v);
+    }
+
+    // Gives the variable at a place a value, if there is one.
+    fn give(&self, cone: &Cone, place: usize, value: Tri, v: &mut Values)
+        requires rig { IsRig self.now }
+        requires once { AreOnce self.now cone.now }
+        requires marks { AreMarkable self.now v.old }
+        ensures marks { AreMarkable self.now v.new }
+        ensures opens { (f : FaultOf) → AreOpen self.now f cone.now.needed.items v.old → AreOpen self.now f cone.now.needed.items v.new }
+        ensures given { spec.IsGivenAt cone.now place value v.old v.new }
+    {
+        if place < cone.cells.len() {
+            self.give_cell(cone, cone.cells[place], value, v);
+        } else if place - cone.cells.len() < cone.ports.len() {
+            self.give_port(cone, cone.ports[place - cone.cells.len()], value, v);
+        }
+    }
+
+    // Goes on from the node of these bits by one bit more.
+    pub(crate) fn extend(&self, cone: &Cone, bits: &mut Vec<bool>, bit: bool, v: &mut Values)
+        requires rig { IsRig self.now }
+        requires once { AreOnce self.now cone.now }
+        requires room { length bits.old.items < vec_capacity bits.old }
+        requires marks { AreMarkable self.now v.old }
+        requires at { AreAt cone.now bits.old.items v.old }
+        ensures opens { (f : FaultOf) → AreOpen self.now f cone.now.needed.items v.old → AreOpen self.now f cone.now.needed.items v.new }
+        ensures at { AreAt cone.now bits.new.items v.new }
+        ensures bits { bits.new.items ≡ bits.old.items ++ bit ∷ [] }
+        ensures room { vec_capacity bits.new ≡ vec_capacity bits.old }
+    {
+        self.give(cone, bits.len(), known(bit), v);
+        bits.push_reserved(bit);
+    }
+
+    // Goes back from the node of these bits and one more, which has been taken away.
+    pub(crate) fn shorten(&self, cone: &Cone, bits: &[bool], v: &mut Values)
+        requires rig { IsRig self.now }
+        requires once { AreOnce self.now cone.now }
+        requires marks { AreMarkable self.now v.old }
+        ensures marks { AreMarkable self.now v.new }
+        ensures opens { (f : FaultOf) → AreOpen self.now f cone.now.needed.items v.old → AreOpen self.now f cone.now.needed.items v.new }
+        ensures at { (bit : Bool) → AreAt cone.now (bits.now ++ bit ∷ []) v.old → AreAt cone.now bits.now v.new }
+    {
+        self.give(cone, bits.len(), Tri::Unknown, v);
+    }
 }

@@ -21,13 +21,15 @@ use dft_logic::flag_at;
 use dft_netlist::{InstanceId, NetId, Signal};
 use std::alloc::{AllocError, Global};
 
-// The points that are reached, bits of output ports and cells, and the variables, cells and ports.
+// The points that are reached, bits of output ports and cells; the variables, cells and ports; and by net, whether a walk leads from
+// it to a point: no other net is needed.
 #[derive(Drop)]
 pub(crate) struct Cone {
     pub outputs: Vec<NetId>,
     pub responses: Vec<InstanceId>,
     pub cells: Vec<InstanceId>,
     pub ports: Vec<NetId>,
+    pub needed: Vec<bool>,
 }
 
 // Those of the nets that are marked.
@@ -240,6 +242,8 @@ impl Rig<'_> {
         requires live { fault.net.0 < length self.now.design.now.nets }
         ensures cone { IfOk result (λ cone. IsCone (search_in self.now fault) (spec.cone_of cone)) }
         ensures takes { IfOk result (λ cone. spec.AreTaking self.now cone.responses.items) }
+        ensures once { IfOk result (spec.AreOnce self.now) }
+        ensures needs { IfOk result (spec.AreNeeded self.now fault) }
     {
         let reached = self.reached(alloc, fault.net)?;
         let outputs = marked_nets(alloc, &self.outputs, &reached)?;
@@ -254,6 +258,7 @@ impl Rig<'_> {
             responses,
             cells,
             ports,
+            needed: leading,
         })
     }
 }

@@ -1,23 +1,23 @@
 //! The values of nodes, one node after another.
 
-ghost use Rattle.std.specs.Prelude.{◌≡◌, ◌<◌, None, true, slice_set, IfOk, length};
+ghost use Rattle.std.specs.Prelude.{◌≡◌, ◌<◌, ℕ, Bool, List, [], None, true, IfOk, length};
+ghost use Rattle.dft_base.specs.declared.tri.Tri.TheVariants.{Unknown};
 ghost use Rattle.dft_faults.specs.Faulty.{IsFault};
 ghost use Rattle.dft_logic.specs.Values as values_of;
-ghost use Rattle.dft_seek.specs.Cones.{AreTaking, cone_of};
+ghost use Rattle.dft_seek.specs.Cones.{AreNeeded, AreTaking, cone_of};
+ghost use Rattle.dft_seek.specs.declared.cones.Cone.{Cone as ConeOf};
 ghost use Rattle.dft_seek.specs.Nodes as spec;
-ghost use Rattle.dft_seek.specs.Nodes.{AreEvaluated, AreReady, AreSettledFor, IsNear, IsSettled, stuck_of};
+ghost use Rattle.dft_seek.specs.Nodes.{AreAt, AreEvaluated, AreOpen, AreReady, AreSettledFor, IsNear, IsSettled, stuck_of};
 ghost use Rattle.dft_seek.specs.Rigs.{IsRig, search_in};
 ghost use Rattle.dft_seek.specs.Trees.{Looks};
 
-use crate::assigning::{assign_cells, assign_ports};
 use crate::cones::Cone;
 use crate::looking::{Sight, Table, Values, Verdict};
 use crate::rig::Rig;
-use crate::tables::{lowered, unknown};
+use crate::tables::unknown;
 use dft_base::Tri;
 use dft_faults::Fault;
-use dft_netlist::NetId;
-use dft_sweep::Stuck;
+use dft_sweep::{Marks, Stuck};
 use std::alloc::{AllocError, Global};
 
 // The net of a fault is stuck.
@@ -30,14 +30,6 @@ fn stuck(fault: Fault) -> Option<Stuck>
     })
 }
 
-// Marks a net.
-fn mark(marked: &mut [bool], net: NetId)
-    requires { net.0 < length marked.old }
-    ensures { marked.new ≡ slice_set marked.old net.0 true }
-{
-    marked[net.0 as usize] = true;
-}
-
 // Whether every variable has a bit.
 fn is_whole(cone: &Cone, bits: &[bool]) -> bool
     ensures { result ≡ spec.is_whole_at cone.now bits.now }
@@ -45,18 +37,11 @@ fn is_whole(cone: &Cone, bits: &[bool]) -> bool
     cone.cells.len() + cone.ports.len() <= bits.len()
 }
 
-// Gives the cells and ports their values at the node of these bits.
-fn assign(cone: &Cone, bits: &[bool], v: &mut Values)
-    ensures { spec.AreAssigned cone.now bits.now v.old v.new }
-{
-    assign_cells(&mut v.cells, &cone.cells, bits);
-    assign_ports(&mut v.ports, &cone.ports, bits, cone.cells.len());
-}
-
 impl Rig<'_> {
     // Settles a table before the clock falls, for the values of nets before it rises.
     fn settle_after(
         &self,
+        cone: &Cone,
         stuck: Option<Stuck>,
         ports: &[Tri],
         cells: &[Tri],
@@ -65,35 +50,36 @@ impl Rig<'_> {
         table: &mut Table,
     )
         requires rig { IsRig self.now }
-        requires near { IsNear self.now stuck table.old }
+        requires near { IsNear self.now cone.now.needed.items stuck table.old }
         requires risen { length risen.old ≡ length self.now.design.now.instances }
-        ensures table { IsSettled self.now stuck table.new }
-        ensures given { AreSettledFor self.now stuck (values_of.value_at ports.now) (spec.risen_at self.now cells.now first.now) table.new.values.items }
+        ensures table { IsSettled self.now cone.now.needed.items stuck table.new }
+        ensures given { AreSettledFor self.now cone.now.needed.items stuck (values_of.value_at ports.now) (spec.risen_at self.now cells.now first.now) table.new.values.items }
     {
         self.rise(cells, first, risen);
-        self.settle(stuck, ports, risen, table);
+        self.settle(cone, stuck, ports, risen, table);
     }
 
     // Settles the values before the clock rises.
-    fn settle_first(&self, fault: Fault, v: &mut Values)
+    fn settle_first(&self, fault: Fault, cone: &Cone, v: &mut Values)
         requires rig { IsRig self.now }
-        requires ready { AreReady self.now fault v.old }
-        ensures { spec.IsFirst self.now fault v.old v.new }
+        requires opens { AreOpen self.now fault cone.now.needed.items v.old }
+        ensures { spec.IsFirst self.now fault cone.now.needed.items v.old v.new }
     {
-        self.settle(None, &v.ports, &v.cells, &mut v.good);
-        self.settle(stuck(fault), &v.ports, &v.cells, &mut v.bad);
+        self.settle_nets(cone, None, &[], &v.ports, &v.cells, &mut v.good);
+        self.settle_nets(cone, stuck(fault), &[], &v.ports, &v.cells, &mut v.bad);
     }
 
     // Settles the values before the clock falls, where a cell takes its next value then.
-    fn settle_second(&self, fault: Fault, v: &mut Values)
+    fn settle_second(&self, fault: Fault, cone: &Cone, v: &mut Values)
         requires rig { IsRig self.now }
-        requires ready { AreReady self.now fault v.old }
-        ensures { spec.IsSecond self.now fault v.old v.new }
+        requires ready { AreReady self.now fault cone.now.needed.items v.old }
+        ensures { spec.IsSecond self.now fault cone.now.needed.items v.old v.new }
     {
         if !self.any_falls {
             return;
         }
         self.settle_after(
+            cone,
             None,
             &v.ports,
             &v.cells,
@@ -102,6 +88,7 @@ impl Rig<'_> {
             &mut v.good_after,
         );
         self.settle_after(
+            cone,
             stuck(fault),
             &v.ports,
             &v.cells,
@@ -112,15 +99,15 @@ impl Rig<'_> {
     }
 
     // Settles the values of both captures.
-    fn evaluate(&self, fault: Fault, v: &mut Values)
+    fn evaluate(&self, fault: Fault, cone: &Cone, v: &mut Values)
         requires rig { IsRig self.now }
-        requires ready { AreReady self.now fault v.old }
-        ensures ready { AreReady self.now fault v.new }
+        requires opens { AreOpen self.now fault cone.now.needed.items v.old }
+        ensures ready { AreReady self.now fault cone.now.needed.items v.new }
         ensures same { spec.AreSame v.old v.new }
-        ensures evaluated { AreEvaluated self.now fault v.new }
+        ensures evaluated { AreEvaluated self.now fault cone.now.needed.items v.new }
     {
-        self.settle_first(fault, v);
-        self.settle_second(fault, v);
+        self.settle_first(fault, cone, v);
+        self.settle_second(fault, cone, v);
     }
 
     // Looks at the node of these bits: what it is.
@@ -128,12 +115,14 @@ impl Rig<'_> {
         requires rig { IsRig self.now }
         requires fault { IsFault self.now.design.now fault }
         requires takes { AreTaking self.now cone.now.responses.items }
-        requires ready { AreReady self.now fault v.old }
-        ensures ready { AreReady self.now fault v.new }
+        requires needs { AreNeeded self.now fault cone.now }
+        requires opens { AreOpen self.now fault cone.now.needed.items v.old }
+        requires at { AreAt cone.now bits.now v.old }
+        ensures opens { AreOpen self.now fault cone.now.needed.items v.new }
+        ensures at { AreAt cone.now bits.now v.new }
         ensures looks { Looks (search_in self.now fault) (cone_of cone.now) bits.now (spec.verdict result) }
     {
-        assign(cone, bits, v);
-        self.evaluate(fault, v);
+        self.evaluate(fault, cone, v);
         self.read(fault, cone, bits, v)
     }
 
@@ -153,41 +142,80 @@ impl Rig<'_> {
     }
 
     // The values of all nets of the design, where no cell and no port has one.
-    fn good_table(&self, alloc: Global) -> Result<Table, AllocError>
+    fn base_table(&self, alloc: Global) -> Result<Table, AllocError>
         requires rig { IsRig self.now }
-        ensures { IfOk result (IsSettled self.now None) }
+        ensures table { IfOk result (λ table. (needed : List Bool) → IsSettled self.now needed None table) }
+        ensures base { IfOk result (λ table. table.values.items ≡ self.now.base.items) }
     {
         let values = Vec::from_slice(alloc, &self.base)?;
-        let marked = lowered(alloc, self.base.len())?;
-        Ok(Table { values, marked })
+        let marks = Marks::new(alloc, self.base.len(), false)?;
+        Ok(Table { values, marks })
     }
 
-    // The same where a net is stuck.
-    fn bad_table(&self, alloc: Global, fault: Fault) -> Result<Table, AllocError>
+    // The same where a net is stuck, for values of ports and cells of which none is known.
+    fn bad_table(
+        &self,
+        alloc: Global,
+        fault: Fault,
+        cone: &Cone,
+        ports: &[Tri],
+        cells: &[Tri],
+    ) -> Result<Table, AllocError>
         requires rig { IsRig self.now }
         requires live { fault.net.0 < length self.now.design.now.nets }
-        ensures { IfOk result (IsSettled self.now (stuck_of fault)) }
+        requires ports { (net : ℕ) → values_of.value_at ports.now net ≡ Unknown }
+        requires cells { (c : ℕ) → values_of.value_at cells.now c ≡ Unknown }
+        ensures table { IfOk result (IsSettled self.now cone.now.needed.items (stuck_of fault)) }
+        ensures given { IfOk result (λ table. AreSettledFor self.now cone.now.needed.items (stuck_of fault) (values_of.value_at ports.now) (values_of.value_at cells.now) table.values.items) }
     {
-        let mut table = self.good_table(alloc)?;
-        mark(&mut table.marked, fault.net);
-        self.settle(stuck(fault), &[], &[], &mut table);
+        let mut table = self.base_table(alloc)?;
+        table.marks.mark(&self.places, &cone.needed, fault.net);
+        self.settle_nets(cone, stuck(fault), &[], ports, cells, &mut table);
         Ok(table)
     }
 
-    // The values with which the search of a fault begins.
-    pub(crate) fn values(&self, alloc: Global, fault: Fault) -> Result<Values, AllocError>
+    // The same before the clock falls, if a cell takes its next value then.
+    fn bad_after(
+        &self,
+        alloc: Global,
+        fault: Fault,
+        cone: &Cone,
+        ports: &[Tri],
+        cells: &[Tri],
+    ) -> Result<Table, AllocError>
         requires rig { IsRig self.now }
         requires live { fault.net.0 < length self.now.design.now.nets }
-        ensures { IfOk result (AreReady self.now fault) }
+        requires ports { (net : ℕ) → values_of.value_at ports.now net ≡ Unknown }
+        requires cells { (c : ℕ) → values_of.value_at cells.now c ≡ Unknown }
+        ensures { IfOk result (λ table. self.now.any_falls ≡ true → IsSettled self.now cone.now.needed.items (stuck_of fault) table) }
+    {
+        if self.any_falls {
+            self.bad_table(alloc, fault, cone, ports, cells)
+        } else {
+            self.base_table(alloc)
+        }
+    }
+
+    // The values with which the search of a fault begins.
+    pub(crate) fn values(
+        &self,
+        alloc: Global,
+        fault: Fault,
+        cone: &Cone,
+    ) -> Result<Values, AllocError>
+        requires rig { IsRig self.now }
+        requires live { fault.net.0 < length self.now.design.now.nets }
+        ensures opens { IfOk result (AreOpen self.now fault cone.now.needed.items) }
+        ensures at { IfOk result (λ v. (cone : ConeOf) → AreAt cone [] v) }
     {
         let instances = self.holds.len();
         let cells = unknown(alloc, instances)?;
         let ports = unknown(alloc, self.base.len())?;
         let risen = unknown(alloc, instances)?;
-        let good = self.good_table(alloc)?;
-        let bad = self.bad_table(alloc, fault)?;
-        let good_after = self.good_table(alloc)?;
-        let bad_after = self.bad_table(alloc, fault)?;
+        let good = self.base_table(alloc)?;
+        let bad = self.bad_table(alloc, fault, cone, &ports, &cells)?;
+        let good_after = self.base_table(alloc)?;
+        let bad_after = self.bad_after(alloc, fault, cone, &ports, &cells)?;
         Ok(Values {
             cells,
             ports,

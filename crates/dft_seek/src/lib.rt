@@ -15,6 +15,7 @@ mod preparing;
 mod rig;
 mod searching;
 mod seeker;
+mod showing;
 mod steps;
 mod tables;
 

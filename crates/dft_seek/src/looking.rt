@@ -1,12 +1,16 @@
 //! What a node of a search is.
 
-ghost use Rattle.std.specs.Prelude.{◌≡◌, ◌||◌, ℕ, ◌<◌, ◌^◌, length};
+ghost use Rattle.std.specs.Prelude.{◌≡◌, ◌||◌, ◌⊎◌, ℕ, ◌<◌, ◌^◌, false, length};
 ghost use Rattle.std.specs.List.{list_all, list_any};
+ghost use Rattle.dft_netlist.specs.Orders.{Has};
+ghost use Rattle.dft_logic.specs.Circuit.{flag_at};
 ghost use Rattle.dft_logic.specs.Values as values_of;
+ghost use Rattle.dft_sweep.specs.Chunks.{AreBusy};
+ghost use Rattle.dft_sweep.specs.Fields.{IsGivenIf};
 ghost use Rattle.dft_seek.specs.Nodes as spec;
 ghost use Rattle.dft_seek.specs.Nodes.{AreSettledFor, IsNear, IsSettled};
 ghost use Rattle.dft_seek.specs.Pins.{next_by, pins_at};
-ghost use Rattle.dft_seek.specs.Rigs.{IsRig};
+ghost use Rattle.dft_seek.specs.Rigs.{IsRig, means_of};
 ghost use Rattle.dft_seek.specs.Searches as searches;
 ghost use Rattle.dft_seek.specs.Trees as trees;
 
@@ -15,9 +19,9 @@ use crate::pins::Pins;
 use crate::rig::Rig;
 use dft_base::Tri;
 use dft_faults::Fault;
-use dft_logic::{flag_at, value_at};
+use dft_logic::{flag_at, list_of, value_at};
 use dft_netlist::{InstanceId, NetId};
-use dft_sweep::{Field, Sources, Stuck, settle};
+use dft_sweep::{Field, Marks, Sources, Stuck, settle};
 
 // What a node is: found, dead, or one that the search goes on from.
 #[derive(Clone, Copy)]
@@ -27,11 +31,11 @@ pub(crate) enum Verdict {
     Open,
 }
 
-// The values of all nets, and which of them are marked because they may lack theirs: none between nodes.
+// The values of nets, and which of them are marked because they may lack theirs: none between nodes.
 #[derive(Drop)]
 pub(crate) struct Table {
     pub values: Vec<Tri>,
-    pub marked: Vec<bool>,
+    pub marks: Marks,
 }
 
 // The values of a node: those of cells and of ports, those of cells after the clock has risen, and those of nets in the design
@@ -240,21 +244,30 @@ impl Rig<'_> {
         }
     }
 
-    // Settles a table of the design, with a stuck net if there is one, for these values of ports and cells.
-    pub(crate) fn settle(
+    // Settles a table of the design, with a stuck net if there is one, at the nets that the cone needs, for these values of ports
+    // and cells, where no other of them than these and the marked ones lacks its value.
+    pub(crate) fn settle_nets(
         &self,
+        cone: &Cone,
         stuck: Option<Stuck>,
+        nets: &[u32],
         ports: &[Tri],
         cells: &[Tri],
         table: &mut Table,
     )
         requires rig { IsRig self.now }
-        requires near { IsNear self.now stuck table.old }
-        ensures table { IsSettled self.now stuck table.new }
-        ensures given { AreSettledFor self.now stuck (values_of.value_at ports.now) (values_of.value_at cells.now) table.new.values.items }
+        requires live { (k : ℕ) → Has nets.now k → k < length self.now.circuit.ops.items }
+        requires values { length table.old.values.items ≡ length self.now.design.now.nets }
+        requires marked { length table.old.marks.marked.items ≡ length self.now.design.now.nets }
+        requires busy { AreBusy self.now.places.items table.old.marks }
+        requires near { (k : ℕ) → flag_at table.old.marks.marked.items k ≡ false → Has nets.now k ⊎ IsGivenIf cone.now.needed.items (means_of self.now.circuit stuck) (spec.sources_in self.now (values_of.value_at ports.now) (values_of.value_at cells.now)) table.old.values.items k }
+        ensures table { IsSettled self.now cone.now.needed.items stuck table.new }
+        ensures given { AreSettledFor self.now cone.now.needed.items stuck (values_of.value_at ports.now) (values_of.value_at cells.now) table.new.values.items }
     {
         let field = Field {
             circuit: &self.circuit,
+            places: &self.places,
+            needed: &cone.needed,
             stuck,
             sources: Sources {
                 ports,
@@ -263,6 +276,24 @@ impl Rig<'_> {
                 holds: &self.holds,
             },
         };
-        settle(&field, &mut table.values, &mut table.marked);
+        settle(&field, nets, &mut table.values, &mut table.marks);
+    }
+
+    // Settles a table that is near its values.
+    pub(crate) fn settle(
+        &self,
+        cone: &Cone,
+        stuck: Option<Stuck>,
+        ports: &[Tri],
+        cells: &[Tri],
+        table: &mut Table,
+    )
+        requires rig { IsRig self.now }
+        requires near { IsNear self.now cone.now.needed.items stuck table.old }
+        ensures table { IsSettled self.now cone.now.needed.items stuck table.new }
+        ensures given { AreSettledFor self.now cone.now.needed.items stuck (values_of.value_at ports.now) (values_of.value_at cells.now) table.new.values.items }
+    {
+        let nets = list_of(&self.circuit.sources, NetId(0));
+        self.settle_nets(cone, stuck, nets, ports, cells, table);
     }
 }

@@ -2,17 +2,19 @@
 
 ghost use Rattle.std.specs.Prelude.{◌≡◌, true, length, replicate, IfOk};
 ghost use Rattle.dft_logic.specs.Circuit.{IsCircuit};
+ghost use Rattle.dft_sweep.specs.Chunks.{AreBusy, ArePlaces};
 ghost use Rattle.dft_seek.specs.Rigs.{IsBase, IsRig};
 
 use crate::pins::Pins;
 use crate::preparing::{compiled, find_moves, find_nets, find_ways};
+use crate::showing::{Numbers, showing};
 use crate::tables::unknown;
 use dft_base::{Listed, Tri};
 use dft_config::Config;
 use dft_logic::Circuit;
 use dft_netlist::{Design, InstanceId, NetId};
 use dft_stitch::Planned;
-use dft_sweep::{Field, Sources, settle};
+use dft_sweep::{Field, Marks, Sources, places, settle};
 use std::alloc::{AllocError, Global};
 
 // A planned design and one of its domains, with what is the same for all faults.
@@ -22,11 +24,14 @@ pub(crate) struct Rig<'a> {
     pub config: &'a Config,
     pub domain: u8,
     pub circuit: Circuit,
+    // By net, its place in the circuit's order.
+    pub places: Vec<u32>,
     // By net: whether it is a reset, which flip-flop it shows, and from which nets a walk goes on to it.
     pub resets: Vec<bool>,
     pub shows: Vec<Option<InstanceId>>,
     pub steps: Vec<Listed<NetId>>,
-    // By instance: whether it is a scanned cell, takes its next value at the rise or at the fall, and its pins.
+    // By instance: which nets show it, whether it is a scanned cell, takes its next value at the rise or at the fall, and its pins.
+    pub showing: Vec<Numbers>,
     pub holds: Vec<bool>,
     pub rises: Vec<bool>,
     pub falls: Vec<bool>,
@@ -43,47 +48,52 @@ pub(crate) struct Rig<'a> {
     pub base: Vec<Tri>,
 }
 
-// Settles all nets from these sources.
-fn settle_base(circuit: &Circuit, sources: Sources<'_>, values: &mut [Tri], marked: &mut [bool])
+// Settles all nets, where no cell and no port has a value.
+fn settle_base(
+    circuit: &Circuit,
+    places: &[u32],
+    resets: &[bool],
+    holds: &[bool],
+    values: &mut [Tri],
+    marks: &mut Marks,
+)
     requires circuit { IsCircuit circuit.now }
+    requires places { ArePlaces circuit.now places.now }
     requires values { length values.old ≡ length circuit.now.ops.items }
-    requires marked { marked.old ≡ replicate (length circuit.now.ops.items) true }
-    ensures { IsBase circuit.now values.new }
+    requires marked { marks.old.marked.items ≡ replicate (length circuit.now.ops.items) true }
+    requires busy { AreBusy places.now marks.old }
+    ensures { IsBase circuit.now resets.now holds.now values.new }
 {
     let field = Field {
         circuit,
+        places,
+        needed: &[],
         stuck: None,
-        sources,
+        sources: Sources {
+            ports: &[],
+            resets,
+            cells: &[],
+            holds,
+        },
     };
-    settle(&field, values, marked);
-}
-
-// So many flags that are up.
-fn raised(alloc: Global, count: usize) -> Result<Vec<bool>, AllocError>
-    ensures { IfOk result (λ flags. flags.items ≡ replicate count true) }
-{
-    vec![in alloc; true; count]
+    settle(&field, &[], values, marks);
 }
 
 // The values of all nets where no cell and no port has one.
 fn base(
     alloc: Global,
     circuit: &Circuit,
+    places: &[u32],
     resets: &[bool],
     holds: &[bool],
 ) -> Result<Vec<Tri>, AllocError>
-    requires { IsCircuit circuit.now }
-    ensures { IfOk result (λ values. IsBase circuit.now values.items) }
+    requires circuit { IsCircuit circuit.now }
+    requires places { ArePlaces circuit.now places.now }
+    ensures { IfOk result (λ values. IsBase circuit.now resets.now holds.now values.items) }
 {
     let mut values = unknown(alloc, circuit.ops.len())?;
-    let mut marked = raised(alloc, circuit.ops.len())?;
-    let sources = Sources {
-        ports: &[],
-        resets,
-        cells: &[],
-        holds,
-    };
-    settle_base(circuit, sources, &mut values, &mut marked);
+    let mut marks = Marks::new(alloc, circuit.ops.len(), true)?;
+    settle_base(circuit, places, resets, holds, &mut values, &mut marks);
     Ok(values)
 }
 
@@ -106,15 +116,19 @@ pub(crate) fn prepared<'a>(
     let moves = find_moves(alloc, planned, domain)?;
     let ways = find_ways(alloc, planned, domain, &circuit, &moves)?;
     let nets = find_nets(alloc, planned, &circuit)?;
-    let base = base(alloc, &circuit, &nets.resets, &moves.holds)?;
+    let places = places(alloc, &circuit)?;
+    let base = base(alloc, &circuit, &places, &nets.resets, &moves.holds)?;
+    let showing = showing(alloc, &circuit.ops, moves.holds.len())?;
     Ok(Rig {
         design,
         config,
         domain,
         circuit,
+        places,
         resets: nets.resets,
         shows: ways.shows,
         steps: ways.steps,
+        showing,
         holds: moves.holds,
         rises: moves.rises,
         falls: moves.falls,

@@ -2,8 +2,9 @@
 
 ghost use Rattle.std.specs.Prelude.{◌≡◌, ◌≤◌, ◌+◌, ◌∷◌, [], length, true, false, vec_capacity, IfOk};
 ghost use Rattle.dft_faults.specs.Faulty.{IsFault};
-ghost use Rattle.dft_seek.specs.Cones.{AreTaking, cone_of};
-ghost use Rattle.dft_seek.specs.Nodes.{AreReady};
+ghost use Rattle.dft_seek.specs.Cones.{AreNeeded, AreOnce, AreTaking, cone_of};
+ghost use Rattle.dft_seek.specs.Nodes.{AreAt, AreMarkable, AreOpen};
+ghost use Rattle.dft_faults.specs.declared.fault.Fault.{Fault as FaultOf};
 ghost use Rattle.dft_seek.specs.Rigs.{IsRig, search_in};
 ghost use Rattle.dft_seek.specs.Sought.{IsSought, cube_at};
 ghost use Rattle.dft_seek.specs.Turns as spec;
@@ -20,22 +21,6 @@ use dft_cubes::{Cube, Domains};
 use dft_faults::Fault;
 use dft_netlist::{InstanceId, NetId};
 use std::alloc::{AllocError, Global};
-
-// The bits of the node after a dead one: the last 0 is turned to 1, and what comes after it is left off. Whether there is one.
-fn turn(bits: &mut Vec<bool>) -> bool
-    ensures room { vec_capacity bits.new ≡ vec_capacity bits.old }
-    ensures few { length bits.new.items ≤ length bits.old.items }
-    ensures turned { result ≡ true → spec.pending bits.old.items ≡ bits.new.items ∷ spec.pending bits.new.items }
-    ensures ended { result ≡ false → spec.pending bits.old.items ≡ [] }
-{
-    while let Some(bit) = bits.pop() {
-        if !bit {
-            bits.push_reserved(true);
-            return true;
-        }
-    }
-    false
-}
 
 // The cells that have bits, with these.
 fn given_cells(
@@ -93,15 +78,42 @@ impl Rig<'_> {
         }))
     }
 
+    // Goes to the node after a dead one: the last 0 is turned to 1, and what comes after it is left off. Whether there is one.
+    fn turn(&self, cone: &Cone, bits: &mut Vec<bool>, v: &mut Values) -> bool
+        requires rig { IsRig self.now }
+        requires once { AreOnce self.now cone.now }
+        requires marks { AreMarkable self.now v.old }
+        requires at { AreAt cone.now bits.old.items v.old }
+        ensures opens { (f : FaultOf) → AreOpen self.now f cone.now.needed.items v.old → AreOpen self.now f cone.now.needed.items v.new }
+        ensures at { AreAt cone.now bits.new.items v.new }
+        ensures room { vec_capacity bits.new ≡ vec_capacity bits.old }
+        ensures few { length bits.new.items ≤ length bits.old.items }
+        ensures turned { result ≡ true → spec.pending bits.old.items ≡ bits.new.items ∷ spec.pending bits.new.items }
+        ensures ended { result ≡ false → spec.pending bits.old.items ≡ [] }
+    {
+        while let Some(bit) = bits.pop() {
+            self.shorten(cone, bits, v);
+            if !bit {
+                self.extend(cone, bits, true, v);
+                return true;
+            }
+        }
+        false
+    }
+
     // Goes on from a node to its first bits 0 as long as the search goes on there. Whether the last node is found; else it is dead.
     fn descend(&self, fault: Fault, cone: &Cone, bits: &mut Vec<bool>, v: &mut Values) -> bool
         requires rig { IsRig self.now }
         requires fault { IsFault self.now.design.now fault }
         requires takes { AreTaking self.now cone.now.responses.items }
-        requires ready { AreReady self.now fault v.old }
+        requires needs { AreNeeded self.now fault cone.now }
+        requires once { AreOnce self.now cone.now }
+        requires opens { AreOpen self.now fault cone.now.needed.items v.old }
+        requires at { AreAt cone.now bits.old.items v.old }
         requires room { length cone.now.cells.items + length cone.now.ports.items ≤ vec_capacity bits.old }
         requires few { length bits.old.items ≤ length cone.now.cells.items + length cone.now.ports.items }
-        ensures ready { AreReady self.now fault v.new }
+        ensures opens { AreOpen self.now fault cone.now.needed.items v.new }
+        ensures at { AreAt cone.now bits.new.items v.new }
         ensures room { vec_capacity bits.new ≡ vec_capacity bits.old }
         ensures few { length bits.new.items ≤ length cone.now.cells.items + length cone.now.ports.items }
         ensures leaf { IsLeaf (search_in self.now fault) (cone_of cone.now) bits.old.items bits.new.items result }
@@ -110,7 +122,7 @@ impl Rig<'_> {
             match self.look(fault, cone, bits, v) {
                 Verdict::Found => return true,
                 Verdict::Dead => return false,
-                Verdict::Open => bits.push_reserved(false),
+                Verdict::Open => self.extend(cone, bits, false, v),
             }
         }
         false
@@ -129,13 +141,13 @@ impl Rig<'_> {
         ensures { IfOk result (IsSought (search_in self.now fault) limit name) }
     {
         let cone = self.cone(alloc, fault)?;
-        let mut values = self.values(alloc, fault)?;
+        let mut values = self.values(alloc, fault, &cone)?;
         let mut bits = Vec::with_capacity(alloc, cone.cells.len() + cone.ports.len())?;
         for _dead in 0..limit {
             if self.descend(fault, &cone, &mut bits, &mut values) {
                 return self.cube(alloc, name, &cone, &bits);
             }
-            if !turn(&mut bits) {
+            if !self.turn(&cone, &mut bits, &mut values) {
                 return Ok(Found::NotTestable);
             }
         }

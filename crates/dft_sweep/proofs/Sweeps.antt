@@ -1,8 +1,9 @@
 -- Marked nets are evaluated one after another; every net that is not marked has its value.
 use Rattle.std.proofs.Common.{ℕ, zero, suc, Bool, true, false, List, [], ◌∷◌, ◌≡◌, ◌<◌, ◌≤◌, ◌+◌, ◌≢◌, ◌⊎◌, inl, inr, Option, None, Some, length, drop, drop-cons, add-one, refl, sym, ap, ◌∙◌, subst, get_or, slice_set, get_or-set_same, get_or-set_other, true≢false, arith}
+use Rattle.std.specs.Prelude.{if◌then◌else◌}
 use Rattle.std.specs.List.{AllByRecursion}
 use Rattle.std.proofs.lemmas.Bool.Decides.{eqb_tells, leb_tells}
-use Rattle.std.proofs.lemmas.List.{get_or_past, drop_all}
+use Rattle.std.proofs.lemmas.List.{get_or_past, drop_all, length-set}
 use Rattle.dft_base.specs.declared.tri.Tri.{Tri}
 use Rattle.dft_base.specs.declared.tri.Tri.TheVariants.{Unknown}
 use Rattle.dft_cells.specs.Gates.{tri_of}
@@ -18,13 +19,14 @@ use Rattle.dft_logic.specs.Values.{value_at}
 use Rattle.dft_logic.specs.Circuit.{meaning, op_at, AreOrdered, IsCircuit, flag_at, source_places}
 use Rattle.dft_logic.specs.Tables.{list_at}
 use Rattle.dft_logic.proofs.Settlings.{all_more, inputs_agree, source_agree}
-use Rattle.dft_sweep.specs.Fields.{IsGivenBy, with_bit}
+use Rattle.dft_sweep.specs.Fields.{IsGivenBy, IsGivenIf, is_needed, with_bit}
+use Rattle.dft_sweep.specs.Sweepings.{Sweeping}
 
 -- ---- marks
 
--- these nets that are not before a place of a list are marked
-pub record Marking (nets : List ℕ) (start marked : List Bool) (j : ℕ) : Type 0 where
-  pub lowered : (k : ℕ) → flag_at marked k ≡ false → (flag_at start k ≡ false) × (Has nets k → Has (drop j nets) k)
+-- of these nets the needed ones before a place of the list are marked
+pub record Marking (needed : List Bool) (nets : List ℕ) (start marked : List Bool) (j : ℕ) : Type 0 where
+  pub lowered : (k : ℕ) → flag_at marked k ≡ false → (flag_at start k ≡ false) × (is_needed needed k ≡ true → Has nets k → Has (drop j nets) k)
   pub raised : (k : ℕ) → flag_at marked k ≡ true → (flag_at start k ≡ true) ⊎ Has nets k
 
 pub has_item : (xs : List ℕ) (j : ℕ) (d : ℕ) → j < length xs → Has xs (get_or xs j d)
@@ -38,15 +40,15 @@ has_item xs j d less = at xs j less where
 pub has_front : (xs : List ℕ) (j d k : ℕ) → j < length xs → Has (drop j xs) k → (k ≡ get_or xs j d) ⊎ Has (drop (j + 1) xs) k
 has_front xs j d k less has = (let P : List ℕ → Type 0 = λ l. Has l k in rw (add-one) (subst P (drop-cons xs j d less) has))
 
-pub marking_starts : (nets : List ℕ) (start : List Bool) → Marking nets start start 0
-marking_starts nets start = record { lowered = λ k down. (down, λ h. h); raised = λ k up. inl up }
+pub marking_starts : (needed : List Bool) (nets : List ℕ) (start : List Bool) → Marking needed nets start start 0
+marking_starts needed nets start = record { lowered = λ k down. (down, λ needs h. h); raised = λ k up. inl up }
 
-pub marking_more : (nets : List ℕ) (start marked : List Bool) (j net d : ℕ) → net ≡ get_or nets j d → j < length nets → net < length marked → Marking nets start marked j → Marking nets start (slice_set marked net true) (j + 1)
-marking_more nets start marked j net d is less live m = record {
+raised_more : (needed : List Bool) (nets : List ℕ) (start marked : List Bool) (j net d : ℕ) → net ≡ get_or nets j d → j < length nets → net < length marked → Marking needed nets start marked j → Marking needed nets start (slice_set marked net true) (j + 1)
+raised_more needed nets start marked j net d is less live m = record {
   lowered = λ k down. elim (eqb_tells k net) [
     | inl q ↦ (let F : ℕ → Bool = λ n. flag_at (slice_set marked net true) n in absurd (true≢false (sym (get_or-set_same marked net true false live) ∙ sym (ap F q.1) ∙ down)))
     | inr q ↦ (let was = m.lowered k (sym (get_or-set_other marked net k true false q.1) ∙ down) in
-        (was.0, λ h. elim (has_front nets j d k less (was.1 h)) [ inl e ↦ absurd (q.1 (e ∙ sym is)) | inr rest ↦ rest ]))
+        (was.0, λ needs h. elim (has_front nets j d k less (was.1 needs h)) [ inl e ↦ absurd (q.1 (e ∙ sym is)) | inr rest ↦ rest ]))
   ];
   raised = λ k up. elim (eqb_tells k net) [
     | inl q ↦ (let P : ℕ → Type 0 = λ n. Has nets n in inr (subst P (sym is ∙ sym q.1) (has_item nets j d less)))
@@ -54,8 +56,24 @@ marking_more nets start marked j net d is less live m = record {
   ];
 }
 
-pub marking_ends : (nets : List ℕ) (start marked : List Bool) (j k : ℕ) → length nets ≤ j → Marking nets start marked j → flag_at marked k ≡ false → (flag_at start k ≡ false) × (Has nets k → ⊥)
-marking_ends nets start marked j k past m down = (let was = m.lowered k down in let P : List ℕ → Type 0 = λ l. Has l k in (was.0, λ h. subst P (drop_all j nets past) (was.1 h)))
+pub marking_more : (needed : List Bool) (nets : List ℕ) (start marked : List Bool) (j net d : ℕ) → net ≡ get_or nets j d → j < length nets → net < length marked → Marking needed nets start marked j →
+    Marking needed nets start (if is_needed needed net then slice_set marked net true else marked) (j + 1)
+marking_more needed nets start marked j net d is less live m = by (is_needed needed net) refl
+  where
+    by : (b : Bool) → is_needed needed net ≡ b → Marking needed nets start (if b then slice_set marked net true else marked) (j + 1)
+    by true needs = raised_more needed nets start marked j net d is less live m
+    by false idle = record {
+      lowered = λ k down. (let was = m.lowered k down in
+          (was.0, λ needs h. elim (has_front nets j d k less (was.1 needs h)) [ inl e ↦ absurd (true≢false (sym needs ∙ ap (is_needed needed) (e ∙ sym is) ∙ idle)) | inr rest ↦ rest ]));
+      raised = m.raised;
+    }
+
+pub marked_size : (b : Bool) (marked : List Bool) (net : ℕ) → length (if b then slice_set marked net true else marked) ≡ length marked
+marked_size true marked net = length-set marked net true
+marked_size false marked net = refl
+
+pub marking_ends : (needed : List Bool) (nets : List ℕ) (start marked : List Bool) (j k : ℕ) → length nets ≤ j → Marking needed nets start marked j → flag_at marked k ≡ false → (flag_at start k ≡ false) × (is_needed needed k ≡ true → Has nets k → ⊥)
+marking_ends needed nets start marked j k past m down = (let was = m.lowered k down in let P : List ℕ → Type 0 = λ l. Has l k in (was.0, λ needs h. subst P (drop_all j nets past) (was.1 needs h)))
 
 -- ---- one net gets its value
 
@@ -97,6 +115,10 @@ kept means sources values net k t given same before = elim before [
   | inr is ↦ is
 ]
 
+-- a net that is not needed may have any value
+pub unneeded : (needed : List Bool) (means : ℕ → Meaning) (sources : TriSources) (values : List Tri) (net k : ℕ) → is_needed needed net ≡ false → (k ≡ net) ⊎ IsGivenIf needed means sources values k → IsGivenIf needed means sources values k
+unneeded needed means sources values net k idle before needs = elim before [ inl e ↦ absurd (true≢false (sym needs ∙ ap (is_needed needed) e ∙ idle)) | inr is ↦ is needs ]
+
 -- a net that is none of the readers does not read it, nor where it is stuck
 pub blind : (x : Circuit) (net k : ℕ) (readers : List ℕ) → IsCircuit x → net < length x.ops.items → readers ≡ list_at x.readers net → (Has readers k → ⊥) → Has (reads (meaning (op_at x.ops.items k))) net → ⊥
 blind x net k readers is live e none h = elim (leb_tells (length x.ops.items) k) [
@@ -110,32 +132,23 @@ reads_with (Some bit) m net has = absurd has
 
 -- ---- the order
 
--- the nets before a place of the order are not marked, and each net that is not marked has its value
-pub record Sweeping (ops : List Op) (means : ℕ → Meaning) (sources : TriSources) (order : List NetId) (values : List Tri) (marked : List Bool) (j : ℕ) : Type 0 where
-  pub before : List ℕ
-  pub rest : AreOrdered ops before (numbers_of (drop j order))
-  pub closed : (k : ℕ) → Has before k → AllByRecursion (Has before) (reads (meaning (op_at ops k)))
-  pub clean : (k : ℕ) → Has before k → flag_at marked k ≡ false
-  pub given : (k : ℕ) → flag_at marked k ≡ false → IsGivenBy means sources values k
-  pub either : (k : ℕ) → k < length ops → Has before k ⊎ Has (numbers_of (drop j order)) k
+pub sweeping_starts : (x : Circuit) (needed : List Bool) (means : ℕ → Meaning) (sources : TriSources) (values : List Tri) (marked : List Bool) → IsCircuit x →
+    ((k : ℕ) → flag_at marked k ≡ false → IsGivenIf needed means sources values k) → Sweeping x.ops.items needed means sources x.order.items values marked 0
+sweeping_starts x needed means sources values marked is given = record { before = []; rest = is.after; closed = λ k h. absurd h; clean = λ k h. absurd h; given = given; either = λ k less. inr (is.whole k less) }
 
-pub sweeping_starts : (x : Circuit) (means : ℕ → Meaning) (sources : TriSources) (values : List Tri) (marked : List Bool) → IsCircuit x →
-    ((k : ℕ) → flag_at marked k ≡ false → IsGivenBy means sources values k) → Sweeping x.ops.items means sources x.order.items values marked 0
-sweeping_starts x means sources values marked is given = record { before = []; rest = is.after; closed = λ k h. absurd h; clean = λ k h. absurd h; given = given; either = λ k less. inr (is.whole k less) }
+front : (ops : List Op) (needed : List Bool) (means : ℕ → Meaning) (sources : TriSources) (order : List NetId) (values : List Tri) (marked : List Bool) (j : ℕ) (net d : NetId) → j < length order → net ≡ get_or order j d →
+    Sweeping ops needed means sources order values marked j → drop j order ≡ net ∷ drop (j + 1) order
+front ops needed means sources order values marked j net d less is s = rw (add-one) (drop-cons order j d less ∙ ap (λ (n : NetId). n ∷ drop (suc j) order) (sym is))
 
-front : (ops : List Op) (means : ℕ → Meaning) (sources : TriSources) (order : List NetId) (values : List Tri) (marked : List Bool) (j : ℕ) (net d : NetId) → j < length order → net ≡ get_or order j d →
-    Sweeping ops means sources order values marked j → drop j order ≡ net ∷ drop (j + 1) order
-front ops means sources order values marked j net d less is s = rw (add-one) (drop-cons order j d less ∙ ap (λ (n : NetId). n ∷ drop (suc j) order) (sym is))
+pub swept_live : (ops : List Op) (needed : List Bool) (means : ℕ → Meaning) (sources : TriSources) (order : List NetId) (values : List Tri) (marked : List Bool) (j : ℕ) (net d : NetId) → j < length order → net ≡ get_or order j d →
+    Sweeping ops needed means sources order values marked j → net.0 < length ops
+swept_live ops needed means sources order values marked j net d less is s = (let P : List NetId → Type 0 = λ l. AreOrdered ops s.before (numbers_of l) in (subst P (front ops needed means sources order values marked j net d less is s) s.rest).1)
 
-pub swept_live : (ops : List Op) (means : ℕ → Meaning) (sources : TriSources) (order : List NetId) (values : List Tri) (marked : List Bool) (j : ℕ) (net d : NetId) → j < length order → net ≡ get_or order j d →
-    Sweeping ops means sources order values marked j → net.0 < length ops
-swept_live ops means sources order values marked j net d less is s = (let P : List NetId → Type 0 = λ l. AreOrdered ops s.before (numbers_of l) in (subst P (front ops means sources order values marked j net d less is s) s.rest).1)
-
-pub sweeping_more : (ops : List Op) (means : ℕ → Meaning) (sources : TriSources) (order : List NetId) (values new : List Tri) (marked now : List Bool) (j : ℕ) (net d : NetId) → (less : j < length order) → (is : net ≡ get_or order j d) →
-    Sweeping ops means sources order values marked j → (given : ((k : ℕ) → flag_at now k ≡ false → IsGivenBy means sources new k)) →
-    (raised : ((k : ℕ) → flag_at now k ≡ true → ((flag_at marked k ≡ true) × (k ≡ net.0 → ⊥)) ⊎ Has (reads (meaning (op_at ops k))) net.0)) → Sweeping ops means sources order new now (j + 1)
-sweeping_more ops means sources order values new marked now j net d less is s given raised =
-    let e = front ops means sources order values marked j net d less is s in
+pub sweeping_more : (ops : List Op) (needed : List Bool) (means : ℕ → Meaning) (sources : TriSources) (order : List NetId) (values new : List Tri) (marked now : List Bool) (j : ℕ) (net d : NetId) → (less : j < length order) → (is : net ≡ get_or order j d) →
+    Sweeping ops needed means sources order values marked j → (given : ((k : ℕ) → flag_at now k ≡ false → IsGivenIf needed means sources new k)) →
+    (raised : ((k : ℕ) → flag_at now k ≡ true → ((flag_at marked k ≡ true) × (k ≡ net.0 → ⊥)) ⊎ Has (reads (meaning (op_at ops k))) net.0)) → Sweeping ops needed means sources order new now (j + 1)
+sweeping_more ops needed means sources order values new marked now j net d less is s given raised =
+    let e = front ops needed means sources order values marked j net d less is s in
     let P : List NetId → Type 0 = λ l. AreOrdered ops s.before (numbers_of l) in
     let Q : List NetId → Type 0 = λ l. (k : ℕ) → k < length ops → Has s.before k ⊎ Has (numbers_of l) k in
     let here = subst P e s.rest in
@@ -164,9 +177,9 @@ sweeping_more ops means sources order values new marked now j net d less is s gi
       down k false is never = is
       down k true is never = absurd (never is)
 
-pub swept : (x : Circuit) (means : ℕ → Meaning) (sources : TriSources) (values : List Tri) (marked : List Bool) (j : ℕ) → length x.order.items ≤ j → length marked ≡ length x.ops.items →
-    Sweeping x.ops.items means sources x.order.items values marked j → (k : ℕ) → flag_at marked k ≡ false
-swept x means sources values marked j past len s k = elim (leb_tells (length x.ops.items) k) [
+pub swept : (x : Circuit) (needed : List Bool) (means : ℕ → Meaning) (sources : TriSources) (values : List Tri) (marked : List Bool) (j : ℕ) → length x.order.items ≤ j → length marked ≡ length x.ops.items →
+    Sweeping x.ops.items needed means sources x.order.items values marked j → (k : ℕ) → flag_at marked k ≡ false
+swept x needed means sources values marked j past len s k = elim (leb_tells (length x.ops.items) k) [
   | inl out ↦ (let far : length marked ≤ k = omega (arith, out.1) in get_or_past marked k false far)
   | inr live ↦ (let Q : List NetId → Type 0 = λ l. Has s.before k ⊎ Has (numbers_of l) k in
       elim (subst Q (drop_all j x.order.items past) (s.either k live.1)) [ inl older ↦ s.clean k older | inr none ↦ absurd none ])
@@ -175,22 +188,22 @@ swept x means sources values marked j past len s k = elim (leb_tells (length x.o
 -- ---- these nets, one after another
 
 -- where each net that is not marked has its value or is one of these, it has it now, or is one that is left
-abbrev pub Refreshing : (means : ℕ → Meaning) (sources : TriSources) (nets : List ℕ) (start values : List Tri) (first marked : List Bool) (j : ℕ) → Type 0
-Refreshing means sources nets start values first marked j =
-    ((k : ℕ) → flag_at first k ≡ false → Has nets k ⊎ IsGivenBy means sources start k) → (k : ℕ) → flag_at marked k ≡ false → Has (drop j nets) k ⊎ IsGivenBy means sources values k
+abbrev pub Refreshing : (needed : List Bool) → (means : ℕ → Meaning) (sources : TriSources) (nets : List ℕ) (start values : List Tri) (first marked : List Bool) (j : ℕ) → Type 0
+Refreshing needed means sources nets start values first marked j =
+    ((k : ℕ) → flag_at first k ≡ false → Has nets k ⊎ IsGivenIf needed means sources start k) → (k : ℕ) → flag_at marked k ≡ false → Has (drop j nets) k ⊎ IsGivenIf needed means sources values k
 
-pub refreshed_more : (means : ℕ → Meaning) (sources : TriSources) (nets : List ℕ) (start values new : List Tri) (first marked now : List Bool) (j net d : ℕ) → (less : j < length nets) → (is : net ≡ get_or nets j d) →
-    Refreshing means sources nets start values first marked j → (given : ((k : ℕ) → flag_at now k ≡ false → (k ≡ net) ⊎ IsGivenBy means sources values k → IsGivenBy means sources new k)) →
-    (lowered : ((k : ℕ) → flag_at now k ≡ false → flag_at marked k ≡ false)) → Refreshing means sources nets start new first now (j + 1)
-refreshed_more means sources nets start values new first marked now j net d less is s given lowered near k down =
+pub refreshed_more : (needed : List Bool) (means : ℕ → Meaning) (sources : TriSources) (nets : List ℕ) (start values new : List Tri) (first marked now : List Bool) (j net d : ℕ) → (less : j < length nets) → (is : net ≡ get_or nets j d) →
+    Refreshing needed means sources nets start values first marked j → (given : ((k : ℕ) → flag_at now k ≡ false → (k ≡ net) ⊎ IsGivenIf needed means sources values k → IsGivenIf needed means sources new k)) →
+    (lowered : ((k : ℕ) → flag_at now k ≡ false → flag_at marked k ≡ false)) → Refreshing needed means sources nets start new first now (j + 1)
+refreshed_more needed means sources nets start values new first marked now j net d less is s given lowered near k down =
     elim (s near k (lowered k down)) [
       | inl left ↦ elim (has_front nets j d k less left) [ inl e ↦ inr (given k down (inl (e ∙ sym is))) | inr rest ↦ inl rest ]
       | inr right ↦ inr (given k down (inr right))
     ]
 
-pub refreshed_all : (means : ℕ → Meaning) (sources : TriSources) (nets : List ℕ) (start values : List Tri) (first marked : List Bool) (j : ℕ) → length nets ≤ j → Refreshing means sources nets start values first marked j →
-    ((k : ℕ) → flag_at first k ≡ false → Has nets k ⊎ IsGivenBy means sources start k) → (k : ℕ) → flag_at marked k ≡ false → IsGivenBy means sources values k
-refreshed_all means sources nets start values first marked j past s near k down =
+pub refreshed_all : (needed : List Bool) (means : ℕ → Meaning) (sources : TriSources) (nets : List ℕ) (start values : List Tri) (first marked : List Bool) (j : ℕ) → length nets ≤ j → Refreshing needed means sources nets start values first marked j →
+    ((k : ℕ) → flag_at first k ≡ false → Has nets k ⊎ IsGivenIf needed means sources start k) → (k : ℕ) → flag_at marked k ≡ false → IsGivenIf needed means sources values k
+refreshed_all needed means sources nets start values first marked j past s near k down =
     let P : List ℕ → Type 0 = λ l. Has l k in
     elim (s near k down) [ inl left ↦ absurd (subst P (drop_all j nets past) left) | inr is ↦ is ]
 
@@ -201,7 +214,7 @@ none_listed [] is empty = absurd cc
 none_listed (place ∷ places) is empty = absurd (omega (arith, empty))
 
 -- a net that means a source is listed as one
-source : (x : Circuit) (k : ℕ) (m : Meaning) → IsCircuit x → meaning (op_at x.ops.items k) ≡ m → source_places m ≡ 0 ∷ [] → Has (list_at x.sources 0) k
+pub source : (x : Circuit) (k : ℕ) (m : Meaning) → IsCircuit x → meaning (op_at x.ops.items k) ≡ m → source_places m ≡ 0 ∷ [] → Has (list_at x.sources 0) k
 source x k m is e places =
     let own : source_places (meaning (op_at x.ops.items k)) ≡ 0 ∷ [] = ap source_places e ∙ places in
     elim (leb_tells (length x.ops.items) k) [

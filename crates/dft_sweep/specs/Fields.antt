@@ -1,5 +1,5 @@
 -- What the nets of a design are settled from, where one of them may be stuck.
-use Rattle.std.specs.Prelude.{ℕ, Bool, ◌≡◌, ◌==◌, List, Option, None, Some, if◌then◌else◌}
+use Rattle.std.specs.Prelude.{ℕ, Bool, true, ◌≡◌, ◌==◌, List, Option, None, Some, slice_index_or, if◌then◌else◌}
 use Rattle.dft_base.specs.declared.tri.Tri.{Tri}
 use Rattle.dft_base.specs.declared.tri.Tri.TheVariants.{Zero, One, Unknown}
 use Rattle.dft_netlist.specs.Drivers.{Tied}
@@ -41,5 +41,13 @@ meaning_at f net = with_bit (bit_at f.stuck net) (meaning (op_at f.circuit.now.o
 abbrev pub IsGivenBy : (means : ℕ → Meaning) → TriSources → (values : List Tri) → (net : ℕ) → Type 0
 IsGivenBy means sources values k = value_at values k ≡ value_given sources (value_at values) k (means k)
 
+-- whether a net is needed: so is one that is not told of
+abbrev pub is_needed : (needed : List Bool) → (net : ℕ) → Bool
+is_needed needed net = slice_index_or needed net true
+
+-- a net has that value if it is needed
+abbrev pub IsGivenIf : (needed : List Bool) → (means : ℕ → Meaning) → TriSources → (values : List Tri) → (net : ℕ) → Type 0
+IsGivenIf needed means sources values k = is_needed needed k ≡ true → IsGivenBy means sources values k
+
 abbrev pub IsGiven : Field → (values : List Tri) → (net : ℕ) → Type 0
-IsGiven f values k = IsGivenBy (meaning_at f) (sources_of f.sources) values k
+IsGiven f values k = IsGivenIf f.needed.now (meaning_at f) (sources_of f.sources) values k

@@ -19,10 +19,13 @@ pub struct Sources<'a> {
     pub holds: &'a [bool],
 }
 
-/// A design's circuit, the net that is stuck, if one is, and what nets are settled from.
+/// A design's circuit, the places of its nets in its order, which nets are needed, by net, the net that is stuck, if one is, and what
+/// nets are settled from. A net of which it is not told whether it is needed is.
 #[derive(Clone, Copy)]
 pub struct Field<'a> {
     pub circuit: &'a Circuit,
+    pub places: &'a [u32],
+    pub needed: &'a [bool],
     pub stuck: Option<Stuck>,
     pub sources: Sources<'a>,
 }

@@ -3,7 +3,9 @@
 
 mod field;
 mod gates;
+mod marks;
 mod sweeping;
 
 pub use field::{Field, Sources, Stuck};
-pub use sweeping::settle;
+pub use marks::{Marks, places};
+pub use sweeping::{mark_all, settle};

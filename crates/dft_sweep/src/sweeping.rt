@@ -1,16 +1,18 @@
 //! From the settled values of some sources to those of others: what differs is marked and evaluated.
 
-ghost use Rattle.std.specs.Prelude.{◌≡◌, ◌⊎◌, ℕ, ◌<◌, length, true, false};
+ghost use Rattle.std.specs.Prelude.{◌≡◌, ◌⊎◌, ℕ, ◌<◌, ◌≤◌, ◌+◌, ◌*◌, length, true, false};
 ghost use Rattle.dft_netlist.specs.Logic.{reads};
 ghost use Rattle.dft_netlist.specs.Orders.{Has};
 ghost use Rattle.dft_netlist.specs.Settled.{value_given};
 ghost use Rattle.dft_logic.specs.Circuit.{meaning, op_at, IsCircuit, flag_at as is_up};
-ghost use Rattle.dft_logic.specs.Tables.{list_at};
 ghost use Rattle.dft_logic.specs.Values as spec;
-ghost use Rattle.dft_sweep.specs.Fields.{IsGiven, bit_at, meaning_at, sources_of};
+ghost use Rattle.dft_sweep.specs.Chunks.{AreBusy, ArePlaces};
+ghost use Rattle.dft_sweep.specs.Fields.{IsGiven, bit_at, is_needed as are_needed, meaning_at, sources_of};
+ghost use Rattle.dft_sweep.specs.Sweepings.{AreSwept};
 
 use crate::field::{Field, Stuck};
 use crate::gates::op_value;
+use crate::marks::{CHUNK, GROUP, Marks, is_busy, is_needed, rest};
 use dft_base::Tri;
 use dft_logic::{differ, list_of};
 use dft_netlist::NetId;
@@ -42,94 +44,206 @@ fn value_of(field: &Field<'_>, net: NetId, values: &[Tri]) -> Tri
     }
 }
 
-// Marks these nets.
-fn mark_all(nets: &[u32], marked: &mut [bool])
-    requires { (k : ℕ) → Has nets.now k → k < length marked.old }
-    ensures lowered { (k : ℕ) → is_up marked.new k ≡ false → (is_up marked.old k ≡ false) × (Has nets.now k → ⊥) }
-    ensures raised { (k : ℕ) → is_up marked.new k ≡ true → (is_up marked.old k ≡ true) ⊎ Has nets.now k }
+/// Marks those of these nets that are needed, by the places of nets.
+pub fn mark_all(places: &[u32], needed: &[bool], nets: &[u32], marks: &mut Marks)
+    requires live { (k : ℕ) → Has nets.now k → k < length marks.old.marked.items }
+    ensures size { length marks.new.marked.items ≡ length marks.old.marked.items }
+    ensures lowered { (k : ℕ) → is_up marks.new.marked.items k ≡ false → is_up marks.old.marked.items k ≡ false }
+    ensures marked { (k : ℕ) → are_needed needed.now k ≡ true → is_up marks.new.marked.items k ≡ false → Has nets.now k → ⊥ }
+    ensures raised { (k : ℕ) → is_up marks.new.marked.items k ≡ true → (is_up marks.old.marked.items k ≡ true) ⊎ Has nets.now k }
+    ensures busy { AreBusy places.now marks.old → AreBusy places.now marks.new }
 {
     for net in nets {
-        marked[*net as usize] = true;
+        marks.mark(places, needed, NetId(*net));
     }
 }
 
-// Gives a net its value, and marks its readers where that is new. Whether it is.
-fn renew(field: &Field<'_>, net: NetId, values: &mut [Tri], marked: &mut [bool]) -> bool
+// Gives a net its value, and marks its needed readers where that is new. Whether it is.
+fn renew(field: &Field<'_>, net: NetId, values: &mut [Tri], marks: &mut Marks) -> bool
     requires circuit { IsCircuit field.now.circuit.now }
     requires live { net.0 < length field.now.circuit.now.ops.items }
     requires values { length values.old ≡ length field.now.circuit.now.ops.items }
-    requires marked { length marked.old ≡ length field.now.circuit.now.ops.items }
-    ensures given { (k : ℕ) → is_up marked.new k ≡ false → (k ≡ net.0) ⊎ IsGiven field.now values.old k → IsGiven field.now values.new k }
-    ensures lowered { (k : ℕ) → is_up marked.new k ≡ false → is_up marked.old k ≡ false }
-    ensures raised { (k : ℕ) → is_up marked.new k ≡ true → (is_up marked.old k ≡ true) ⊎ Has (reads (meaning (op_at field.now.circuit.now.ops.items k))) net.0 }
-    ensures none { result ≡ false → (k : ℕ) → is_up marked.old k ≡ false → is_up marked.new k ≡ false }
+    requires marked { length marks.old.marked.items ≡ length field.now.circuit.now.ops.items }
+    ensures size { length marks.new.marked.items ≡ length marks.old.marked.items }
+    ensures given { (k : ℕ) → is_up marks.new.marked.items k ≡ false → (k ≡ net.0) ⊎ IsGiven field.now values.old k → IsGiven field.now values.new k }
+    ensures lowered { (k : ℕ) → is_up marks.new.marked.items k ≡ false → is_up marks.old.marked.items k ≡ false }
+    ensures raised { (k : ℕ) → is_up marks.new.marked.items k ≡ true → (is_up marks.old.marked.items k ≡ true) ⊎ Has (reads (meaning (op_at field.now.circuit.now.ops.items k))) net.0 }
+    ensures none { result ≡ false → (k : ℕ) → is_up marks.old.marked.items k ≡ false → is_up marks.new.marked.items k ≡ false }
+    ensures busy { AreBusy field.now.places.now marks.old → AreBusy field.now.places.now marks.new }
 {
     let value = value_of(field, net, values);
     if !differ(value, values[net.0 as usize]) {
         return false;
     }
     values[net.0 as usize] = value;
-    mark_all(list_of(&field.circuit.readers, net), marked);
+    let readers = list_of(&field.circuit.readers, net);
+    mark_all(field.places, field.needed, readers, marks);
     true
 }
 
-// Gives each of these nets its value, and marks the readers of those that change.
-fn refresh(field: &Field<'_>, nets: &[u32], values: &mut [Tri], marked: &mut [bool])
+// Gives a net its value, if it is needed, and marks its needed readers where that is new.
+fn refresh_one(field: &Field<'_>, net: NetId, values: &mut [Tri], marks: &mut Marks)
+    requires circuit { IsCircuit field.now.circuit.now }
+    requires live { net.0 < length field.now.circuit.now.ops.items }
+    requires values { length values.old ≡ length field.now.circuit.now.ops.items }
+    requires marked { length marks.old.marked.items ≡ length field.now.circuit.now.ops.items }
+    ensures size { length marks.new.marked.items ≡ length marks.old.marked.items }
+    ensures given { (k : ℕ) → is_up marks.new.marked.items k ≡ false → (k ≡ net.0) ⊎ IsGiven field.now values.old k → IsGiven field.now values.new k }
+    ensures lowered { (k : ℕ) → is_up marks.new.marked.items k ≡ false → is_up marks.old.marked.items k ≡ false }
+    ensures busy { AreBusy field.now.places.now marks.old → AreBusy field.now.places.now marks.new }
+{
+    if is_needed(field.needed, net) {
+        let _ = renew(field, net, values, marks);
+    }
+}
+
+// Gives each of these nets its value, if it is needed, and marks the needed readers of those that change.
+fn refresh(field: &Field<'_>, nets: &[u32], values: &mut [Tri], marks: &mut Marks)
     requires circuit { IsCircuit field.now.circuit.now }
     requires live { (k : ℕ) → Has nets.now k → k < length field.now.circuit.now.ops.items }
     requires values { length values.old ≡ length field.now.circuit.now.ops.items }
-    requires marked { length marked.old ≡ length field.now.circuit.now.ops.items }
-    ensures { ((k : ℕ) → is_up marked.old k ≡ false → Has nets.now k ⊎ IsGiven field.now values.old k) → (k : ℕ) → is_up marked.new k ≡ false → IsGiven field.now values.new k }
+    requires marked { length marks.old.marked.items ≡ length field.now.circuit.now.ops.items }
+    ensures size { length marks.new.marked.items ≡ length marks.old.marked.items }
+    ensures given { ((k : ℕ) → is_up marks.old.marked.items k ≡ false → Has nets.now k ⊎ IsGiven field.now values.old k) → (k : ℕ) → is_up marks.new.marked.items k ≡ false → IsGiven field.now values.new k }
+    ensures busy { AreBusy field.now.places.now marks.old → AreBusy field.now.places.now marks.new }
 {
     for net in nets {
-        let _ = renew(field, NetId(*net), values, marked);
+        refresh_one(field, NetId(*net), values, marks);
     }
 }
 
 // Evaluates a net if it is marked, and takes its mark away.
-fn settle_marked(field: &Field<'_>, net: NetId, values: &mut [Tri], marked: &mut [bool])
+fn settle_marked(field: &Field<'_>, net: NetId, values: &mut [Tri], marks: &mut Marks)
     requires circuit { IsCircuit field.now.circuit.now }
     requires live { net.0 < length field.now.circuit.now.ops.items }
     requires values { length values.old ≡ length field.now.circuit.now.ops.items }
-    requires marked { length marked.old ≡ length field.now.circuit.now.ops.items }
-    requires given { (k : ℕ) → is_up marked.old k ≡ false → IsGiven field.now values.old k }
-    ensures given { (k : ℕ) → is_up marked.new k ≡ false → IsGiven field.now values.new k }
-    ensures raised { (k : ℕ) → is_up marked.new k ≡ true → ((is_up marked.old k ≡ true) × (k ≡ net.0 → ⊥)) ⊎ Has (reads (meaning (op_at field.now.circuit.now.ops.items k))) net.0 }
+    requires marked { length marks.old.marked.items ≡ length field.now.circuit.now.ops.items }
+    requires given { (k : ℕ) → is_up marks.old.marked.items k ≡ false → IsGiven field.now values.old k }
+    ensures size { length marks.new.marked.items ≡ length marks.old.marked.items }
+    ensures given { (k : ℕ) → is_up marks.new.marked.items k ≡ false → IsGiven field.now values.new k }
+    ensures raised { (k : ℕ) → is_up marks.new.marked.items k ≡ true → ((is_up marks.old.marked.items k ≡ true) × (k ≡ net.0 → ⊥)) ⊎ Has (reads (meaning (op_at field.now.circuit.now.ops.items k))) net.0 }
+    ensures busy { AreBusy field.now.places.now marks.old → AreBusy field.now.places.now marks.new }
 {
-    if marked[net.0 as usize] {
-        marked[net.0 as usize] = false;
-        let _ = renew(field, net, values, marked);
+    if marks.marked[net.0 as usize] {
+        marks.marked[net.0 as usize] = false;
+        let _ = renew(field, net, values, marks);
     }
 }
 
-// Evaluates the marked nets, in the circuit's order, and the readers of those that change.
-fn sweep(field: &Field<'_>, values: &mut [Tri], marked: &mut [bool])
+// Evaluates the marked nets of a chunk of the circuit's order, from its first place to its last one.
+fn sweep_places(field: &Field<'_>, first: usize, end: usize, values: &mut [Tri], marks: &mut Marks)
     requires circuit { IsCircuit field.now.circuit.now }
     requires values { length values.old ≡ length field.now.circuit.now.ops.items }
-    requires marked { length marked.old ≡ length field.now.circuit.now.ops.items }
-    requires given { (k : ℕ) → is_up marked.old k ≡ false → IsGiven field.now values.old k }
-    ensures given { (k : ℕ) → IsGiven field.now values.new k }
-    ensures clear { (k : ℕ) → is_up marked.new k ≡ false }
+    requires marked { length marks.old.marked.items ≡ length field.now.circuit.now.ops.items }
+    requires end { end ≤ length field.now.circuit.now.order.items }
+    requires order { first ≤ end }
+    requires swept { AreSwept field.now values.old marks.old first }
+    ensures size { length marks.new.marked.items ≡ length marks.old.marked.items }
+    ensures swept { AreSwept field.now values.new marks.new end }
+    ensures busy { AreBusy field.now.places.now marks.old → AreBusy field.now.places.now marks.new }
 {
-    for net in &field.circuit.order {
-        settle_marked(field, *net, values, marked);
+    for place in first..end {
+        settle_marked(field, field.circuit.order[place], values, marks);
     }
 }
 
-/// Settles all nets, where each that is not marked has its value or is a source.
-pub fn settle(field: &Field<'_>, values: &mut [Tri], marked: &mut [bool])
+// Evaluates the marked nets of a chunk of the circuit's order, if it has any.
+fn sweep_chunk(field: &Field<'_>, chunk: usize, values: &mut [Tri], marks: &mut Marks)
     requires circuit { IsCircuit field.now.circuit.now }
+    requires places { ArePlaces field.now.circuit.now field.now.places.now }
     requires values { length values.old ≡ length field.now.circuit.now.ops.items }
-    requires marked { length marked.old ≡ length field.now.circuit.now.ops.items }
-    requires near { (k : ℕ) → is_up marked.old k ≡ false → Has (list_at field.now.circuit.now.sources 0) k ⊎ IsGiven field.now values.old k }
-    ensures given { (k : ℕ) → IsGiven field.now values.new k }
-    ensures clear { (k : ℕ) → is_up marked.new k ≡ false }
+    requires marked { length marks.old.marked.items ≡ length field.now.circuit.now.ops.items }
+    requires chunk { chunk * 16 ≤ length field.now.circuit.now.order.items }
+    requires busy { AreBusy field.now.places.now marks.old }
+    requires swept { AreSwept field.now values.old marks.old (chunk * 16) }
+    ensures size { length marks.new.marked.items ≡ length marks.old.marked.items }
+    ensures swept { AreSwept field.now values.new marks.new (chunk * 16 + 16) }
+    ensures busy { AreBusy field.now.places.now marks.new }
 {
-    refresh(
-        field,
-        list_of(&field.circuit.sources, NetId(0)),
-        values,
-        marked,
-    );
-    sweep(field, values, marked);
+    if is_busy(&marks.busy, chunk) {
+        let first = chunk * CHUNK;
+        let end = field.circuit.order.len().min(first + CHUNK);
+        sweep_places(field, first, end, values, marks);
+    }
+}
+
+// Evaluates the marked nets of chunks of the circuit's order, from the first chunk to the last one.
+fn sweep_chunks(field: &Field<'_>, first: usize, end: usize, values: &mut [Tri], marks: &mut Marks)
+    requires circuit { IsCircuit field.now.circuit.now }
+    requires places { ArePlaces field.now.circuit.now field.now.places.now }
+    requires values { length values.old ≡ length field.now.circuit.now.ops.items }
+    requires marked { length marks.old.marked.items ≡ length field.now.circuit.now.ops.items }
+    requires end { end * 16 ≤ length field.now.circuit.now.order.items + 16 }
+    requires order { first ≤ end }
+    requires busy { AreBusy field.now.places.now marks.old }
+    requires swept { AreSwept field.now values.old marks.old (first * 16) }
+    ensures size { length marks.new.marked.items ≡ length marks.old.marked.items }
+    ensures swept { AreSwept field.now values.new marks.new (end * 16) }
+    ensures busy { AreBusy field.now.places.now marks.new }
+{
+    for chunk in first..end {
+        sweep_chunk(field, chunk, values, marks);
+    }
+}
+
+// Evaluates the marked nets of a group of chunks of the circuit's order, if it has any.
+fn sweep_group(field: &Field<'_>, group: usize, values: &mut [Tri], marks: &mut Marks)
+    requires circuit { IsCircuit field.now.circuit.now }
+    requires places { ArePlaces field.now.circuit.now field.now.places.now }
+    requires values { length values.old ≡ length field.now.circuit.now.ops.items }
+    requires marked { length marks.old.marked.items ≡ length field.now.circuit.now.ops.items }
+    requires group { group * 256 ≤ length field.now.circuit.now.order.items }
+    requires busy { AreBusy field.now.places.now marks.old }
+    requires swept { AreSwept field.now values.old marks.old (group * 256) }
+    ensures size { length marks.new.marked.items ≡ length marks.old.marked.items }
+    ensures swept { AreSwept field.now values.new marks.new (group * 256 + 256) }
+    ensures busy { AreBusy field.now.places.now marks.new }
+{
+    if is_busy(&marks.groups, group) {
+        let first = group * (GROUP / CHUNK);
+        let count = field.circuit.order.len() / CHUNK + 1;
+        sweep_chunks(
+            field,
+            first,
+            count.min(first + GROUP / CHUNK),
+            values,
+            marks,
+        );
+    }
+}
+
+// Evaluates the marked nets, in the circuit's order, and the needed readers of those that change.
+fn sweep(field: &Field<'_>, values: &mut [Tri], marks: &mut Marks)
+    requires circuit { IsCircuit field.now.circuit.now }
+    requires places { ArePlaces field.now.circuit.now field.now.places.now }
+    requires values { length values.old ≡ length field.now.circuit.now.ops.items }
+    requires marked { length marks.old.marked.items ≡ length field.now.circuit.now.ops.items }
+    requires busy { AreBusy field.now.places.now marks.old }
+    requires given { (k : ℕ) → is_up marks.old.marked.items k ≡ false → IsGiven field.now values.old k }
+    ensures size { length marks.new.marked.items ≡ length marks.old.marked.items }
+    ensures given { (k : ℕ) → IsGiven field.now values.new k }
+    ensures clear { (k : ℕ) → is_up marks.new.marked.items k ≡ false }
+{
+    for group in 0..field.circuit.order.len() / GROUP + 1 {
+        sweep_group(field, group, values, marks);
+    }
+}
+
+/// Settles the needed nets, where each of them that is not marked has its value or is one of these.
+pub fn settle(field: &Field<'_>, nets: &[u32], values: &mut [Tri], marks: &mut Marks)
+    requires circuit { IsCircuit field.now.circuit.now }
+    requires places { ArePlaces field.now.circuit.now field.now.places.now }
+    requires live { (k : ℕ) → Has nets.now k → k < length field.now.circuit.now.ops.items }
+    requires values { length values.old ≡ length field.now.circuit.now.ops.items }
+    requires marked { length marks.old.marked.items ≡ length field.now.circuit.now.ops.items }
+    requires busy { AreBusy field.now.places.now marks.old }
+    requires near { (k : ℕ) → is_up marks.old.marked.items k ≡ false → Has nets.now k ⊎ IsGiven field.now values.old k }
+    ensures size { length marks.new.marked.items ≡ length marks.old.marked.items }
+    ensures given { (k : ℕ) → IsGiven field.now values.new k }
+    ensures clear { (k : ℕ) → is_up marks.new.marked.items k ≡ false }
+{
+    refresh(field, nets, values, marks);
+    sweep(field, values, marks);
+    rest(&mut marks.busy);
+    rest(&mut marks.groups);
 }

@@ -4,10 +4,10 @@ use Rattle.dft_files.specs.Outside.{Held, Told, file_at}
 use Rattle.dft_answers.specs.declared.answer.Refusal.{Refusal}
 use Rattle.dft_answers.specs.declared.outcome.Outcome.{Outcome}
 use Rattle.dft_answers.specs.declared.outcome.Outcome.TheVariants as outcome
-use Rattle.dft_io.specs.declared.stop.Stop.{Stop}
-use Rattle.dft_io.specs.declared.stop.Stop.TheVariants.{Refused, ReadFault, OutOfMemory}
-use Rattle.dft_io.specs.Texts.{FileGives}
-use Rattle.dft_io.specs.Steps.{IsGiven, IsGivenTold, LoadFails, SeenFiles, Takes}
+use Rattle.dft_answers.specs.declared.stop.Stop.{Stop}
+use Rattle.dft_answers.specs.declared.stop.Stop.TheVariants.{Refused, ReadFault, OutOfMemory}
+use Rattle.dft_answers.specs.Texts.{FileGives}
+use Rattle.dft_answers.specs.Steps.{IsGiven, IsGivenTold, LoadFails, SeenFiles, Takes}
 use Rattle.dft_cells.specs.declared.cell.Cell.{Cell}
 use Rattle.dft_cells.specs.Standard.{standard_cells}
 use Rattle.dft_top.specs.Checks.{LibraryGives}

@@ -30,8 +30,8 @@ use Rattle.dft_answers.specs.declared.outcome.Outcome.TheVariants as outcome
 use Rattle.dft_answers.specs.declared.outcome.Work.TheVariants as work
 use Rattle.dft_answers.specs.Answers.{status_of}
 use Rattle.dft_answers.specs.Refusals.{report_refusal}
-use Rattle.dft_io.specs.declared.stop.Stop.{Stop}
-use Rattle.dft_io.specs.declared.stop.Stop.TheVariants.{Refused, ReadFault, OutOfMemory}
+use Rattle.dft_answers.specs.declared.stop.Stop.{Stop}
+use Rattle.dft_answers.specs.declared.stop.Stop.TheVariants.{Refused, ReadFault, OutOfMemory}
 use Rattle.dft_top.specs.Checks.{LibraryGives, NetlistGives, PatternsGive}
 use Rattle.dft_top.specs.Courses.{Reaches}
 use Rattle.dft_top.specs.Follows.{ComesTo}

@@ -24,9 +24,9 @@ use Rattle.dft_stitch.specs.Chains.{plan_of}
 use Rattle.dft_rules.specs.declared.error.RuleError.{RuleError}
 use Rattle.dft_scan_frame.specs.declared.error.InsertError.{InsertError}
 use Rattle.dft_scan_frame.specs.Statements.{IsReady}
-use Rattle.dft_scan_hardware.specs.declared.style.Style.TheVariants.{Edt}
-use Rattle.dft_scan_hardware.specs.Statements.{scanned}
-use Rattle.dft_scan_hardware.proofs.Keeping.{keeps_design}
+use Rattle.dft_insert.specs.declared.style.Style.TheVariants.{Edt}
+use Rattle.dft_insert.specs.Statements.{scanned}
+use Rattle.dft_insert.proofs.Keeping.{keeps_design}
 use Rattle.dft_stil_tokens.specs.declared.blanks.TheConstants.{MAX_TEXT}
 use Rattle.dft_stil_text.specs.declared.error.StilError.{StilError}
 use Rattle.dft_stil_text.specs.PatternText as pattern
@@ -78,7 +78,7 @@ use Rattle.dft_answers.specs.declared.outcome.Outcome.{Outcome}
 use Rattle.dft_answers.specs.declared.outcome.Outcome.TheVariants.{Finished, Refused}
 use Rattle.dft_answers.specs.declared.outcome.Work.TheVariants.{Compiled}
 use Rattle.dft_answers.specs.Refusals.{measured}
-use Rattle.dft_io.specs.Texts.{FileGives}
+use Rattle.dft_answers.specs.Texts.{FileGives}
 use Rattle.dft_top.specs.declared.limits.TheConstants.{MAX_CONFIG_BYTES, MAX_CUBE_BYTES, MAX_NETLIST_BYTES, MAX_PATTERN_BYTES}
 use Rattle.dft_top.specs.Checks.{ConfigGives, ConfigText, CubeText, CubesGive, DesignGives, IsReadied, LibraryGives, NetlistGives, NetlistText, PatternText, PatternsGive}
 use Rattle.dft_top.specs.Courses.{Reaches, Then}

@@ -6,8 +6,8 @@ use Rattle.dft_command_line.specs.Words.{JobNumbers}
 use Rattle.dft_answers.specs.declared.outcome.Outcome.{Outcome}
 use Rattle.dft_answers.specs.declared.outcome.Outcome.TheVariants as outcome
 use Rattle.dft_answers.specs.declared.outcome.Work.TheVariants.{Compiled}
-use Rattle.dft_io.specs.declared.stop.Stop.{Stop}
-use Rattle.dft_io.specs.declared.stop.Stop.TheVariants.{Refused, ReadFault, OutOfMemory}
+use Rattle.dft_answers.specs.declared.stop.Stop.{Stop}
+use Rattle.dft_answers.specs.declared.stop.Stop.TheVariants.{Refused, ReadFault, OutOfMemory}
 use Rattle.dft_top.specs.Courses.{Reaches}
 use Rattle.dft_top.specs.Follows.{ComesTo, Follows, still}
 use Rattle.dft_top.specs.Outcomes.{IsOutcomeOfJob, IsReplayedOf, course_of_compile, course_of_replay, generated, job_files, job_held, made_files, made_held, texts_held}

@@ -5,9 +5,9 @@ use Rattle.dft_cells.specs.Standard.{standard_cells}
 use Rattle.dft_hier.specs.Laws.{Gives}
 use Rattle.dft_stil_text.specs.PatternText as pattern
 use Rattle.dft_compile_laws.specs.Passing.{set_of}
-use Rattle.dft_scan_hardware.specs.declared.style.Style.TheVariants.{Edt}
-use Rattle.dft_scan_hardware.specs.Statements.{scanned}
-use Rattle.dft_scan_hardware.proofs.Keeping.{keeps_design}
+use Rattle.dft_insert.specs.declared.style.Style.TheVariants.{Edt}
+use Rattle.dft_insert.specs.Statements.{scanned}
+use Rattle.dft_insert.proofs.Keeping.{keeps_design}
 use Rattle.dft_compile_laws.specs.Holding.{CompilationsHold, without_notes}
 use Rattle.dft_compile.specs.declared.texts.Counts.{Counts}
 use Rattle.dft_compile.specs.Texts.{netlist_text, pattern_text}

@@ -15,7 +15,7 @@ use Rattle.dft_answers.specs.declared.answer.Refusal.{Refusal}
 use Rattle.dft_answers.specs.declared.outcome.Outcome.{Outcome}
 use Rattle.dft_answers.specs.declared.outcome.Outcome.TheVariants.{Refused}
 use Rattle.dft_answers.specs.Refusals.{placed, stil_refusal}
-use Rattle.dft_io.specs.Texts.{FileGives}
+use Rattle.dft_answers.specs.Texts.{FileGives}
 use Rattle.dft_top.specs.declared.limits.TheConstants.{MAX_PATTERN_BYTES}
 use Rattle.dft_top.specs.Checks.{ArePatternsOf, PatternText}
 use Rattle.dft_top.specs.Courses.{Then}

@@ -6,7 +6,7 @@ use Rattle.dft_cells.specs.declared.cell.Cell.{Cell}
 use Rattle.dft_config.specs.Config.{Config}
 use Rattle.dft_config.specs.Range.{IsInRange}
 use Rattle.dft_config.specs.Refusals.{IsConfig}
-use Rattle.dft_io.specs.Texts.{FileGives}
+use Rattle.dft_answers.specs.Texts.{FileGives}
 use Rattle.dft_netlist.specs.Netlist.{Netlist}
 use Rattle.dft_netlist.specs.Drivers.{IsOrdered}
 use Rattle.dft_netlist.specs.Orders.{IsOrder}
@@ -29,11 +29,11 @@ use Rattle.dft_grade.proofs.AllOfThem.{AreFaults, all_fail, listed_are}
 use Rattle.dft_grade_report.specs.Written.{report_text as fault_report}
 use Rattle.dft_scan_behavior.proofs.PlainShifts.{scanned_shifts, scanned_shows}
 use Rattle.dft_scan_behavior.proofs.Reaching.{loads_reach, unloads_show}
-use Rattle.dft_scan_hardware.proofs.Keeping.{adds_in_order, keeps_design}
-use Rattle.dft_scan_hardware.specs.declared.style.Style.TheVariants.{Plain, Edt}
-use Rattle.dft_scan_hardware.specs.Statements.{scanned}
+use Rattle.dft_insert.proofs.Keeping.{adds_in_order, keeps_design}
+use Rattle.dft_insert.specs.declared.style.Style.TheVariants.{Plain, Edt}
+use Rattle.dft_insert.specs.Statements.{scanned}
 use Rattle.dft_scan_frame.specs.Statements.{IsReady}
-use Rattle.dft_scan_equivalence.proofs.Agreed.{agrees_off}
+use Rattle.dft_insert.proofs.Agreed.{agrees_off}
 use Rattle.dft_scan.specs.declared.error.ScanError.{ScanError}
 use Rattle.dft_scan.specs.Refusals.{refusal}
 use Rattle.dft_scan.specs.Scans.{netlist_text, report_text}

@@ -52,7 +52,7 @@ use Rattle.dft_answers.specs.declared.outcome.Outcome.{Outcome}
 use Rattle.dft_answers.specs.declared.outcome.Outcome.TheVariants.{Refused}
 use Rattle.dft_top.specs.declared.limits.TheConstants.{MAX_LIBRARY_BYTES}
 use Rattle.dft_answers.specs.Refusals.{compile_refusal, config_refusal, cube_refusal, design_refusal, library_refusal, read_refusal, stil_refusal}
-use Rattle.dft_io.specs.Texts.{FileGives}
+use Rattle.dft_answers.specs.Texts.{FileGives}
 use Rattle.dft_top.specs.Checks.{ArePatternsOf, ConfigText, CubeText, DesignGives, IsPlanned, LibraryGives, LibraryText, NetlistText, PatternText, PlanGives, ReportText, plan_refusal}
 use Rattle.dft_top.specs.Courses.{Then}
 

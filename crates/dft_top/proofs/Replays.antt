@@ -21,7 +21,7 @@ use Rattle.dft_answers.specs.declared.outcome.Outcome.TheVariants.{Finished, Ref
 use Rattle.dft_answers.specs.declared.outcome.Replayed.TheVariants.{Passed}
 use Rattle.dft_answers.specs.declared.outcome.Work.TheVariants.{Replayed}
 use Rattle.dft_top.specs.declared.limits.TheConstants.{MAX_NETLIST_BYTES, MAX_PATTERN_BYTES}
-use Rattle.dft_io.specs.Texts.{FileGives}
+use Rattle.dft_answers.specs.Texts.{FileGives}
 use Rattle.dft_top.specs.Checks.{ArePatternsOf, IsDesignOf, LibraryGives, NetlistGives, NetlistText, PatternText, PatternsGive}
 use Rattle.dft_top.specs.Courses.{After, Reaches, Then}
 use Rattle.dft_top.specs.Outcomes.{IsOutcomeOn, course_of_replay, outcome_of}

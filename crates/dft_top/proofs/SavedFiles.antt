@@ -8,8 +8,8 @@ use Rattle.dft_netlist.proofs.RankLemmas.{order_ranks}
 use Rattle.dft_patterns.specs.Patterns.{Patterns}
 use Rattle.dft_stil_text.specs.declared.limits.TheConstants.{MAX_VECTORS}
 use Rattle.dft_stitch.specs.Chains.{plan_of}
-use Rattle.dft_scan_hardware.specs.declared.style.Style.TheVariants.{Edt}
-use Rattle.dft_scan_hardware.specs.Statements.{scanned}
+use Rattle.dft_insert.specs.declared.style.Style.TheVariants.{Edt}
+use Rattle.dft_insert.specs.Statements.{scanned}
 use Rattle.dft_load_laws.specs.Loading.{rows_of}
 use Rattle.dft_report.specs.declared.report.Report.{Report}
 use Rattle.dft_certify.specs.declared.error.CertifyError.{CertifyError}
@@ -17,7 +17,7 @@ use Rattle.dft_certify.specs.Certifying.{unsolvable_in}
 use Rattle.dft_certify_laws.proofs.Compiling.{compiled_certifies}
 use Rattle.dft_rules.specs.Refusals as rules
 use Rattle.dft_stitch.specs.Limits as stitch
-use Rattle.dft_scan_hardware.specs.Refusals as insert
+use Rattle.dft_insert.specs.Refusals as insert
 use Rattle.dft_compile.specs.declared.error.CompileError.TheVariants.{Insert, Rules, Stitch}
 use Rattle.dft_compile.specs.Reports.{compile_report}
 use Rattle.dft_compile.specs.Texts as compiled
@@ -30,7 +30,7 @@ use Rattle.dft_answers.specs.declared.outcome.Outcome.TheVariants.{Finished}
 use Rattle.dft_answers.specs.declared.outcome.Replayed.TheVariants.{Passed}
 use Rattle.dft_answers.specs.declared.outcome.Work.TheVariants.{Certified, Replayed}
 use Rattle.dft_top.specs.declared.limits.TheConstants.{MAX_NETLIST_BYTES, MAX_PATTERN_BYTES, MAX_REPORT_BYTES}
-use Rattle.dft_io.specs.Texts.{FileGives}
+use Rattle.dft_answers.specs.Texts.{FileGives}
 use Rattle.dft_top.specs.Checks.{ConfigGives, CubesGive, LibraryGives, NetlistGives, NetlistText, PatternText, PatternsGive, ReportGives, ReportText, plan_refusal}
 use Rattle.dft_top.specs.Courses.{Reaches}
 use Rattle.dft_top.specs.Outcomes.{IsOutcomeFor, IsOutcomeOfTest, IsOutcomeOn, course_of_certify, course_of_replay}

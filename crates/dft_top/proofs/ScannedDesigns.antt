@@ -8,8 +8,8 @@ use Rattle.dft_netlist.specs.Netlist.{Netlist}
 use Rattle.dft_netlist_text.specs.NetlistText.{StandsFor}
 use Rattle.dft_hier.specs.Laws.{Gives}
 use Rattle.dft_hier.proofs.OneModule.{given_are_over, one_module_gives}
-use Rattle.dft_scan_hardware.specs.declared.style.Style.{Style}
-use Rattle.dft_scan_hardware.specs.Statements.{IsKept, scanned}
+use Rattle.dft_insert.specs.declared.style.Style.{Style}
+use Rattle.dft_insert.specs.Statements.{IsKept, scanned}
 use Rattle.dft_top.specs.Checks.{NetlistGives}
 use Rattle.dft_top.proofs.Promised.{design_of}
 

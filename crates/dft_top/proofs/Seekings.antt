@@ -17,9 +17,9 @@ use Rattle.dft_answers.specs.declared.outcome.Outcome.{Outcome}
 use Rattle.dft_answers.specs.declared.outcome.Outcome.TheVariants.{Finished, Refused}
 use Rattle.dft_answers.specs.declared.outcome.Work.TheVariants as work
 use Rattle.dft_answers.specs.Refusals.{seek_refusal}
-use Rattle.dft_io.specs.declared.stop.Stop.{Stop}
-use Rattle.dft_io.specs.declared.stop.Stop.TheVariants as stop
-use Rattle.dft_io.specs.Steps.{IsGiven, SeenFiles}
+use Rattle.dft_answers.specs.declared.stop.Stop.{Stop}
+use Rattle.dft_answers.specs.declared.stop.Stop.TheVariants as stop
+use Rattle.dft_answers.specs.Steps.{IsGiven, SeenFiles}
 use Rattle.dft_cubes.specs.Cubes.{domain_named}
 use Rattle.dft_stitch.specs.Chains.{plan_of}
 use Rattle.dft_top.specs.Checks.{PlanGives}

@@ -3,9 +3,9 @@ use Rattle.std.specs.Prelude.{◌≡◌, [], Some, Result, Ok, Err}
 use Rattle.dft_files.specs.Outside.{Held, Told, Rose}
 use Rattle.dft_answers.specs.declared.outcome.Outcome.{Outcome}
 use Rattle.dft_answers.specs.declared.outcome.Outcome.TheVariants as outcome
-use Rattle.dft_io.specs.declared.stop.Stop.{Stop}
-use Rattle.dft_io.specs.declared.stop.Stop.TheVariants.{Refused, ReadFault, OutOfMemory}
-use Rattle.dft_io.specs.Steps.{SeenFiles, seen_files}
+use Rattle.dft_answers.specs.declared.stop.Stop.{Stop}
+use Rattle.dft_answers.specs.declared.stop.Stop.TheVariants.{Refused, ReadFault, OutOfMemory}
+use Rattle.dft_answers.specs.Steps.{SeenFiles, seen_files}
 use Rattle.dft_top.specs.Courses.{Course, Allows, Loads, Reaches, TurnComes}
 
 -- an outcome, or a refusal, is one that this holds of

@@ -8,3 +8,4 @@ pub mod Run
 pub mod Follows
 pub mod Laws
 pub mod Saved
+pub mod Ends

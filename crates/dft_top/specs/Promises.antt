@@ -23,9 +23,9 @@ use Rattle.dft_grade.specs.AllGrades.{AllFail, AreGrades}
 use Rattle.dft_grade_report.specs.Written.{report_text as fault_report}
 use Rattle.dft_scan_behavior.specs.PlainLaws.{ChainsShift, ChainsShow}
 use Rattle.dft_scan_frame.specs.Statements.{IsReady}
-use Rattle.dft_scan_hardware.specs.declared.style.Style.TheVariants.{Plain, Edt}
-use Rattle.dft_scan_hardware.specs.Statements.{IsAdded, IsKept, scanned}
-use Rattle.dft_scan_equivalence.specs.Agreeing.{IsSameWhileOff}
+use Rattle.dft_insert.specs.declared.style.Style.TheVariants.{Plain, Edt}
+use Rattle.dft_insert.specs.Statements.{IsAdded, IsKept, scanned}
+use Rattle.dft_insert.specs.Agreeing.{IsSameWhileOff}
 use Rattle.dft_scan.specs.Scans.{netlist_text, report_text}
 use Rattle.dft_scan_behavior.specs.EdtVectors.{SuitsEdt}
 use Rattle.dft_scan_behavior.specs.Experiments.{LoadsInRuns, UnloadsInRuns}

@@ -2,7 +2,7 @@
 
 ghost use Rattle.std.specs.Prelude.{map, option_map, string_bytes};
 ghost use Rattle.dft_command_line.specs.Named.{command_of};
-ghost use Rattle.dft_io.specs.Steps.{seen_files};
+ghost use Rattle.dft_answers.specs.Steps.{seen_files};
 ghost use Rattle.dft_top.specs.Follows.{Follows};
 ghost use Rattle.dft_top.specs.Outcomes.{IsSized, course_of};
 ghost use Rattle.dft_top.specs.Run.{Ends, EndsFor, IsDelivered, CertifiesTold, CompilesTold, CompletesTold, ConfiguresTold, FailsTold, GeneratesJob, GradesTold, KeepsFiles, PassesTold, ScansTold, SeeksTold, UngradedTold, seen};
@@ -17,13 +17,12 @@ use crate::replaying::outcome_of_replay;
 use crate::saving::save_outcome;
 use crate::scanning::outcome_of_scan;
 use crate::seeking::outcome_of_seek;
-use dft_answers::{Answer, Outcome, Status, line};
+use dft_answers::{Answer, Outcome, Status, Stop, line, put_line};
 use dft_certify::reports_are_certified;
 use dft_certify_laws::certified_in_runs;
 use dft_command_line::{Command, command};
 use dft_compile_laws::compilations_hold;
 use dft_files::{Files, SaveError, Sink};
-use dft_io::{Stop, put_line};
 use std::alloc::Global;
 
 /// Runs a command. `replay --netlist FILE --patterns FILE` replays the patterns on the netlist. `scan --netlist FILE

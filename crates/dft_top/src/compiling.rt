@@ -5,19 +5,18 @@ ghost use Rattle.dft_compile.specs.Prepared.{IsPrepared};
 ghost use Rattle.dft_verilog_out.specs.Named.{GatesAreJoined};
 ghost use Rattle.dft_command_line.specs.Named.{compile_files_of};
 ghost use Rattle.dft_answers.specs.declared.outcome.Work.TheVariants.{Compiled};
-ghost use Rattle.dft_io.specs.Steps.{IsGiven, seen_files};
+ghost use Rattle.dft_answers.specs.Steps.{IsGiven, seen_files};
 ghost use Rattle.dft_top.specs.Checks.{AreFew, DesignGives};
 ghost use Rattle.dft_top.specs.Outcomes.{course_of_compile, course_of_cubes, course_of_design, IsOutcomeOfCubes};
 ghost use Rattle.dft_top.specs.Follows.{ComesTo, Follows};
 
 use crate::loading::{load_config, load_cubes, load_library, load_netlist};
-use dft_answers::{Outcome, Work, compile_refusal};
+use dft_answers::{Outcome, Stop, Work, compile_refusal};
 use dft_command_line::CompileFiles;
 use dft_compile::{CompileTexts, Prepared, compile, prepare};
 use dft_config::{Config, Listed};
 use dft_cubes::Cube;
 use dft_files::Files;
-use dft_io::Stop;
 use dft_netlist::Design;
 use std::alloc::Global;
 

@@ -3,18 +3,17 @@
 ghost use Rattle.std.specs.Prelude.{◌≡◌, Err};
 ghost use Rattle.dft_command_line.specs.Named.{configure_files_of, hardware_of};
 ghost use Rattle.dft_configuring.specs.Wanted.{IsUpTo, IsWanted};
-ghost use Rattle.dft_io.specs.Steps.{seen_files};
+ghost use Rattle.dft_answers.specs.Steps.{seen_files};
 ghost use Rattle.dft_top.specs.Outcomes as spec;
 ghost use Rattle.dft_top.specs.Outcomes.{IsOutcomeOfConfiguring, course_of_configure};
 ghost use Rattle.dft_top.specs.Follows.{ComesTo, Follows};
 
 use crate::loading::{load_library, load_netlist};
-use dft_answers::{Outcome, Work, configure_refusal};
+use dft_answers::{Outcome, Stop, Work, configure_refusal};
 use dft_base::Listed;
 use dft_command_line::{ConfigureFiles, HardwareNumbers};
 use dft_configuring::{Wanted, configure};
 use dft_files::Files;
-use dft_io::Stop;
 use dft_netlist::Design;
 use std::alloc::Global;
 

@@ -14,13 +14,12 @@ ghost use Rattle.dft_top.specs.Run.{IsOf};
 use crate::compiling::{outcome_of_cubes, prepared};
 use crate::given::{given_config, given_cubes, given_netlist, given_patterns};
 use crate::replaying::outcome_on;
-use dft_answers::{Outcome, Work};
+use dft_answers::{Outcome, Stop, Work};
 use dft_cells::Library;
 use dft_command_line::JobNumbers;
 use dft_compile::{Counts, Prepared};
 use dft_config::Config;
 use dft_generate::generate;
-use dft_io::Stop;
 use dft_netlist::Design;
 use std::alloc::Global;
 

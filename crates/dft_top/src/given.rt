@@ -3,17 +3,17 @@
 ghost use Rattle.std.specs.Prelude.{IfOk, Some, codes};
 ghost use Rattle.dft_patterns.specs.Patterns.{IsWellFormed};
 ghost use Rattle.dft_verilog_out.specs.Named.{GatesAreJoined};
-ghost use Rattle.dft_io.specs.Texts.{FileGives};
-ghost use Rattle.dft_io.specs.Steps.{IsGiven};
+ghost use Rattle.dft_answers.specs.Texts.{FileGives};
+ghost use Rattle.dft_answers.specs.Steps.{IsGiven};
 ghost use Rattle.dft_top.specs.Checks.{AreFew, ConfigText, CubeText, NetlistText, PatternText};
 ghost use Rattle.dft_top.specs.declared.limits.TheConstants as limit;
 
 use crate::limits::{MAX_CONFIG_BYTES, MAX_CUBE_BYTES, MAX_NETLIST_BYTES, MAX_PATTERN_BYTES};
 use crate::reading::{config_in, cubes_in, design_in, patterns_in};
+use dft_answers::{Stop, check_length};
 use dft_cells::Library;
 use dft_config::{Config, Listed};
 use dft_cubes::Cube;
-use dft_io::{Stop, check_length};
 use dft_netlist::Design;
 use dft_patterns::PatternSet;
 use std::alloc::Global;

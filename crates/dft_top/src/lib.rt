@@ -5,6 +5,7 @@ mod certifying;
 mod command;
 mod compiling;
 mod configuring;
+mod ending;
 mod generating;
 mod given;
 mod grading;
@@ -16,9 +17,11 @@ mod replaying;
 mod saving;
 mod scanning;
 mod seeking;
+mod telling;
 
 pub use command::run;
 pub use dft_answers::Status;
+pub use ending::{end, status_of_run, told_run};
 pub use laws::{
     outcome_is_one, passing_files_are_answered, placements_have_patterns, saved_files_are_good,
 };

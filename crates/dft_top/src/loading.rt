@@ -3,7 +3,7 @@
 ghost use Rattle.std.specs.Prelude.{IfOk, Some, option_map};
 ghost use Rattle.dft_patterns.specs.Patterns.{IsWellFormed};
 ghost use Rattle.dft_verilog_out.specs.Named.{GatesAreJoined};
-ghost use Rattle.dft_io.specs.Steps.{Takes, seen_files};
+ghost use Rattle.dft_answers.specs.Steps.{Takes, seen_files};
 ghost use Rattle.dft_top.specs.Checks.{AreFew, LibraryGives, ConfigGives, CubesGive, NetlistGives, PatternsGive, ReportGives};
 
 use crate::limits::{
@@ -11,11 +11,11 @@ use crate::limits::{
     MAX_REPORT_BYTES,
 };
 use crate::reading::{config_in, cubes_in, design_in, library_in, patterns_in, report_in};
+use dft_answers::{Stop, load_text};
 use dft_cells::Library;
 use dft_config::{Config, Listed};
 use dft_cubes::Cube;
 use dft_files::Files;
-use dft_io::{Stop, load_text};
 use dft_netlist::Design;
 use dft_patterns::PatternSet;
 use dft_report::Report;

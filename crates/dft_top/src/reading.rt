@@ -4,17 +4,16 @@ ghost use Rattle.std.specs.Prelude.{◌≤◌, IfErr, IfOk, length};
 ghost use Rattle.dft_patterns.specs.Patterns.{IsWellFormed};
 ghost use Rattle.dft_netlist_reader.specs.Refusals.{HasNoDesign};
 ghost use Rattle.dft_verilog_out.specs.Named.{GatesAreJoined};
-ghost use Rattle.dft_io.specs.Steps.{IsGiven};
+ghost use Rattle.dft_answers.specs.Steps.{IsGiven};
 ghost use Rattle.dft_top.specs.Checks.{AreFew, ConfigText, CubeText, IsDesignOf, LibraryText, NetlistText, PatternText, ReportText};
 ghost use Rattle.dft_top.specs.declared.limits.TheConstants.{MAX_CONFIG_BYTES, MAX_CUBE_BYTES, MAX_LIBRARY_BYTES, MAX_NETLIST_BYTES, MAX_PATTERN_BYTES, MAX_REPORT_BYTES};
 
 use dft_answers::{
-    config_refusal, cube_refusal, design_refusal, library_refusal, read_refusal, stil_refusal,
+    Stop, config_refusal, cube_refusal, design_refusal, library_refusal, read_refusal, stil_refusal,
 };
 use dft_cells::Library;
 use dft_config::{Config, Listed};
 use dft_cubes::Cube;
-use dft_io::Stop;
 use dft_netlist::Design;
 use dft_netlist_reader::DesignError;
 use dft_patterns::PatternSet;

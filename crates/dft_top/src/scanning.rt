@@ -5,16 +5,15 @@ ghost use Rattle.dft_scan.specs.Refusals.{refusal};
 ghost use Rattle.dft_verilog_out.specs.Named.{GatesAreJoined};
 ghost use Rattle.dft_command_line.specs.Named.{scan_files_of};
 ghost use Rattle.dft_answers.specs.declared.outcome.Work.TheVariants.{Scanned};
-ghost use Rattle.dft_io.specs.Steps.{seen_files};
+ghost use Rattle.dft_answers.specs.Steps.{seen_files};
 ghost use Rattle.dft_top.specs.Outcomes.{course_of_scan, IsOutcomeOfScanOf};
 ghost use Rattle.dft_top.specs.Follows.{ComesTo, Follows};
 
 use crate::loading::{load_config, load_library, load_netlist};
-use dft_answers::{Outcome, Work, scan_refusal};
+use dft_answers::{Outcome, Stop, Work, scan_refusal};
 use dft_command_line::ScanFiles;
 use dft_config::{Config, Listed};
 use dft_files::Files;
-use dft_io::Stop;
 use dft_netlist::Design;
 use dft_scan::{ScanTexts, scan};
 use std::alloc::Global;

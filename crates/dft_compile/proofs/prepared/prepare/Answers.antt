@@ -6,9 +6,9 @@ use Rattle.dft_stitch.specs.Chains.{plan_of}
 use Rattle.dft_stitch.specs.Plans.{Plan}
 use Rattle.dft_scan_frame.specs.Refusals as frame
 use Rattle.dft_scan_frame.proofs.ReadyLemmas.{ready_of}
-use Rattle.dft_scan_hardware.specs.declared.style.Style.TheVariants.{Edt}
-use Rattle.dft_scan_hardware.specs.Refusals as insert
-use Rattle.dft_scan_hardware.specs.Scanned.{scanned_netlist}
+use Rattle.dft_insert.specs.declared.style.Style.TheVariants.{Edt}
+use Rattle.dft_insert.specs.Refusals as insert
+use Rattle.dft_insert.specs.Scanned.{scanned_netlist}
 use Rattle.dft_compile.specs.declared.error.CompileError.TheVariants.{Insert}
 use Rattle.dft_compile.specs.Refusals.{first_refusal}
 use Rattle.dft_compile.proofs.LateLemmas.{err_refused}

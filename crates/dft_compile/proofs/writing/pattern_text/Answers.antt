@@ -6,8 +6,8 @@ use Rattle.dft_patterns.specs.Patterns.{Patterns}
 use Rattle.dft_stitch.specs.Plans.{Plan}
 use Rattle.dft_vectors.specs.VectorList.{patterns_of}
 use Rattle.dft_encode.specs.Compiled.{ArePatterns}
-use Rattle.dft_scan_hardware.specs.Statements.{scanned}
-use Rattle.dft_scan_hardware.specs.declared.style.Style.TheVariants.{Edt}
+use Rattle.dft_insert.specs.Statements.{scanned}
+use Rattle.dft_insert.specs.declared.style.Style.TheVariants.{Edt}
 use Rattle.dft_stil_out.specs.Written.{noted}
 use Rattle.dft_compile.proofs.LateLemmas.{err_refused, short_refused}
 use Rattle.dft_compile.proofs.WorkLemmas.{short_text}

@@ -6,8 +6,8 @@ use Rattle.dft_config.specs.Range.{IsInRange}
 use Rattle.dft_config.specs.Refusals.{IsConfig}
 use Rattle.dft_rules.specs.Refusals as rules
 use Rattle.dft_stitch.specs.Chains.{plan_of}
-use Rattle.dft_scan_hardware.specs.declared.style.Style.TheVariants.{Edt}
-use Rattle.dft_scan_hardware.specs.Refusals as insert
+use Rattle.dft_insert.specs.declared.style.Style.TheVariants.{Edt}
+use Rattle.dft_insert.specs.Refusals as insert
 use Rattle.dft_configuring.specs.Causes.{IsInsertion}
 use Rattle.dft_configuring.specs.Configured.{Passes}
 use Rattle.dft_configuring.specs.Counted.{counts_of}

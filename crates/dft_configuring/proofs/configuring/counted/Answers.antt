@@ -5,8 +5,8 @@ use Rattle.dft_config.specs.Config.{Config}
 use Rattle.dft_rules.specs.Refusals as rules
 use Rattle.dft_stitch.specs.Chains.{plan_of}
 use Rattle.dft_stitch.specs.Limits as limits
-use Rattle.dft_scan_hardware.specs.declared.style.Style.TheVariants.{Edt}
-use Rattle.dft_scan_hardware.specs.Refusals.{refusal}
+use Rattle.dft_insert.specs.declared.style.Style.TheVariants.{Edt}
+use Rattle.dft_insert.specs.Refusals.{refusal}
 use Rattle.dft_configuring.specs.Causes.{IsInsertion}
 use Rattle.dft_configuring.specs.Counted.{counts_of}
 use Rattle.dft_configuring.proofs.configuring.counted.Goals as goal

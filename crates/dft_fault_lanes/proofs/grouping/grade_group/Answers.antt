@@ -42,6 +42,10 @@ pub run-requires-clause-fresh : goal.run-requires-clause-fresh
 run-requires-clause-fresh c =
     fresh c.deref_mut-2.result.now c.in_ok-cells.cells.values c.all-live.result c.deref_mut-5.result.now _ _ 512 (c.deref_mut-2.ensures.value ∙ c.in_ok-ports.ensures) c.in_ok-cells.ensures c.all-live.ensures (c.deref_mut-5.ensures.value ∙ c.in_ok-found.ensures)
 
+pub run-requires-clause-idle : goal.run-requires-clause-idle
+run-requires-clause-idle c = λ lane cell within idle.
+    (fresh c.deref_mut-2.result.now c.in_ok-cells.cells.values c.all-live.result c.deref_mut-5.result.now _ _ 512 (c.deref_mut-2.ensures.value ∙ c.in_ok-ports.ensures) c.in_ok-cells.ensures c.all-live.ensures (c.deref_mut-5.ensures.value ∙ c.in_ok-found.ensures)).cells lane cell within
+
 pub returns-clause-found : goal.returns-clause-found
 returns-clause-found c =
     let clamps = c.deref-5.ensures.value ∙ with_items_is c.in_ok-clamps.clamps c.stick.new.clamps (c.stick.auto.clamps ∙ ap length c.deref_mut.ensures.value ∙ sym c.in_ok-clamps.clamps.ok.0) in

@@ -7,6 +7,7 @@ use Rattle.dft_lane_registers.specs.Layout.{Layout}
 use Rattle.dft_fault_lanes.specs.Plans.{needs_of, pulse_on}
 use Rattle.dft_fault_lanes.specs.Made.{IsPlan}
 use Rattle.dft_fault_lanes.proofs.GroupLemmas.{lanes_step}
+use Rattle.dft_fault_lanes.proofs.IdleLemmas.{idle_acted}
 use Rattle.dft_fault_lanes.proofs.PlanLemmas.{none_acts, pulse_on_acts, covered_decides}
 use Rattle.dft_fault_lanes.proofs.grouping.play.Goals as goal
 
@@ -32,6 +33,12 @@ pulse-requires-clause-count c = c.act.ensures.count ∙ c.requires.cells
 pub pulse-requires-clause-free : goal.pulse-requires-clause-free
 pulse-requires-clause-free c = λ up.
     none_acts c.args.group.circuit.now.flops.items c.set_inputs.new.ports c.args.plan.now.forces.items c.requires.room.forces ((rw c.deref.ensures.value at c.are_ones-free.ensures) (sym c.strobe.ensures.free ∙ up))
+
+pub pulse-requires-clause-idle : goal.pulse-requires-clause-idle
+pulse-requires-clause-idle c = idle_acted c.args.group.circuit.now.flops.items c.set_inputs.new.ports c.args.cells.now.values c.act.new.cells.values (rw c.deref-2.ensures.value at c.act.ensures.acted) c.requires.idle
+
+pub returns-clause-idle : goal.returns-clause-idle
+returns-clause-idle c = c.pulse.ensures.idle c.strobe.ensures.settled
 
 pub returns-clause-plan : goal.returns-clause-plan
 returns-clause-plan c = let P : Layout → Type 0 = λ l. IsPlan c.args.group.circuit.now c.args.group.clamps.now l c.args.group.nets.now c.strobe.new.plan in subst P (sym c.pulse.ensures.layout) c.strobe.ensures.plan

@@ -21,7 +21,7 @@ loop-vector-preserved c =
     let front : drop v vectors ≡ acts ∷ drop (v + 1) vectors = first ∙ ap (λ (a : List Act). a ∷ drop (v + 1) vectors) here in (
       running_more c.args.group.circuit.now c.args.group.clamps.now (numbers_of c.args.group.nets.now) vectors c.loop-vector.ports c.play.new.ports c.loop-vector.cells.values c.play.new.cells.values c.loop-vector.live c.play.new.live
           c.loop-vector.found c.play.new.found v acts front c.play.ensures.inputs c.play.ensures.steps c.loop-vector.invariant.0,
-      (c.play.ensures.each_wide, (c.play.ensures.each_later, (c.play.ensures.each_cell, (c.play.ensures.live, (c.play.ensures.room, (λ made. c.play.ensures.plan, c.play.ensures.cells ∙ c.loop-vector.invariant.1.1.1.1.1.1.1)))))),
+      (c.play.ensures.each_wide, (c.play.ensures.each_later, (c.play.ensures.each_cell, (c.play.ensures.live, (c.play.ensures.room, (λ made. c.play.ensures.plan, (c.play.ensures.cells ∙ c.loop-vector.invariant.1.1.1.1.1.1.1.0, c.play.ensures.idle))))))),
     )
 
 pub returns : goal.returns

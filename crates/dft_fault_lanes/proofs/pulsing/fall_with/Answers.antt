@@ -1,7 +1,8 @@
 -- What nets show, which lanes stay live, what cells take.
 use Rattle.std.proofs.Common.{◌∙◌, [], false}
-use Rattle.dft_fault_lanes.specs.Moves.{is_carried}
+use Rattle.dft_fault_lanes.specs.Idle.{is_left}
 use Rattle.dft_fault_lanes.proofs.CellLemmas.{places_taken}
+use Rattle.dft_fault_lanes.proofs.IdleLemmas.{left_falls}
 use Rattle.dft_fault_lanes.proofs.PlanLemmas.{none_left}
 use Rattle.dft_fault_lanes.proofs.pulsing.fall_with.Goals as goal
 
@@ -22,6 +23,6 @@ returns-clause-phase c =
       shown = p.falls.items;
       shows = c.requires.plan.1.falls;
       steady = c.keep_falls.ensures.steady;
-      taken = places_taken flops false p.pulsed.items (is_carried c.args.cells.now.layout []) p.falling.items c.args.play.ports.now c.args.wides.now c.args.cells.now.values c.take.new.cells.values c.requires.count (c.take.ensures.count ∙ c.requires.count)
-          c.requires.plan.1.falling (λ cell up. none_left c.args.cells.now.layout cell) (rw (c.deref.ensures.value, c.deref-2.ensures.value) at c.take.ensures.taken) (rw c.deref-2.ensures.value at c.take.ensures.kept);
+      taken = places_taken flops false p.pulsed.items (is_left c.args.cells.now.layout [] flops) p.falling.items c.args.play.ports.now c.args.wides.now c.args.cells.now.values c.take.new.cells.values c.requires.count (c.take.ensures.count ∙ c.requires.count)
+          c.requires.plan.1.falling (λ cell up. left_falls c.args.cells.now.layout flops p.pulsed.items cell (none_left c.args.cells.now.layout cell) up) (rw (c.deref.ensures.value, c.deref-2.ensures.value) at c.take.ensures.taken) (rw c.deref-2.ensures.value at c.take.ensures.kept);
     }

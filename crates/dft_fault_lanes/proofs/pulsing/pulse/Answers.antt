@@ -1,7 +1,10 @@
 -- The rises and the falls give a round in each live lane.
-use Rattle.std.proofs.Common.{◌∙◌, sym, subst}
+use Rattle.std.proofs.Common.{◌∙◌, length, sym, subst}
 use Rattle.dft_lane_registers.specs.Layout.{Layout}
 use Rattle.dft_fault_lanes.specs.Made.{IsPlan}
+use Rattle.dft_fault_lanes.specs.Plans.{needs_of}
+use Rattle.dft_fault_lanes.specs.Seen.{knows, seen}
+use Rattle.dft_fault_lanes.proofs.IdleLemmas.{idle_pulsed}
 use Rattle.dft_fault_lanes.proofs.RoundLemmas.{seen_pulsed}
 use Rattle.dft_fault_lanes.proofs.pulsing.pulse.Goals as goal
 
@@ -23,3 +26,11 @@ pub returns-clause-pulsed : goal.returns-clause-pulsed
 returns-clause-pulsed c =
     seen_pulsed c.args.play.circuit.now c.args.play.plan.now.marked.items c.args.play.ports.now c.args.play.plan.now.pulsed.items c.args.play.clamps.now c.args.wides.now c.args.cells.now.values c.rise.new.cells.values c.fall.new.cells.values
     c.args.live.now c.rise.new.live c.fall.new.live c.requires.circuit c.requires.plan.1.closed c.requires.strobe c.rise.ensures.phase c.fall.ensures.fall
+
+pub returns-clause-idle : goal.returns-clause-idle
+returns-clause-idle c = λ settled.
+    (let x = c.args.play.circuit.now in
+    let p = c.args.play.plan.now in
+    let clamps = c.args.play.clamps.now in
+    idle_pulsed x (needs_of (length x.ops.items) p.marked.items) (knows x.ops.items clamps p.marked.items) c.args.play.ports.now p.pulsed.items clamps (seen x.ops.items clamps p.marked.items c.args.cells.now.values c.args.wides.now)
+    c.args.cells.now.values c.rise.new.cells.values c.fall.new.cells.values c.args.live.now c.rise.new.live c.fall.new.live (c.rise.ensures.phase settled) c.fall.ensures.fall c.requires.idle)

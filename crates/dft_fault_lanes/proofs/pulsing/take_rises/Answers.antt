@@ -24,5 +24,5 @@ returns-clause-count c = c.take.ensures.count ∙ c.shift.ensures.count
 
 pub returns-clause-taken : goal.returns-clause-taken
 returns-clause-taken c = λ settled.
-    moves_taken c.args.play.circuit.now c.args.play.clamps.now c.requires.plan.0 c.args.play.plan.now c.args.play.ports.now c.args.wides.now c.args.cells.now c.shift.new.self c.take.new.cells c.requires.plan.1 c.requires.count c.requires.nets c.requires.steers c.requires.free
+    moves_taken c.args.play.circuit.now c.args.play.clamps.now c.requires.plan.0 c.args.play.plan.now c.args.play.ports.now c.args.wides.now c.args.cells.now c.shift.new.self c.take.new.cells c.requires.plan.1 c.requires.count c.requires.nets c.requires.steers c.requires.free c.requires.idle
     (rw c.deref.ensures.value at c.shift.ensures) c.take.ensures.count (rw (c.deref-2.ensures.value, c.deref-3.ensures.value) at c.take.ensures.taken) (rw c.deref-3.ensures.value at c.take.ensures.kept) settled

@@ -2,8 +2,8 @@ use Rattle.std.proofs.Common.{◌∙◌, sym, subst, ap}
 use Rattle.dft_netlist.specs.Netlist.{Netlist}
 use Rattle.dft_config.specs.Config.{Config}
 use Rattle.dft_scan_frame.specs.Statements.{CanFinish}
-use Rattle.dft_scan_hardware.specs.Scanned.{scanned_netlist}
-use Rattle.dft_scan_equivalence.proofs.Finished.{can_be_finished}
+use Rattle.dft_insert.specs.Scanned.{scanned_netlist}
+use Rattle.dft_insert.proofs.Finished.{can_be_finished}
 use Rattle.dft_insert.proofs.insertion.insert.Goals as goal
 
 pub finish-requires : goal.finish-requires

@@ -9,7 +9,7 @@ loop-list-init c = pack_start _ _ _ c.in_ok-ends.ensures.items c.new-numbers.ens
 pub loop-list-preserved : goal.loop-list-preserved
 loop-list-preserved c =
     pack_more c.args.lists.now c.loop-list.list-index c.loop-list.ends.items c.loop-list.numbers.items c.as_slice.result.now _ _ _ _ c.loop-list-test.true (c.as_slice.ensures ∙ c.list-item.is) c.loop-list.invariant
-    c.in_ok-extend_from_slice.ensures.items c.in_ok-push.ensures.items (c.in_ok-end_of.ensures ∙ c.len.ensures ∙ c.extend_from_slice.new.self.ok.0)
+    c.in_ok-extend_from_slice.ensures.items c.in_ok-push.ensures.items (c.in_ok-word_of.ensures ∙ c.len.ensures ∙ c.extend_from_slice.new.self.ok.0)
 
 pub invariant_of-result : goal.invariant_of-result
 invariant_of-result c = c.loop-list.invariant.laid

@@ -8,11 +8,11 @@ use Rattle.dft_rules.specs.declared.judged.Judged.{Judged}
 use Rattle.dft_rules.specs.Rules.{judgements}
 use Rattle.dft_stitch.specs.Chains.{plan_of}
 use Rattle.dft_stitch.specs.Plans.{Plan}
-use Rattle.dft_scan_hardware.specs.declared.style.Style.TheVariants.{Plain}
+use Rattle.dft_insert.specs.declared.style.Style.TheVariants.{Plain}
 use Rattle.dft_scan_frame.specs.Refusals as frame
-use Rattle.dft_scan_hardware.specs.Refusals as insert
-use Rattle.dft_scan_hardware.specs.Scanned.{framed, parts_of, scanned_netlist}
-use Rattle.dft_scan_hardware.specs.Statements.{scanned}
+use Rattle.dft_insert.specs.Refusals as insert
+use Rattle.dft_insert.specs.Scanned.{framed, parts_of, scanned_netlist}
+use Rattle.dft_insert.specs.Statements.{scanned}
 use Rattle.dft_netlist_text.specs.NetlistText.{StandsFor}
 use Rattle.dft_parts.proofs.Growing.{parts_grow}
 use Rattle.dft_report.specs.declared.limits.TheConstants.{MAX_BYTES}

@@ -12,7 +12,10 @@ pub settle_base-requires-clause-values : goal.settle_base-requires-clause-values
 settle_base-requires-clause-values c = ap (λ (l : List Tri). length l) (c.deref_mut.ensures.value ∙ c.in_ok-values.ensures) ∙ length-replicate c.len.result Unknown ∙ c.len.ensures ∙ c.args.circuit.now.ops.ok.0
 
 pub settle_base-requires-clause-marked : goal.settle_base-requires-clause-marked
-settle_base-requires-clause-marked c = c.deref_mut-2.ensures.value ∙ c.in_ok-marked.ensures ∙ ap (λ (n : ℕ). replicate n true) (c.len-2.ensures ∙ c.args.circuit.now.ops.ok.0)
+settle_base-requires-clause-marked c = c.in_ok-marks.ensures.marked ∙ ap (λ (n : ℕ). replicate n true) (c.len-2.ensures ∙ c.args.circuit.now.ops.ok.0)
+
+pub settle_base-requires-clause-busy : goal.settle_base-requires-clause-busy
+settle_base-requires-clause-busy c = c.in_ok-marks.ensures.busy c.args.places.now
 
 pub returns : goal.returns
-returns c = subst (IsBase c.args.circuit.now) (sym (filled c.in_ok-values.values c.settle_base.new.values c.deref_mut.result.now c.settle_base.auto.values c.deref_mut.ensures.value)) c.settle_base.ensures
+returns c = subst (IsBase c.args.circuit.now c.args.resets.now c.args.holds.now) (sym (filled c.in_ok-values.values c.settle_base.new.values c.deref_mut.result.now c.settle_base.auto.values c.deref_mut.ensures.value)) c.settle_base.ensures

@@ -1,15 +1,15 @@
--- Nets that do not read it keep their values.
-use Rattle.std.proofs.Common.{ℕ, ◌<◌, length, arith}
+-- Needed nets that do not read it keep their values.
+use Rattle.std.proofs.Common.{ℕ, ◌<◌, inl, inr, length, arith}
 use Rattle.dft_logic.specs.Circuit.{meaning, op_at}
 use Rattle.dft_sweep.specs.Fields.{bit_at, meaning_at, sources_of}
 use Rattle.dft_sweep.proofs.Sweeps.{blind, reads_with, written}
 use Rattle.dft_sweep.proofs.sweeping.renew.Goals as goal
 
 pub returns-clause-given : goal.returns-clause-given
-returns-clause-given c = λ k down before.
+returns-clause-given c = λ k down before needs.
     (let f = c.args.field.now in
     let x = f.circuit.now in
     let net : ℕ = c.args.net.0 in
     let live : net < length c.args.values.now = (let less = c.requires.live in let e = c.requires.values in omega arith) in
     written (meaning_at f) (sources_of f.sources) c.args.values.now net k c.value_of-value.result live c.value_of-value.ensures
-    (λ has. blind x net k c.list_of.result.now c.requires.circuit c.requires.live c.list_of.ensures (c.mark_all.ensures.lowered k down).1 (reads_with (bit_at f.stuck k) (meaning (op_at x.ops.items k)) net has)) before)
+    (λ has. blind x net k c.list_of-readers.result.now c.requires.circuit c.requires.live c.list_of-readers.ensures (c.mark_all.ensures.marked k needs down) (reads_with (bit_at f.stuck k) (meaning (op_at x.ops.items k)) net has)) (elim before [ inl e ↦ inl e | inr is ↦ inr (is needs) ]))

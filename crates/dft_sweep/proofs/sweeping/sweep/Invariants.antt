@@ -1,7 +1,12 @@
--- The nets before this one are not marked.
-use Rattle.dft_sweep.specs.Fields.{meaning_at, sources_of}
-use Rattle.dft_sweep.proofs.Sweeps.{Sweeping}
+-- The nets of the groups before this one are not marked.
+use Rattle.std.proofs.Common.{◌≡◌, ◌*◌, length}
+use Rattle.dft_sweep.specs.Chunks.{AreBusy}
+use Rattle.dft_sweep.specs.Sweepings.{AreSwept}
 use Rattle.dft_sweep.proofs.sweeping.sweep.Given as goal
 
-abbrev pub invariant-loop-net : goal.invariant-loop-net
-invariant-loop-net l = Sweeping l.field.circuit.now.ops.items (meaning_at l.field) (sources_of l.field.sources) l.field.circuit.now.order.items l.values l.marked l.net-index
+abbrev pub invariant-loop-group : goal.invariant-loop-group
+invariant-loop-group l = record {
+  size : length l.marks.marked.items ≡ length l.initial.marks.marked.items;
+  swept : AreSwept l.field l.values l.marks (l.group * 256);
+  busy : AreBusy l.field.places.now l.marks;
+}

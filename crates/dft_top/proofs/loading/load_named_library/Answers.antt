@@ -1,5 +1,5 @@
 use Rattle.std.proofs.Common.{◌≡◌, Err, codes, rules}
-use Rattle.dft_io.proofs.TextSteps.{text_stops, text_takes}
+use Rattle.dft_answers.proofs.TextSteps.{text_stops, text_takes}
 use Rattle.dft_top.specs.declared.limits.TheConstants.{MAX_LIBRARY_BYTES}
 use Rattle.dft_top.specs.Checks.{LibraryText}
 use Rattle.dft_top.proofs.loading.load_named_library.Goals as goal

@@ -1,5 +1,5 @@
 use Rattle.std.proofs.Common.{◌≡◌, Err, codes, rules}
-use Rattle.dft_io.proofs.TextSteps.{text_stops, text_takes}
+use Rattle.dft_answers.proofs.TextSteps.{text_stops, text_takes}
 use Rattle.dft_top.specs.declared.limits.TheConstants.{MAX_PATTERN_BYTES}
 use Rattle.dft_top.specs.Checks.{PatternText}
 use Rattle.dft_top.proofs.loading.load_patterns.Goals as goal

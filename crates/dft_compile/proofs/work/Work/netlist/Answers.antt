@@ -6,9 +6,9 @@ use Rattle.dft_netlist.specs.Netlist.{Netlist}
 use Rattle.dft_netlist_text.specs.NetlistText.{StandsFor}
 use Rattle.dft_parts.proofs.Growing.{parts_grow}
 use Rattle.dft_scan.proofs.JoinedLemmas.{scanned_joined}
-use Rattle.dft_scan_hardware.specs.declared.style.Style.TheVariants.{Edt}
-use Rattle.dft_scan_hardware.specs.Scanned.{framed, parts_of}
-use Rattle.dft_scan_hardware.specs.Statements.{scanned}
+use Rattle.dft_insert.specs.declared.style.Style.TheVariants.{Edt}
+use Rattle.dft_insert.specs.Scanned.{framed, parts_of}
+use Rattle.dft_insert.specs.Statements.{scanned}
 use Rattle.dft_stitch.specs.Chains.{plan_of}
 use Rattle.dft_verilog_out.specs.Named.{GatesAreJoined}
 use Rattle.dft_compile.proofs.work.Work.netlist.Goals as goal

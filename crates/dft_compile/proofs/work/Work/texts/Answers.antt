@@ -1,8 +1,8 @@
 -- The texts, where no check refuses them.
 use Rattle.std.proofs.Common.{◌≡◌, ◌≤◌, length, refl, subst, sym}
 use Rattle.dft_merge.specs.LoadPlan.{LoadPlan}
-use Rattle.dft_scan_hardware.specs.declared.style.Style.TheVariants.{Edt}
-use Rattle.dft_scan_hardware.specs.Statements.{scanned}
+use Rattle.dft_insert.specs.declared.style.Style.TheVariants.{Edt}
+use Rattle.dft_insert.specs.Statements.{scanned}
 use Rattle.dft_stil_tokens.specs.declared.blanks.TheConstants.{MAX_TEXT}
 use Rattle.dft_compile.specs.Compilation.{IsPatternText}
 use Rattle.dft_compile.specs.Refusals.{pattern_bytes}

@@ -2,6 +2,7 @@
 use Rattle.std.proofs.Common.{ℕ, List, Bool, ◌+◌, ◌≡◌, ◌∷◌, length, refl, sym, subst, ap, arith, ◌∙◌}
 use Rattle.std.proofs.lemmas.Result.{IfOk-weaker}
 use Rattle.dft_seek.specs.Cones.{cone_of}
+use Rattle.dft_seek.specs.Nodes.{AreAt}
 use Rattle.dft_seek.specs.Rigs.{search_in}
 use Rattle.dft_seek.specs.Searches.{Search}
 use Rattle.dft_seek.specs.Sought.{IsSought, cube_at}
@@ -9,6 +10,7 @@ use Rattle.dft_seek.specs.Turns.{IsLeaf, pending}
 use Rattle.dft_seek.specs.Walks.{Cone}
 use Rattle.dft_seek.specs.declared.found.Found.{Found}
 use Rattle.dft_seek.specs.declared.found.Found.TheVariants as found
+use Rattle.dft_seek.proofs.OpenLemmas.{markable}
 use Rattle.dft_seek.proofs.TurnLemmas.{LeftOf, left_dead, left_starts, left_turned, tells_aborted, tells_cube, tells_none}
 use Rattle.dft_seek.proofs.rig.Rig.seek.Goals as goal
 
@@ -18,11 +20,15 @@ loop-dead-init c =
     let cone : Cone = cone_of c.in_ok-cone.cone in
     record {
       name = refl;
-      ready = c.in_ok-values.ensures;
+      opens = c.in_ok-values.ensures.opens;
+      at = subst (λ (l : List Bool). AreAt c.in_ok-cone.cone l c.in_ok-values.values) (sym c.in_ok-bits.ensures.items) (c.in_ok-values.ensures.at c.in_ok-cone.cone);
       room = omega (arith, c.in_ok-bits.ensures.exact, c.in_ok-cone.cone.cells.ok.0, c.in_ok-cone.cone.ports.ok.0);
       few = omega (arith, ap (λ (l : List Bool). length l) c.in_ok-bits.ensures.items);
       left = subst (λ (l : List Bool). LeftOf s cone 0 (l ∷ pending l)) (sym c.in_ok-bits.ensures.items) (left_starts s cone);
     }
+
+pub turn-requires-clause-marks : goal.turn-requires-clause-marks
+turn-requires-clause-marks c = markable c.args.self.now c.args.fault c.in_ok-cone.cone.needed.items c.descend.new.v c.descend.ensures.opens
 
 pub loop-dead-preserved : goal.loop-dead-preserved
 loop-dead-preserved c =
@@ -32,7 +38,8 @@ loop-dead-preserved c =
     let dead = left_dead s cone c.loop-dead._dead c.loop-dead.bits.items c.descend.new.bits.items c.loop-dead.invariant.left leaf in
     record {
       name = c.loop-dead.invariant.name;
-      ready = c.descend.ensures.ready;
+      opens = c.turn.ensures.opens c.args.fault c.descend.ensures.opens;
+      at = c.turn.ensures.at;
       room = omega (arith, c.turn.ensures.room, c.descend.ensures.room, c.loop-dead.invariant.room);
       few = omega (arith, c.turn.ensures.few, c.descend.ensures.few);
       left = left_turned s cone (c.loop-dead._dead + 1) c.descend.new.bits.items c.turn.new.bits.items dead (c.turn.ensures.turned c.if-not-turn.false);

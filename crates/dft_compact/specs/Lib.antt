@@ -1,3 +1,0 @@
-pub mod CompactorRecipe
-pub mod Bounds
-pub mod CompactorStands

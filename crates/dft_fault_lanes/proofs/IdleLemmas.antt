@@ -1,0 +1,105 @@
+-- Cells that read nothing can be anything, whatever they take.
+use Rattle.std.proofs.Common.{ℕ, Bool, true, false, ◌≡◌, ◌<◌, List, [], length, get_or, inl, inr, refl, sym, ap, subst, ◌∙◌, true≢false, Option, None, Some}
+use Rattle.std.specs.Prelude.{◌==◌, ◌&&◌, ◌||◌, nat_lt, if◌then◌else◌}
+use Rattle.dft_base.specs.declared.tri.Tri.{Tri}
+use Rattle.dft_base.specs.declared.tri.Tri.TheVariants.{Unknown}
+use Rattle.dft_lanes.specs.declared.wide.Wide.{Wide}
+use Rattle.dft_netlist.specs.Drivers.{Source, Net, Tied, Loose}
+use Rattle.dft_netlist.specs.Logic.{Cell, Force, Scan}
+use Rattle.dft_netlist.specs.Runs.{takes}
+use Rattle.dft_netlist.specs.Settled.{value_from}
+use Rattle.dft_abstract.specs.Cycle.{tri_forced_by, tri_taken_by}
+use Rattle.dft_lane_registers.specs.declared.layout.Place.{Place}
+use Rattle.dft_lane_registers.specs.Layout.{Layout, place_at}
+use Rattle.dft_evaluator.specs.Wides.{values_in}
+use Rattle.dft_logic.specs.declared.circuit.Circuit.{Circuit}
+use Rattle.dft_logic.specs.declared.circuit.FlipFlop.{FlipFlop}
+use Rattle.dft_logic.specs.Circuit.{cell_of, flag_at, next_at, taken_at}
+use Rattle.dft_logic.specs.Values.{value_at}
+use Rattle.dft_logic.proofs.Writings.{cell_read}
+use Rattle.dft_fault_lanes.specs.declared.clamps.Clamp.{Clamp}
+use Rattle.dft_fault_lanes.specs.Lanes.{AreActedOn, AreTaken, flop_at, is_changed}
+use Rattle.dft_fault_lanes.specs.Moves.{is_carried}
+use Rattle.dft_fault_lanes.specs.Idle.{is_loose, is_unscanned, is_unforced, is_idle, is_left, AreIdleUnknown}
+use Rattle.dft_fault_lanes.specs.Pulses.{IsPhase, IsFall}
+use Rattle.dft_fault_lanes.proofs.WholeLemmas.{both_true}
+
+-- ---- what an idle cell takes
+
+no_force : (force : Option Force) (ports : ℕ → Tri) (t : Tri) → is_unforced force ≡ true → tri_forced_by force ports t ≡ t
+no_force None ports t is = refl
+no_force (Some force) ports t is = absurd (true≢false (sym is))
+
+no_scan : (scan : Option Scan) (at : Source → Tri) (data_in : Tri) → is_unscanned scan ≡ true → tri_taken_by scan at data_in ≡ data_in
+no_scan None at data_in is = refl
+no_scan (Some scan) at data_in is = absurd (true≢false (sym is))
+
+nothing_read : (falling : Bool) (input : Source) (values : ℕ → Tri) → (if falling then false else is_loose input) ≡ true → value_from values input ≡ Unknown
+nothing_read true input values is = absurd (true≢false (sym is))
+nothing_read false (Net net) values is = absurd (true≢false (sym is))
+nothing_read false (Tied bit) values is = absurd (true≢false (sym is))
+nothing_read false (Loose i pin) values is = refl
+
+pub idle_next : (cell : Cell) (ports values : ℕ → Tri) → is_idle cell ≡ true → next_at cell ports values ≡ Unknown
+idle_next cell ports values is =
+    let parts = both_true (if cell.falling then false else is_loose cell.input) (is_unscanned cell.scan && is_unforced cell.force) is in
+    let pins = both_true (is_unscanned cell.scan) (is_unforced cell.force) parts.1 in
+    no_force cell.force ports (taken_at cell values) pins.1 ∙ no_scan cell.scan (value_from values) (value_from values cell.input) pins.0 ∙ nothing_read cell.falling cell.input values parts.0
+
+idle_forced : (cell : Cell) (ports : ℕ → Tri) (t : Tri) → is_idle cell ≡ true → tri_forced_by cell.force ports t ≡ t
+idle_forced cell ports t is =
+    let parts = both_true (if cell.falling then false else is_loose cell.input) (is_unscanned cell.scan && is_unforced cell.force) is in
+    no_force cell.force ports t (both_true (is_unscanned cell.scan) (is_unforced cell.force) parts.1).1
+
+-- ---- idle cells stay as they are
+
+both_unknown : (b : Bool) (s t : Tri) → s ≡ Unknown → t ≡ Unknown → (if b then s else t) ≡ Unknown
+both_unknown true s t one other = one
+both_unknown false s t one other = other
+
+idle_taken : (flops : List FlipFlop) (rising : Bool) (pulsed : List Bool) (ports : List Tri) (wides old new : List Wide) → AreTaken flops rising pulsed ports wides old new → AreIdleUnknown flops old → AreIdleUnknown flops new
+idle_taken flops rising pulsed ports wides old new taken was lane c within idle =
+    taken lane c within
+    ∙ both_unknown (is_changed (flop_at flops c) rising pulsed) (next_at (flop_at flops c) (value_at ports) (values_in wides lane)) (values_in old lane c) (idle_next (flop_at flops c) (value_at ports) (values_in wides lane) idle) (was lane c within idle)
+
+pub idle_acted : (flops : List FlipFlop) (ports : List Tri) (old new : List Wide) → AreActedOn flops ports old new → AreIdleUnknown flops old → AreIdleUnknown flops new
+idle_acted flops ports old new acted was lane c within idle = acted lane c within ∙ idle_forced (flop_at flops c) (value_at ports) (values_in old lane c) idle ∙ was lane c within idle
+
+pub idle_pulsed : (x : Circuit) (needs known : ℕ → Bool) (ports : List Tri) (pulsed : List Bool) (clamps : List (Option Clamp)) (wides old middle new : List Wide) (live risen fallen : Wide) → IsPhase x known true ports pulsed wides old middle live risen →
+    IsFall x needs ports pulsed clamps middle new risen fallen → AreIdleUnknown x.flops.items old → AreIdleUnknown x.flops.items new
+idle_pulsed x needs known ports pulsed clamps wides old middle new live risen fallen rise fall was =
+    let after : AreIdleUnknown x.flops.items middle = idle_taken x.flops.items true pulsed ports wides old middle rise.taken was in
+    elim fall [
+      | inl none ↦ subst (AreIdleUnknown x.flops.items) (sym none.1.0) after
+      | inr some ↦ idle_taken x.flops.items false pulsed ports some.0 middle new some.1.1.taken after
+    ]
+
+-- ---- cells that are left out
+
+-- what is told by the cell and its place
+pub left_tells : (l : Layout) (moves : List Bool) (flops : List FlipFlop) (c : ℕ) (flop : FlipFlop) (place : Place) (left : Bool) → c < length flops → flop ≡ get_or flops c flop → place ≡ place_at l.places c →
+    left ≡ ((flag_at moves place.register && nat_lt 0 place.index) || (is_idle (cell_of flop) && (place.register == 0))) → left ≡ is_left l moves flops c
+left_tells l moves flops c flop place left near read at is =
+    let cell : cell_of flop ≡ flop_at flops c = ap cell_of read ∙ cell_read flops c flop near in
+    is ∙ ap (λ (p : Place). (flag_at moves p.register && nat_lt 0 p.index) || (is_idle (cell_of flop) && (p.register == 0))) at ∙ ap (λ (k : Cell). is_carried l moves c || (is_idle k && ((place_at l.places c).register == 0))) cell
+
+-- a cell that is not left out is not carried
+pub left_carried : (b c : Bool) → (b || c) ≡ false → b ≡ false
+left_carried true c down = down
+left_carried false c down = refl
+
+-- one that is not carried and is left out is idle and lies in no register
+pub left_idle : (b c d : Bool) → b ≡ false → (b || (c && d)) ≡ true → (c ≡ true) × (d ≡ true)
+left_idle true c d down up = absurd (true≢false down)
+left_idle false c d down up = both_true c d up
+
+down_idle : (falling loose rest : Bool) → takes false falling ≡ true → ((if falling then false else loose) && rest) ≡ false
+down_idle true loose rest is = refl
+down_idle false loose rest is = absurd (true≢false (sym is))
+
+-- one that takes a value at a fall is not idle
+pub left_falls : (l : Layout) (flops : List FlipFlop) (pulsed : List Bool) (c : ℕ) → is_carried l [] c ≡ false → is_changed (flop_at flops c) false pulsed ≡ true → is_left l [] flops c ≡ false
+left_falls l flops pulsed c stays up =
+    let cell : Cell = flop_at flops c in
+    let down : is_idle cell ≡ false = down_idle cell.falling (is_loose cell.input) (is_unscanned cell.scan && is_unforced cell.force) (both_true (flag_at pulsed cell.domain) (takes false cell.falling) up).1 in
+    ap (λ (b : Bool). b || (is_idle cell && ((place_at l.places c).register == 0))) stays ∙ ap (λ (b : Bool). b && ((place_at l.places c).register == 0)) down

@@ -1,5 +1,0 @@
-use Rattle.dft_ring.proofs.RingValues.{ring_bits, ring_values}
-use Rattle.dft_ring.proofs.laws.ring_computes.Goals as goal
-
-pub returns : goal.returns
-returns c = record { bits = ring_bits; values = ring_values }

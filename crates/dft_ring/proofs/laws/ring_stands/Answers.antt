@@ -1,5 +1,0 @@
-use Rattle.dft_ring.proofs.RingFacts.{ring_stands}
-use Rattle.dft_ring.proofs.laws.ring_stands.Goals as goal
-
-pub returns : goal.returns
-returns c = ring_stands

@@ -1,2 +1,0 @@
-pub mod RingRecipe
-pub mod RingStands

@@ -1,6 +1,0 @@
--- See the lemmas.
-use Rattle.dft_scan_equivalence.proofs.Agreed.{contains_design, agrees_off}
-use Rattle.dft_scan_equivalence.proofs.laws.scanned_agrees.Goals as goal
-
-pub returns : goal.returns
-returns c = record { contains = contains_design; agrees = agrees_off }

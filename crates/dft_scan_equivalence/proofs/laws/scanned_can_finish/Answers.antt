@@ -1,6 +1,0 @@
--- See the lemma.
-use Rattle.dft_scan_equivalence.proofs.Finished.{can_be_finished}
-use Rattle.dft_scan_equivalence.proofs.laws.scanned_can_finish.Goals as goal
-
-pub returns : goal.returns
-returns c = can_be_finished

@@ -1,9 +1,0 @@
-pub mod AddedPorts
-pub mod Frames
-pub mod PinLemmas
-pub mod MadeParts
-pub mod Filling
-pub mod Joins
-pub mod Free
-pub mod Chains
-pub mod Keeping

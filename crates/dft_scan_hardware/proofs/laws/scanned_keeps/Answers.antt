@@ -1,5 +1,0 @@
-use Rattle.dft_scan_hardware.proofs.Keeping.{adds_in_order, keeps_design}
-use Rattle.dft_scan_hardware.proofs.laws.scanned_keeps.Goals as goal
-
-pub returns : goal.returns
-returns c = record { keeps = keeps_design; adds = adds_in_order }

@@ -1,7 +1,0 @@
-use Rattle.std.proofs.Common.{drop}
-use Rattle.dft_scan_hardware.specs.Chained.{a_row}
-use Rattle.dft_scan_hardware.proofs.MadeParts.{Rows}
-use Rattle.dft_scan_hardware.proofs.outputs.make_rows.Given as goal
-
-abbrev pub invariant-loop-chain : goal.invariant-loop-chain
-invariant-loop-chain l = Rows (a_row l.design l.gap) l.chains.chains (drop l.chain l.chains.chains) l.fn.parts l.parts l.rows.items

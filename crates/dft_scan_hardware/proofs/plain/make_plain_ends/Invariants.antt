@@ -1,8 +1,0 @@
-use Rattle.std.proofs.Common.{◌-◌}
-use Rattle.std.specs.List.{range_with_len}
-use Rattle.dft_parts.proofs.Runs.{Goes}
-use Rattle.dft_scan_hardware.specs.Scanned.{a_plain_end}
-use Rattle.dft_scan_hardware.proofs.plain.make_plain_ends.Given as goal
-
-abbrev pub invariant-loop-chain : goal.invariant-loop-chain
-invariant-loop-chain l = Goes (a_plain_end l.config l.gap l.rows) (range_with_len 0 l.count) (range_with_len l.chain (l.count - l.chain)) l.fn.parts l.parts

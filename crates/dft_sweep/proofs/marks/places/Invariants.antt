@@ -1,0 +1,10 @@
+-- The nets before this place of the order are told their places.
+use Rattle.std.proofs.Common.{◌≡◌, length}
+use Rattle.dft_sweep.proofs.Placings.{Placing}
+use Rattle.dft_sweep.proofs.marks.places.Given as goal
+
+abbrev pub invariant-loop-place : goal.invariant-loop-place
+invariant-loop-place l = record {
+  size : length l.places.items ≡ length l.circuit.ops.items;
+  placed : Placing l.circuit.ops.items l.circuit.order.items l.places.items l.place;
+}
