@@ -28,3 +28,4 @@ pub mod BitPlaces
 pub mod OpenLemmas
 pub mod GivenLemmas
 pub mod OnceLemmas
+pub mod Comparing

@@ -8,7 +8,7 @@ use Rattle.dft_expect.specs.Loaded.{bit_of_cell, or_unknown}
 use Rattle.dft_logic.specs.Circuit.{flag_at}
 use Rattle.dft_logic.specs.Values.{value_at}
 use Rattle.dft_sweep.specs.declared.field.Stuck.{Stuck}
-use Rattle.dft_sweep.specs.Chunks.{AreBusy}
+use Rattle.dft_sweep.specs.Places.{AreBusy}
 use Rattle.dft_sweep.specs.Fields.{IsGivenIf, is_needed}
 use Rattle.dft_faults.specs.declared.fault.Fault.{Fault}
 use Rattle.dft_seek.specs.Assigned.{bit_of_net, is_at}

@@ -15,7 +15,7 @@ use Rattle.dft_logic.specs.declared.circuit.Circuit.{Circuit}
 use Rattle.dft_logic.specs.Circuit.{IsCircuit, flag_at, meaning, op_at}
 use Rattle.dft_logic.specs.Tables.{IsTable}
 use Rattle.dft_sweep.specs.declared.field.Stuck.{Stuck}
-use Rattle.dft_sweep.specs.Chunks.{ArePlaces}
+use Rattle.dft_sweep.specs.Places.{ArePlaces}
 use Rattle.dft_sweep.specs.Fields.{IsGivenBy, IsGivenIf, bit_at, with_bit}
 use Rattle.dft_capture.specs.Captures.{meaning_in}
 use Rattle.dft_faults.specs.declared.fault.Fault.{Fault}

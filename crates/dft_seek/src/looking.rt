@@ -5,7 +5,7 @@ ghost use Rattle.std.specs.List.{list_all, list_any};
 ghost use Rattle.dft_netlist.specs.Orders.{Has};
 ghost use Rattle.dft_logic.specs.Circuit.{flag_at};
 ghost use Rattle.dft_logic.specs.Values as values_of;
-ghost use Rattle.dft_sweep.specs.Chunks.{AreBusy};
+ghost use Rattle.dft_sweep.specs.Places.{AreBusy};
 ghost use Rattle.dft_sweep.specs.Fields.{IsGivenIf};
 ghost use Rattle.dft_seek.specs.Nodes as spec;
 ghost use Rattle.dft_seek.specs.Nodes.{AreSettledFor, IsNear, IsSettled};
@@ -73,6 +73,23 @@ fn agree(one: Tri, other: Tri) -> bool
     }
 }
 
+// How two values compare: whether both are known and differ, and whether both are known and agree.
+#[derive(Clone, Copy)]
+struct Compared {
+    differs: bool,
+    agrees: bool,
+}
+
+fn compared(one: Tri, other: Tri) -> Compared
+    ensures differs { result.differs ≡ searches.differ one other }
+    ensures agrees { result.agrees ≡ searches.agree one other }
+{
+    Compared {
+        differs: differ(one, other),
+        agrees: agree(one, other),
+    }
+}
+
 // Whether a value is known to be this bit.
 fn is_bit(bit: bool, value: Tri) -> bool
     ensures { result ≡ trees.is_bit bit value }
@@ -114,53 +131,58 @@ impl Rig<'_> {
         }
     }
 
-    // Whether a cell detects the fault.
-    fn detects(&self, cells: &[InstanceId], good: &Sight<'_>, bad: &Sight<'_>) -> bool
-        ensures { result ≡ list_any (λ cell. searches.differ (spec.captured_at self.now good.now.first.now good.now.second.now cell.0) (spec.captured_at self.now bad.now.first.now bad.now.second.now cell.0)) cells.now }
+    // How the designs compare at a cell. What the faulty one captures is not asked where the other captures an unknown.
+    fn compare_cell(&self, cell: InstanceId, good: &Sight<'_>, bad: &Sight<'_>) -> Compared
+        ensures differs { result.differs ≡ searches.differ (spec.captured_at self.now good.now.first.now good.now.second.now cell.0) (spec.captured_at self.now bad.now.first.now bad.now.second.now cell.0) }
+        ensures agrees { result.agrees ≡ searches.agree (spec.captured_at self.now good.now.first.now good.now.second.now cell.0) (spec.captured_at self.now bad.now.first.now bad.now.second.now cell.0) }
     {
-        for cell in cells {
-            if differ(self.captured(*cell, good), self.captured(*cell, bad)) {
-                return true;
-            }
+        let value = self.captured(cell, good);
+        match value {
+            Tri::Unknown => Compared {
+                differs: false,
+                agrees: false,
+            },
+            Tri::Zero | Tri::One => compared(value, self.captured(cell, bad)),
         }
-        false
     }
 
-    // Whether all cells agree.
-    fn agrees(&self, cells: &[InstanceId], good: &Sight<'_>, bad: &Sight<'_>) -> bool
-        ensures { result ≡ list_all (λ cell. searches.agree (spec.captured_at self.now good.now.first.now good.now.second.now cell.0) (spec.captured_at self.now bad.now.first.now bad.now.second.now cell.0)) cells.now }
+    // Whether the designs differ at a cell, and if at none, whether they agree at all.
+    fn compare_cells(&self, cells: &[InstanceId], good: &Sight<'_>, bad: &Sight<'_>) -> Compared
+        ensures differs { result.differs ≡ list_any (λ cell. searches.differ (spec.captured_at self.now good.now.first.now good.now.second.now cell.0) (spec.captured_at self.now bad.now.first.now bad.now.second.now cell.0)) cells.now }
+        ensures agrees { result.differs ≡ false → result.agrees ≡ list_all (λ cell. searches.agree (spec.captured_at self.now good.now.first.now good.now.second.now cell.0) (spec.captured_at self.now bad.now.first.now bad.now.second.now cell.0)) cells.now }
     {
+        let mut agrees = true;
         for cell in cells {
-            if !agree(self.captured(*cell, good), self.captured(*cell, bad)) {
-                return false;
+            let here = self.compare_cell(*cell, good, bad);
+            if here.differs {
+                return here;
             }
+            agrees = agrees && here.agrees;
         }
-        true
+        Compared {
+            differs: false,
+            agrees,
+        }
     }
 }
 
-// Whether the value of one of the nets differs.
-fn any_differs(nets: &[NetId], good: &[Tri], bad: &[Tri]) -> bool
-    ensures { result ≡ list_any (λ net. searches.differ (values_of.value_at good.now net.0) (values_of.value_at bad.now net.0)) nets.now }
+// Whether the designs differ at a net, and if at none, whether they agree at all.
+fn compare_nets(nets: &[NetId], good: &[Tri], bad: &[Tri]) -> Compared
+    ensures differs { result.differs ≡ list_any (λ net. searches.differ (values_of.value_at good.now net.0) (values_of.value_at bad.now net.0)) nets.now }
+    ensures agrees { result.differs ≡ false → result.agrees ≡ list_all (λ net. searches.agree (values_of.value_at good.now net.0) (values_of.value_at bad.now net.0)) nets.now }
 {
+    let mut agrees = true;
     for net in nets {
-        if differ(value_at(good, net.0), value_at(bad, net.0)) {
-            return true;
+        let here = compared(value_at(good, net.0), value_at(bad, net.0));
+        if here.differs {
+            return here;
         }
+        agrees = agrees && here.agrees;
     }
-    false
-}
-
-// Whether the values of all nets agree.
-fn all_agree(nets: &[NetId], good: &[Tri], bad: &[Tri]) -> bool
-    ensures { result ≡ list_all (λ net. searches.agree (values_of.value_at good.now net.0) (values_of.value_at bad.now net.0)) nets.now }
-{
-    for net in nets {
-        if !agree(value_at(good, net.0), value_at(bad, net.0)) {
-            return false;
-        }
+    Compared {
+        differs: false,
+        agrees,
     }
-    true
 }
 
 // ---- the verdict
@@ -187,19 +209,20 @@ impl Rig<'_> {
             && (!self.any_falls || is_bit(fault.value, value_at(good.second, fault.net.0)))
     }
 
-    // Whether a point detects the fault.
-    fn is_found(&self, cone: &Cone, good: &Sight<'_>, bad: &Sight<'_>) -> bool
-        ensures { result ≡ spec.found_at self.now cone.now good.now.first.now good.now.second.now bad.now.first.now bad.now.second.now }
+    // Whether a point detects the fault, and if none does, whether all agree.
+    fn compare(&self, cone: &Cone, good: &Sight<'_>, bad: &Sight<'_>) -> Compared
+        ensures differs { result.differs ≡ spec.found_at self.now cone.now good.now.first.now good.now.second.now bad.now.first.now bad.now.second.now }
+        ensures agrees { result.differs ≡ false → result.agrees ≡ spec.same_at self.now cone.now good.now.first.now good.now.second.now bad.now.first.now bad.now.second.now }
     {
-        any_differs(&cone.outputs, good.first, bad.first)
-            || self.detects(&cone.responses, good, bad)
-    }
-
-    // Whether all points agree.
-    fn is_same(&self, cone: &Cone, good: &Sight<'_>, bad: &Sight<'_>) -> bool
-        ensures { result ≡ spec.same_at self.now cone.now good.now.first.now good.now.second.now bad.now.first.now bad.now.second.now }
-    {
-        all_agree(&cone.outputs, good.first, bad.first) && self.agrees(&cone.responses, good, bad)
+        let outputs = compare_nets(&cone.outputs, good.first, bad.first);
+        if outputs.differs {
+            return outputs;
+        }
+        let cells = self.compare_cells(&cone.responses, good, bad);
+        Compared {
+            differs: cells.differs,
+            agrees: outputs.agrees && cells.agrees,
+        }
     }
 
     // What a node is, by what is read at it, and whether every variable has a bit there.
@@ -213,9 +236,9 @@ impl Rig<'_> {
     ) -> Verdict
         ensures { spec.verdict result ≡ trees.verdict_of (spec.found_at self.now cone.now good.now.first.now good.now.second.now bad.now.first.now bad.now.second.now) (spec.stays_at self.now fault good.now.first.now good.now.second.now || (spec.same_at self.now cone.now good.now.first.now good.now.second.now bad.now.first.now bad.now.second.now || whole)) }
     {
-        let found = self.is_found(cone, good, bad);
-        let dead = self.stays(fault, good) || (self.is_same(cone, good, bad) || whole);
-        verdict_of(found, dead)
+        let points = self.compare(cone, good, bad);
+        let dead = self.stays(fault, good) || (points.agrees || whole);
+        verdict_of(points.differs, dead)
     }
 }
 

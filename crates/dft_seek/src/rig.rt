@@ -2,7 +2,7 @@
 
 ghost use Rattle.std.specs.Prelude.{◌≡◌, true, length, replicate, IfOk};
 ghost use Rattle.dft_logic.specs.Circuit.{IsCircuit};
-ghost use Rattle.dft_sweep.specs.Chunks.{AreBusy, ArePlaces};
+ghost use Rattle.dft_sweep.specs.Places.{AreBusy, ArePlaces};
 ghost use Rattle.dft_seek.specs.Rigs.{IsBase, IsRig};
 
 use crate::pins::Pins;

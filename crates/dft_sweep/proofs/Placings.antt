@@ -1,9 +1,12 @@
--- Nets are told their places in an order.
-use Rattle.std.proofs.Common.{ℕ, zero, suc, Bool, true, false, List, [], ◌∷◌, ◌≡◌, ◌<◌, ◌≤◌, ◌+◌, ◌*◌, ◌/◌, ◌⊎◌, inl, inr, length, drop, drop-cons, add-one, refl, sym, ap, ◌∙◌, subst, get_or, slice_set, get_or-set_same, get_or-set_other, true≢false, arith}
+-- Nets are told their places in an order, and places that are not busy are passed over.
+use Rattle.std.proofs.Common.{ℕ, zero, suc, Bool, true, false, List, [], ◌∷◌, ◌≡◌, ◌<◌, ◌≤◌, ◌+◌, ◌-◌, ◌*◌, ◌/◌, ◌%◌, ◌^◌, ◌||◌, ◌⊎◌, inl, inr, length, drop, drop-cons, add-one, refl, sym, ap, ◌∙◌, subst, get_or, slice_set, get_or-set_same, get_or-set_other, true≢false, arith}
 use Rattle.std.proofs.lemmas.Bool.Decides.{eqb_tells, leb_tells}
-use Rattle.std.proofs.lemmas.List.{drop_all, get_or-replicate, get_or_past, length-replicate}
-use Rattle.std.specs.Prelude.{replicate}
-use Rattle.std.proofs.Math.Nat.{div-eq_of_lt-le}
+use Rattle.std.proofs.lemmas.Bool.{le-leb, lt-leb, leb-true, or_cases, or_right}
+use Rattle.std.proofs.lemmas.List.{drop_all, get_or-replicate, get_or_past, length-replicate, length-set}
+use Rattle.std.proofs.lemmas.Nat.{and_le_l}
+use Rattle.std.proofs.lemmas.Nat.Bits.{bit_at-lt, bit_at-trailing_zeros, bit_at-zero, bit_at_and, bit_at_mask_below, bit_at_mask_inside, bit_at_ones, bit_at_set_other, bit_at_set_same, ones_shl}
+use Rattle.std.specs.Int.{bit_at, trailing_zeros, w64}
+use Rattle.std.specs.Prelude.{bit_and, bit_or, min, nat_le, replicate, ◌==◌, if◌then◌else◌}
 use Rattle.dft_base.specs.declared.tri.Tri.{Tri}
 use Rattle.dft_netlist.specs.declared.ids.NetId.{NetId}
 use Rattle.dft_netlist.specs.Logic.{Meaning}
@@ -12,7 +15,7 @@ use Rattle.dft_netlist.specs.Orders.{Has, numbers_of}
 use Rattle.dft_logic.specs.declared.circuit.Op.{Op}
 use Rattle.dft_logic.specs.declared.circuit.Circuit.{Circuit}
 use Rattle.dft_logic.specs.Circuit.{AreOrdered, IsCircuit, flag_at}
-use Rattle.dft_sweep.specs.Chunks.{ArePlaces, chunk_at, group_at, is_busy, net_at, place_at}
+use Rattle.dft_sweep.specs.Places.{ArePlaces, is_busy, net_at, place_at}
 use Rattle.dft_sweep.specs.Sweepings.{Sweeping}
 use Rattle.dft_sweep.proofs.Sweeps.{sweeping_more}
 
@@ -58,12 +61,23 @@ placing_more ops order places j less size p =
 pub placing_ends : (x : Circuit) (places : List ℕ) (j : ℕ) → length x.order.items ≤ j → Placing x.ops.items x.order.items places j → ArePlaces x places
 placing_ends x places j past p = λ i less. (p.placed i (omega arith) less).0
 
--- ---- flags that are all up or all down
+-- ---- words that are all ones or all zeros
 
-all_up : (n k : ℕ) → get_or (replicate n true) k true ≡ true
-all_up n k = elim (leb_tells n k) [
-  | inl out ↦ get_or_past (replicate n true) k true (let past = out.1 in let e = length-replicate n true in omega arith)
-  | inr less ↦ get_or-replicate n k true true less.1
+-- a place is busy whose bit is 1, and so is one past the last word
+busy_here : (busy : List ℕ) (p : ℕ) → bit_at (get_or busy (p / 64) 0) (p % 64) ≡ 1 → is_busy busy p ≡ true
+busy_here busy p one = or_right (nat_le (length busy) (p / 64)) (bit_at (get_or busy (p / 64) 0) (p % 64) == 1) (ap (λ (v : ℕ). v == 1) one)
+
+pub busy_past : (busy : List ℕ) (p : ℕ) → length busy ≤ p / 64 → is_busy busy p ≡ true
+busy_past busy p past = ap (λ (b : Bool). b || bit_at (get_or busy (p / 64) 0) (p % 64) == 1) (le-leb (length busy) (p / 64) past)
+
+-- no other is
+idle_here : (busy : List ℕ) (p : ℕ) → p / 64 < length busy → bit_at (get_or busy (p / 64) 0) (p % 64) ≡ 0 → is_busy busy p ≡ false
+idle_here busy p there zero_bit = ap (λ (b : Bool). b || bit_at (get_or busy (p / 64) 0) (p % 64) == 1) (lt-leb (length busy) (p / 64) there) ∙ ap (λ (v : ℕ). v == 1) zero_bit
+
+all_ones : (m p : ℕ) → is_busy (replicate m (2 ^ 64 - 1)) p ≡ true
+all_ones m p = elim (leb_tells m (p / 64)) [
+  | inl out ↦ busy_past (replicate m (2 ^ 64 - 1)) p (let past = out.1 in let e = length-replicate m (2 ^ 64 - 1) in omega (arith, past, e))
+  | inr less ↦ busy_here (replicate m (2 ^ 64 - 1)) p (ap (λ (w : ℕ). bit_at w (p % 64)) (get_or-replicate m (p / 64) (2 ^ 64 - 1) 0 less.1) ∙ bit_at_ones 64 (p % 64) (omega arith))
 ]
 
 none_up : (n k : ℕ) → flag_at (replicate n false) k ≡ false
@@ -72,10 +86,92 @@ none_up n k = elim (leb_tells n k) [
   | inr less ↦ get_or-replicate n k false false less.1
 ]
 
--- where a net is marked all are, and all chunks are busy
-pub all_busy : (n m : ℕ) (up : Bool) (marked busy : List Bool) (k chunk : ℕ) → marked ≡ replicate n up → busy ≡ replicate m up → flag_at marked k ≡ true → is_busy busy chunk ≡ true
-all_busy n m true marked busy k chunk e f is = ap (λ (l : List Bool). is_busy l chunk) f ∙ all_up m chunk
-all_busy n m false marked busy k chunk e f is = absurd (true≢false (sym is ∙ ap (λ (l : List Bool). flag_at l k) e ∙ none_up n k))
+-- where a net is marked all are, and all places are busy
+pub all_busy : (n m : ℕ) (up : Bool) (marked : List Bool) (busy : List ℕ) (k p : ℕ) → marked ≡ replicate n up → busy ≡ replicate m (if up then 2 ^ 64 - 1 else 0) → flag_at marked k ≡ true → is_busy busy p ≡ true
+all_busy n m true marked busy k p e f is = ap (λ (l : List ℕ). is_busy l p) f ∙ all_ones m p
+all_busy n m false marked busy k p e f is = absurd (true≢false (sym is ∙ ap (λ (l : List Bool). flag_at l k) e ∙ none_up n k))
+
+-- ---- a place is noted
+
+-- the word of a place that is noted, with its bit
+abbrev pub noted : (busy : List ℕ) → (place : ℕ) → List ℕ
+noted busy place = slice_set busy (place / 64) (bit_or (get_or busy (place / 64) 0) (1 * 2 ^ (place % 64) % 2 ^ 64))
+
+pub noted_here : (busy : List ℕ) (place : ℕ) → place / 64 < length busy → is_busy (noted busy place) place ≡ true
+noted_here busy place there = busy_here (noted busy place) place
+    (ap (λ (w : ℕ). bit_at w (place % 64)) (get_or-set_same busy (place / 64) (bit_or (get_or busy (place / 64) 0) (1 * 2 ^ (place % 64) % 2 ^ 64)) 0 there) ∙ bit_at_set_same w64 (get_or busy (place / 64) 0) (place % 64) (omega arith))
+
+-- a bit that was 1 is 1
+bit_stays : (word i k : ℕ) → i < 64 → k < 64 → (bit_at word k == 1) ≡ true → (bit_at (bit_or word (1 * 2 ^ i % 2 ^ 64)) k == 1) ≡ true
+bit_stays word i k fits less one = elim (eqb_tells k i) [
+  | inl same ↦ ap (λ (j : ℕ). bit_at (bit_or word (1 * 2 ^ i % 2 ^ 64)) j == 1) same.1 ∙ ap (λ (v : ℕ). v == 1) (bit_at_set_same w64 word i fits)
+  | inr other ↦ ap (λ (v : ℕ). v == 1) (bit_at_set_other w64 word i fits k other.1) ∙ one
+]
+
+-- what was busy is busy
+pub noted_other : (busy : List ℕ) (place p : ℕ) → place / 64 < length busy → is_busy busy p ≡ true → is_busy (noted busy place) p ≡ true
+noted_other busy place p there was = elim (or_cases (nat_le (length busy) (p / 64)) (bit_at (get_or busy (p / 64) 0) (p % 64) == 1) was) [
+  | inl past ↦ busy_past (noted busy place) p (let out = leb-true (length busy) (p / 64) past in let e = length-set busy (place / 64) (bit_or (get_or busy (place / 64) 0) (1 * 2 ^ (place % 64) % 2 ^ 64)) in omega (arith, out, e))
+  | inr one ↦ or_right (nat_le (length (noted busy place)) (p / 64)) (bit_at (get_or (noted busy place) (p / 64) 0) (p % 64) == 1) (elim (eqb_tells (p / 64) (place / 64)) [
+    | inl same ↦ (let word : ℕ = get_or busy (place / 64) 0 in
+        let now : get_or (noted busy place) (p / 64) 0 ≡ bit_or word (1 * 2 ^ (place % 64) % 2 ^ 64) = ap (λ (j : ℕ). get_or (noted busy place) j 0) same.1 ∙ get_or-set_same busy (place / 64) (bit_or word (1 * 2 ^ (place % 64) % 2 ^ 64)) 0 there in
+        ap (λ (w : ℕ). bit_at w (p % 64) == 1) now ∙ bit_stays word (place % 64) (p % 64) (omega arith) (omega arith) (ap (λ (j : ℕ). bit_at (get_or busy j 0) (p % 64) == 1) (sym same.1) ∙ one))
+    | inr other ↦ ap (λ (w : ℕ). bit_at w (p % 64) == 1) (get_or-set_other busy (place / 64) (p / 64) (bit_or (get_or busy (place / 64) 0) (1 * 2 ^ (place % 64) % 2 ^ 64)) 0 other.1) ∙ one
+  ])
+]
+
+-- ---- the next place of a word
+
+-- the bits of a word from a place on
+abbrev pub rest_of : (word from : ℕ) → ℕ
+rest_of word from = bit_and word ((2 ^ 64 - 1) * 2 ^ from % 2 ^ 64)
+
+min_one : (b : ℕ) → b < 2 → min b 1 ≡ b
+min_one zero small = refl
+min_one (suc zero) small = refl
+min_one (suc (suc b)) small = absurd (omega (arith, small))
+
+min_zero : (b : ℕ) → min b 0 ≡ 0
+min_zero b = omega arith
+
+kept : (word from i : ℕ) → from ≤ 64 → from ≤ i → i < 64 → bit_at (rest_of word from) i ≡ bit_at word i
+kept word from i within low high =
+    ap (λ (m : ℕ). bit_at (bit_and word m) i) (ones_shl 64 from within) ∙ bit_at_and word (2 ^ 64 - 2 ^ from) i ∙ ap (min (bit_at word i)) (bit_at_mask_inside from 64 i low high) ∙ min_one (bit_at word i) (bit_at-lt word i)
+
+cut : (word from i : ℕ) → from ≤ 64 → i < from → bit_at (rest_of word from) i ≡ 0
+cut word from i within low =
+    ap (λ (m : ℕ). bit_at (bit_and word m) i) (ones_shl 64 from within) ∙ bit_at_and word (2 ^ 64 - 2 ^ from) i ∙ ap (min (bit_at word i)) (bit_at_mask_below from 64 i low) ∙ min_zero (bit_at word i)
+
+-- what is left is no more than the word
+pub rest_fits : (word from : ℕ) → word < 2 ^ 64 → rest_of word from < 2 ^ 64
+rest_fits word from fits = (let h = and_le_l word ((2 ^ 64 - 1) * 2 ^ from % 2 ^ 64) in omega (arith, h, fits))
+
+-- where nothing is left, no bit from here on is 1
+pub none_ahead : (word from i : ℕ) → from ≤ 64 → rest_of word from ≡ 0 → from ≤ i → i < 64 → bit_at word i ≡ 0
+none_ahead word from i within none low high = sym (kept word from i within low high) ∙ ap (λ (w : ℕ). bit_at w i) none ∙ bit_at-zero i
+
+-- the lowest bit that is left is here or further on, and none is 1 in between
+pub next_ahead : (word from : ℕ) → from ≤ 64 → 0 < rest_of word from → rest_of word from < 2 ^ 64 →
+    (from ≤ trailing_zeros w64 (rest_of word from)) × (trailing_zeros w64 (rest_of word from) < 64) × ((k : ℕ) → from ≤ k → k < trailing_zeros w64 (rest_of word from) → bit_at word k ≡ 0)
+next_ahead word from within some fits =
+    let lowest = bit_at-trailing_zeros w64 (rest_of word from) some fits in
+    let at : ℕ = trailing_zeros w64 (rest_of word from) in (
+      elim (leb_tells from at) [
+        | inl here ↦ here.1
+        | inr before ↦ absurd (let e : 0 ≡ 1 = sym (cut word from at within before.1) ∙ lowest.1 in let f : ⊥ = cc in f)
+      ],
+      lowest.0,
+      λ k low before. sym (kept word from k within low (let h = lowest.0 in omega (arith, before, h))) ∙ lowest.2 k before,
+    )
+
+-- ---- the next place of all
+
+-- the places of a word of which these are no bits are idle
+pub word_idle : (busy : List ℕ) (word from end p : ℕ) → word < length busy → ((k : ℕ) → from ≤ k → k < end → bit_at (get_or busy word 0) k ≡ 0) → end ≤ 64 → word * 64 + from ≤ p → p < word * 64 + end → is_busy busy p ≡ false
+word_idle busy word from end p there zeros few low high =
+    let at : p / 64 ≡ word = omega arith in
+    let rest : p % 64 ≡ p - word * 64 = omega arith in
+    idle_here busy p (omega arith) (ap (λ (j : ℕ). bit_at (get_or busy j 0) (p % 64)) at ∙ zeros (p % 64) (omega arith) (omega arith))
 
 -- ---- nets that are passed over
 
@@ -103,24 +199,19 @@ sweeping_skips ops needed means sources order values marked j (suc d) down s =
           (λ k up. inl (up, λ e. (let F : ℕ → Bool = flag_at marked in true≢false (sym up ∙ ap F e ∙ low))))))
     ]
 
--- a chunk that is not busy has no marked net
-pub idle : (x : Circuit) (places : List ℕ) (marked busy : List Bool) (chunk i : ℕ) → ArePlaces x places → ((k : ℕ) → flag_at marked k ≡ true → is_busy busy (chunk_at places k) ≡ true) →
-    is_busy busy chunk ≡ false → chunk * 16 ≤ i → i < chunk * 16 + 16 → i < length x.order.items → flag_at marked (net_at x.order.items i).0 ≡ false
-idle x places marked busy chunk i are all down low high less = down_or (flag_at marked (net_at x.order.items i).0) refl where
-  here : chunk_at places (net_at x.order.items i).0 ≡ chunk
-  here = (let D : ℕ → ℕ = λ n. n / 16 in ap D (are i less) ∙ div-eq_of_lt-le 16 low (omega arith))
-
+-- at a place that is not busy no marked net stands
+pub idle : (x : Circuit) (places : List ℕ) (marked : List Bool) (busy : List ℕ) (i : ℕ) → ArePlaces x places → ((k : ℕ) → flag_at marked k ≡ true → is_busy busy (place_at places k) ≡ true) →
+    is_busy busy i ≡ false → i < length x.order.items → flag_at marked (net_at x.order.items i).0 ≡ false
+idle x places marked busy i are all down less = down_or (flag_at marked (net_at x.order.items i).0) refl where
   down_or : (b : Bool) → flag_at marked (net_at x.order.items i).0 ≡ b → flag_at marked (net_at x.order.items i).0 ≡ false
   down_or false is = is
-  down_or true is = (let B : ℕ → Bool = is_busy busy in absurd (true≢false (sym (all (net_at x.order.items i).0 is) ∙ ap B here ∙ down)))
+  down_or true is = absurd (true≢false (sym (all (net_at x.order.items i).0 is) ∙ ap (is_busy busy) (are i less) ∙ down))
 
--- nor has a group that is not busy
-pub idle_group : (x : Circuit) (places : List ℕ) (marked busy : List Bool) (group i : ℕ) → ArePlaces x places → ((k : ℕ) → flag_at marked k ≡ true → is_busy busy (group_at places k) ≡ true) →
-    is_busy busy group ≡ false → group * 256 ≤ i → i < group * 256 + 256 → i < length x.order.items → flag_at marked (net_at x.order.items i).0 ≡ false
-idle_group x places marked busy group i are all down low high less = down_or (flag_at marked (net_at x.order.items i).0) refl where
-  here : group_at places (net_at x.order.items i).0 ≡ group
-  here = (let D : ℕ → ℕ = λ n. n / 256 in ap D (are i less) ∙ div-eq_of_lt-le 256 low (omega arith))
-
-  down_or : (b : Bool) → flag_at marked (net_at x.order.items i).0 ≡ b → flag_at marked (net_at x.order.items i).0 ≡ false
-  down_or false is = is
-  down_or true is = (let B : ℕ → Bool = is_busy busy in absurd (true≢false (sym (all (net_at x.order.items i).0 is) ∙ ap B here ∙ down)))
+-- the places up to the next busy one are passed over
+pub sweeping_goes : (x : Circuit) (places : List ℕ) (needed : List Bool) (means : ℕ → Meaning) (sources : TriSources) (values : List Tri) (marked : List Bool) (busy : List ℕ) (j m : ℕ) → ArePlaces x places →
+    ((k : ℕ) → flag_at marked k ≡ true → is_busy busy (place_at places k) ≡ true) → j ≤ m → ((p : ℕ) → j ≤ p → p < m → is_busy busy p ≡ false) →
+    Sweeping x.ops.items needed means sources x.order.items values marked j → Sweeping x.ops.items needed means sources x.order.items values marked m
+sweeping_goes x places needed means sources values marked busy j m are all up none s =
+    let P : ℕ → Type 0 = λ n. Sweeping x.ops.items needed means sources x.order.items values marked n in
+    let e : j + (m - j) ≡ m = omega arith in
+    subst P e (sweeping_skips x.ops.items needed means sources x.order.items values marked j (m - j) (λ i low high less. idle x places marked busy i are all (none i low (omega arith)) less) s)

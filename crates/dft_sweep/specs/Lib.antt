@@ -1,3 +1,3 @@
-pub mod Chunks
 pub mod Fields
+pub mod Places
 pub mod Sweepings

@@ -1,26 +1,24 @@
 //! Nets that are marked, and where in the order of a circuit they stand.
 
-ghost use Rattle.std.specs.Prelude.{◌≡◌, ◌<◌, ◌≤◌, ◌^◌, ℕ, List, length, slice_set, replicate, true, false, IfOk, if◌then◌else◌};
+ghost use Rattle.std.specs.Prelude.{◌≡◌, ◌<◌, ◌≤◌, ◌-◌, ◌^◌, ℕ, List, length, slice_set, replicate, true, false, IfOk, MatchOption, if◌then◌else◌};
+ghost use Rattle.std.specs.Int.{bit_at};
 ghost use Rattle.dft_logic.specs.Circuit.{IsCircuit};
-ghost use Rattle.dft_sweep.specs.Chunks.{AreBusy, ArePlaces, is_busy as can_be_busy, place_at};
+ghost use Rattle.dft_sweep.specs.Places.{AreBusy, ArePlaces, is_busy, place_at};
 ghost use Rattle.dft_sweep.specs.Fields.{is_needed as are_needed};
 
 use dft_logic::Circuit;
 use dft_netlist::NetId;
 use std::alloc::{AllocError, Global};
 
-// How many nets of the order make a chunk, and how many a group of chunks.
-pub(crate) const CHUNK: usize = 16;
+// The places of a word.
+const WORD: usize = 64;
 
-pub(crate) const GROUP: usize = 256;
-
-/// Which nets are marked, by net, and which chunks and which groups of chunks of the circuit's order may have a marked one: one
-/// that is not told of here may have one.
+/// Which nets are marked, by net, and at which places of the circuit's order a marked net may stand, as packed bits: at one past
+/// the last word one may.
 #[derive(Drop)]
 pub struct Marks {
     pub marked: Vec<bool>,
-    pub busy: Vec<bool>,
-    pub groups: Vec<bool>,
+    pub busy: Vec<u64>,
 }
 
 // The place of a net in the order, by the places of nets.
@@ -30,16 +28,6 @@ fn place_of(places: &[u32], net: NetId) -> usize
     match places.get(net.0 as usize) {
         Some(place) => *place as usize,
         None => 0,
-    }
-}
-
-// Whether a chunk or a group may have a marked net.
-pub(crate) fn is_busy(busy: &[bool], part: usize) -> bool
-    ensures { result ≡ can_be_busy busy.now part }
-{
-    match busy.get(part) {
-        Some(busy) => *busy,
-        None => true,
     }
 }
 
@@ -53,21 +41,50 @@ pub(crate) fn is_needed(needed: &[bool], net: NetId) -> bool
     }
 }
 
-// From now on a chunk or a group may have a marked net.
-fn note(busy: &mut [bool], part: usize)
-    ensures here { can_be_busy busy.new part ≡ true }
-    ensures other { (c : ℕ) → can_be_busy busy.old c ≡ true → can_be_busy busy.new c ≡ true }
+// From now on a marked net may stand at a place.
+fn note(busy: &mut [u64], place: usize)
+    ensures here { is_busy busy.new place ≡ true }
+    ensures other { (p : ℕ) → is_busy busy.old p ≡ true → is_busy busy.new p ≡ true }
 {
-    if part < busy.len() {
-        busy[part] = true;
+    if place / WORD < busy.len() {
+        busy[place / WORD] |= 1 << (place % WORD);
     }
 }
 
-// No chunk and no group has a marked net.
-pub(crate) fn rest(busy: &mut [bool]) {
-    for flag in busy.iter_mut() {
-        *flag = false;
+// No marked net stands anywhere.
+pub(crate) fn rest(busy: &mut [u64]) {
+    for word in busy.iter_mut() {
+        *word = 0;
     }
+}
+
+// The first place of a word from this one on whose bit is 1.
+fn ahead(word: u64, from: usize) -> Option<usize>
+    requires { from < 64 }
+    ensures { MatchOption result ((i : ℕ) → from ≤ i → i < 64 → bit_at word i ≡ 0) (λ i. (from ≤ i) × (i < 64) × ((k : ℕ) → from ≤ k → k < i → bit_at word k ≡ 0)) }
+{
+    let rest = word & (u64::MAX << from);
+    if rest == 0 {
+        None
+    } else {
+        Some(rest.trailing_zeros() as usize)
+    }
+}
+
+// The first place from this one on at which a marked net may stand, or one past the end.
+pub(crate) fn next_busy(busy: &[u64], from: usize, end: usize) -> usize
+    requires { end < 2 ^ 62 }
+    ensures low { from ≤ result }
+    ensures idle { (p : ℕ) → from ≤ p → p < result → is_busy busy.now p ≡ false }
+{
+    let mut at = from;
+    for word in from / WORD..busy.len().min(end / WORD + 1) {
+        if let Some(place) = ahead(busy[word], at % WORD) {
+            return word * WORD + place;
+        }
+        at = word * WORD + WORD;
+    }
+    at
 }
 
 // So many flags, all up or all down.
@@ -75,6 +92,14 @@ fn flags(alloc: Global, count: usize, up: bool) -> Result<Vec<bool>, AllocError>
     ensures { IfOk result (λ flags. flags.items ≡ replicate count up) }
 {
     vec![in alloc; up; count]
+}
+
+// So many words, of ones or of zeros.
+fn words(alloc: Global, count: usize, up: bool) -> Result<Vec<u64>, AllocError>
+    ensures { IfOk result (λ words. words.items ≡ replicate count (if up then 2 ^ 64 - 1 else 0)) }
+{
+    let word = if up { u64::MAX } else { 0 };
+    vec![in alloc; word; count]
 }
 
 // So many places 0.
@@ -92,8 +117,7 @@ impl Marks {
     {
         Ok(Marks {
             marked: flags(alloc, count, marked)?,
-            busy: flags(alloc, count / CHUNK + 1, marked)?,
-            groups: flags(alloc, count / GROUP + 1, marked)?,
+            busy: words(alloc, count / WORD + 1, marked)?,
         })
     }
 
@@ -104,9 +128,7 @@ impl Marks {
         ensures busy { AreBusy places.now self.old → AreBusy places.now self.new }
     {
         self.marked[net.0 as usize] = true;
-        let place = place_of(places, net);
-        note(&mut self.busy, place / CHUNK);
-        note(&mut self.groups, place / GROUP);
+        note(&mut self.busy, place_of(places, net));
     }
 
     /// Marks a net, if it is needed, by the places of nets.

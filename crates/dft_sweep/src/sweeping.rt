@@ -6,13 +6,13 @@ ghost use Rattle.dft_netlist.specs.Orders.{Has};
 ghost use Rattle.dft_netlist.specs.Settled.{value_given};
 ghost use Rattle.dft_logic.specs.Circuit.{meaning, op_at, IsCircuit, flag_at as is_up};
 ghost use Rattle.dft_logic.specs.Values as spec;
-ghost use Rattle.dft_sweep.specs.Chunks.{AreBusy, ArePlaces};
+ghost use Rattle.dft_sweep.specs.Places.{AreBusy, ArePlaces};
 ghost use Rattle.dft_sweep.specs.Fields.{IsGiven, bit_at, is_needed as are_needed, meaning_at, sources_of};
 ghost use Rattle.dft_sweep.specs.Sweepings.{AreSwept};
 
 use crate::field::{Field, Stuck};
 use crate::gates::op_value;
-use crate::marks::{CHUNK, GROUP, Marks, is_busy, is_needed, rest};
+use crate::marks::{Marks, is_needed, next_busy, rest};
 use dft_base::Tri;
 use dft_logic::{differ, list_of};
 use dft_netlist::NetId;
@@ -130,88 +130,6 @@ fn settle_marked(field: &Field<'_>, net: NetId, values: &mut [Tri], marks: &mut 
     }
 }
 
-// Evaluates the marked nets of a chunk of the circuit's order, from its first place to its last one.
-fn sweep_places(field: &Field<'_>, first: usize, end: usize, values: &mut [Tri], marks: &mut Marks)
-    requires circuit { IsCircuit field.now.circuit.now }
-    requires values { length values.old ≡ length field.now.circuit.now.ops.items }
-    requires marked { length marks.old.marked.items ≡ length field.now.circuit.now.ops.items }
-    requires end { end ≤ length field.now.circuit.now.order.items }
-    requires order { first ≤ end }
-    requires swept { AreSwept field.now values.old marks.old first }
-    ensures size { length marks.new.marked.items ≡ length marks.old.marked.items }
-    ensures swept { AreSwept field.now values.new marks.new end }
-    ensures busy { AreBusy field.now.places.now marks.old → AreBusy field.now.places.now marks.new }
-{
-    for place in first..end {
-        settle_marked(field, field.circuit.order[place], values, marks);
-    }
-}
-
-// Evaluates the marked nets of a chunk of the circuit's order, if it has any.
-fn sweep_chunk(field: &Field<'_>, chunk: usize, values: &mut [Tri], marks: &mut Marks)
-    requires circuit { IsCircuit field.now.circuit.now }
-    requires places { ArePlaces field.now.circuit.now field.now.places.now }
-    requires values { length values.old ≡ length field.now.circuit.now.ops.items }
-    requires marked { length marks.old.marked.items ≡ length field.now.circuit.now.ops.items }
-    requires chunk { chunk * 16 ≤ length field.now.circuit.now.order.items }
-    requires busy { AreBusy field.now.places.now marks.old }
-    requires swept { AreSwept field.now values.old marks.old (chunk * 16) }
-    ensures size { length marks.new.marked.items ≡ length marks.old.marked.items }
-    ensures swept { AreSwept field.now values.new marks.new (chunk * 16 + 16) }
-    ensures busy { AreBusy field.now.places.now marks.new }
-{
-    if is_busy(&marks.busy, chunk) {
-        let first = chunk * CHUNK;
-        let end = field.circuit.order.len().min(first + CHUNK);
-        sweep_places(field, first, end, values, marks);
-    }
-}
-
-// Evaluates the marked nets of chunks of the circuit's order, from the first chunk to the last one.
-fn sweep_chunks(field: &Field<'_>, first: usize, end: usize, values: &mut [Tri], marks: &mut Marks)
-    requires circuit { IsCircuit field.now.circuit.now }
-    requires places { ArePlaces field.now.circuit.now field.now.places.now }
-    requires values { length values.old ≡ length field.now.circuit.now.ops.items }
-    requires marked { length marks.old.marked.items ≡ length field.now.circuit.now.ops.items }
-    requires end { end * 16 ≤ length field.now.circuit.now.order.items + 16 }
-    requires order { first ≤ end }
-    requires busy { AreBusy field.now.places.now marks.old }
-    requires swept { AreSwept field.now values.old marks.old (first * 16) }
-    ensures size { length marks.new.marked.items ≡ length marks.old.marked.items }
-    ensures swept { AreSwept field.now values.new marks.new (end * 16) }
-    ensures busy { AreBusy field.now.places.now marks.new }
-{
-    for chunk in first..end {
-        sweep_chunk(field, chunk, values, marks);
-    }
-}
-
-// Evaluates the marked nets of a group of chunks of the circuit's order, if it has any.
-fn sweep_group(field: &Field<'_>, group: usize, values: &mut [Tri], marks: &mut Marks)
-    requires circuit { IsCircuit field.now.circuit.now }
-    requires places { ArePlaces field.now.circuit.now field.now.places.now }
-    requires values { length values.old ≡ length field.now.circuit.now.ops.items }
-    requires marked { length marks.old.marked.items ≡ length field.now.circuit.now.ops.items }
-    requires group { group * 256 ≤ length field.now.circuit.now.order.items }
-    requires busy { AreBusy field.now.places.now marks.old }
-    requires swept { AreSwept field.now values.old marks.old (group * 256) }
-    ensures size { length marks.new.marked.items ≡ length marks.old.marked.items }
-    ensures swept { AreSwept field.now values.new marks.new (group * 256 + 256) }
-    ensures busy { AreBusy field.now.places.now marks.new }
-{
-    if is_busy(&marks.groups, group) {
-        let first = group * (GROUP / CHUNK);
-        let count = field.circuit.order.len() / CHUNK + 1;
-        sweep_chunks(
-            field,
-            first,
-            count.min(first + GROUP / CHUNK),
-            values,
-            marks,
-        );
-    }
-}
-
 // Evaluates the marked nets, in the circuit's order, and the needed readers of those that change.
 fn sweep(field: &Field<'_>, values: &mut [Tri], marks: &mut Marks)
     requires circuit { IsCircuit field.now.circuit.now }
@@ -224,8 +142,11 @@ fn sweep(field: &Field<'_>, values: &mut [Tri], marks: &mut Marks)
     ensures given { (k : ℕ) → IsGiven field.now values.new k }
     ensures clear { (k : ℕ) → is_up marks.new.marked.items k ≡ false }
 {
-    for group in 0..field.circuit.order.len() / GROUP + 1 {
-        sweep_group(field, group, values, marks);
+    let end = field.circuit.order.as_slice().len();
+    let mut place = next_busy(&marks.busy, 0, end);
+    while place < end {
+        settle_marked(field, field.circuit.order[place], values, marks);
+        place = next_busy(&marks.busy, place + 1, end);
     }
 }
 
@@ -245,5 +166,4 @@ pub fn settle(field: &Field<'_>, nets: &[u32], values: &mut [Tri], marks: &mut M
     refresh(field, nets, values, marks);
     sweep(field, values, marks);
     rest(&mut marks.busy);
-    rest(&mut marks.groups);
 }

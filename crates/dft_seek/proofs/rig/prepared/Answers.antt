@@ -11,7 +11,7 @@ use Rattle.dft_logic.specs.declared.circuit.Circuit.{Circuit}
 use Rattle.dft_logic.specs.declared.circuit.Op.{Op}
 use Rattle.dft_logic.specs.Circuit.{meaning, op_at}
 use Rattle.dft_logic.specs.Tables.{IsTable}
-use Rattle.dft_sweep.specs.Chunks.{ArePlaces}
+use Rattle.dft_sweep.specs.Places.{ArePlaces}
 use Rattle.dft_seek.specs.Rigs.{IsBase, cells_shown}
 use Rattle.dft_seek.specs.Prepared.{AreMoves, AreNets, AreWays, IsCompiled, search_for}
 use Rattle.dft_seek.specs.Searches.{Search}

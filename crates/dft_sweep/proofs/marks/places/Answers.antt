@@ -2,7 +2,7 @@
 use Rattle.std.proofs.Common.{ℕ, ◌≡◌, ◌+◌, ◌<◌, ◌∙◌, sym, ap, subst, length, slice_set, arith}
 use Rattle.std.proofs.lemmas.List.{get_or_default, length-set, length-replicate}
 use Rattle.dft_netlist.specs.declared.ids.NetId.{NetId}
-use Rattle.dft_sweep.specs.Chunks.{net_at}
+use Rattle.dft_sweep.specs.Places.{net_at}
 use Rattle.dft_sweep.proofs.Placings.{Placing, placing_ends, placing_live, placing_more, placing_starts}
 use Rattle.dft_sweep.proofs.marks.places.Goals as goal
 

@@ -1,6 +1,6 @@
 -- The needed nets before this one are marked.
 use Rattle.std.proofs.Common.{◌≡◌, length}
-use Rattle.dft_sweep.specs.Chunks.{AreBusy}
+use Rattle.dft_sweep.specs.Places.{AreBusy}
 use Rattle.dft_sweep.proofs.Sweeps.{Marking}
 use Rattle.dft_sweep.proofs.sweeping.mark_all.Given as goal
 

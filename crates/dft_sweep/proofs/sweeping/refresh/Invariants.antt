@@ -1,6 +1,6 @@
 -- The nets before this one have their values.
 use Rattle.std.proofs.Common.{◌≡◌, length}
-use Rattle.dft_sweep.specs.Chunks.{AreBusy}
+use Rattle.dft_sweep.specs.Places.{AreBusy}
 use Rattle.dft_sweep.specs.Fields.{meaning_at, sources_of}
 use Rattle.dft_sweep.proofs.Sweeps.{Refreshing}
 use Rattle.dft_sweep.proofs.sweeping.refresh.Given as goal

@@ -3,7 +3,7 @@ use Rattle.std.proofs.Common.{ℕ, ◌<◌, Bool, List, Option, true, true≢fal
 use Rattle.std.specs.Prelude.{if◌then◌else◌}
 use Rattle.dft_base.specs.declared.tri.Tri.{Tri}
 use Rattle.dft_logic.specs.Values.{value_at}
-use Rattle.dft_sweep.specs.Chunks.{AreBusy}
+use Rattle.dft_sweep.specs.Places.{AreBusy}
 use Rattle.dft_sweep.specs.Fields.{IsGivenIf, is_needed}
 use Rattle.dft_sweep.specs.declared.field.Stuck.{Stuck}
 use Rattle.dft_sweep.proofs.Sweeps.{marked_size}

@@ -1,6 +1,6 @@
 -- First the table of the design, then that of the design with the fault.
 use Rattle.std.proofs.Common.{ℕ, Bool, List, refl, subst, ap, ◌∙◌, arith}
-use Rattle.dft_sweep.specs.Chunks.{AreBusy}
+use Rattle.dft_sweep.specs.Places.{AreBusy}
 use Rattle.dft_sweep.specs.Fields.{is_needed}
 use Rattle.dft_seek.proofs.rig.Rig.mark.Goals as goal
 

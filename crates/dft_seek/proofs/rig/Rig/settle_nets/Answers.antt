@@ -5,7 +5,7 @@ use Rattle.dft_base.specs.declared.tri.Tri.{Tri}
 use Rattle.dft_netlist.specs.Orders.{Has}
 use Rattle.dft_netlist.specs.Settled.{TriSources}
 use Rattle.dft_logic.specs.Values.{value_at}
-use Rattle.dft_sweep.specs.Chunks.{AreBusy, ArePlaces}
+use Rattle.dft_sweep.specs.Places.{AreBusy, ArePlaces}
 use Rattle.dft_sweep.specs.Fields.{IsGivenIf}
 use Rattle.dft_seek.specs.Rigs.{means_of, sources_by}
 use Rattle.dft_seek.proofs.Filled.{filled, refilled}

@@ -1,0 +1,42 @@
+-- One net more, and the idle places behind it.
+use Rattle.std.proofs.Common.{ℕ, List, ◌<◌, ◌+◌, ◌∙◌, length, refl, sym, subst, ap, arith}
+use Rattle.dft_netlist.specs.declared.ids.NetId.{NetId}
+use Rattle.dft_sweep.specs.Fields.{meaning_at, sources_of}
+use Rattle.dft_sweep.specs.Places.{is_busy}
+use Rattle.dft_sweep.proofs.Placings.{sweeping_goes}
+use Rattle.dft_sweep.proofs.Sweeps.{sweeping_more, sweeping_starts}
+use Rattle.dft_sweep.proofs.sweeping.sweep.Goals as goal
+
+pub loop-place-init : goal.loop-place-init
+loop-place-init c =
+    let f = c.args.field.now in
+    let x = f.circuit.now in
+    let m = c.args.marks.now in
+    record {
+      size = refl;
+      swept = sweeping_goes x f.places.now f.needed.now (meaning_at f) (sources_of f.sources) c.args.values.now m.marked.items m.busy.items 0 c.next_busy-place.result c.requires.places c.requires.busy c.next_busy-place.ensures.low (λ p low high. ap (λ (l : List ℕ). is_busy l p) (sym c.deref.ensures.value) ∙ c.next_busy-place.ensures.idle p low high)
+          (sweeping_starts x f.needed.now (meaning_at f) (sources_of f.sources) c.args.values.now m.marked.items c.requires.circuit c.requires.given);
+      busy = c.requires.busy;
+    }
+
+pub loop-place-preserved : goal.loop-place-preserved
+loop-place-preserved c =
+    let f = c.args.field.now in
+    let x = f.circuit.now in
+    let m = c.settle_marked.new.marks in
+    let at = c.loop-place.place in
+    let less : at < length x.order.items = (let here = c.loop-place-test.true in subst (λ (l : List NetId). at < length l) c.as_slice-end.ensures.value here) in
+    record {
+      size = c.settle_marked.ensures.size ∙ c.loop-place.invariant.size;
+      swept = sweeping_goes x f.places.now f.needed.now (meaning_at f) (sources_of f.sources) c.settle_marked.new.values m.marked.items m.busy.items (at + 1) c.next_busy-place-in-loop-place.result c.requires.places
+          (c.settle_marked.ensures.busy c.loop-place.invariant.busy) c.next_busy-place-in-loop-place.ensures.low (λ p low high. ap (λ (l : List ℕ). is_busy l p) (sym c.deref-in-loop-place.ensures.value) ∙ c.next_busy-place-in-loop-place.ensures.idle p low high)
+          (sweeping_more x.ops.items _ _ _ x.order.items c.loop-place.values c.settle_marked.new.values c.loop-place.marks.marked.items m.marked.items at
+          c.index.result.now c.index.result.now less c.index.ensures c.loop-place.invariant.swept c.settle_marked.ensures.given c.settle_marked.ensures.raised);
+      busy = c.settle_marked.ensures.busy c.loop-place.invariant.busy;
+    }
+
+pub next_busy-place-requires : goal.next_busy-place-requires
+next_busy-place-requires c = omega (arith, c.as_slice-end.type_inv.1)
+
+pub next_busy-place-requires-in-loop-place : goal.next_busy-place-requires-in-loop-place
+next_busy-place-requires-in-loop-place c = omega (arith, c.as_slice-end.type_inv.1)
