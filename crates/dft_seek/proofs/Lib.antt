@@ -28,4 +28,3 @@ pub mod BitPlaces
 pub mod OpenLemmas
 pub mod GivenLemmas
 pub mod OnceLemmas
-pub mod Comparing

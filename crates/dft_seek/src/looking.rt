@@ -80,7 +80,7 @@ struct Compared {
     agrees: bool,
 }
 
-fn compared(one: Tri, other: Tri) -> Compared
+fn compare(one: Tri, other: Tri) -> Compared
     ensures differs { result.differs ≡ searches.differ one other }
     ensures agrees { result.agrees ≡ searches.agree one other }
 {
@@ -142,7 +142,7 @@ impl Rig<'_> {
                 differs: false,
                 agrees: false,
             },
-            Tri::Zero | Tri::One => compared(value, self.captured(cell, bad)),
+            Tri::Zero | Tri::One => compare(value, self.captured(cell, bad)),
         }
     }
 
@@ -173,7 +173,7 @@ fn compare_nets(nets: &[NetId], good: &[Tri], bad: &[Tri]) -> Compared
 {
     let mut agrees = true;
     for net in nets {
-        let here = compared(value_at(good, net.0), value_at(bad, net.0));
+        let here = compare(value_at(good, net.0), value_at(bad, net.0));
         if here.differs {
             return here;
         }
@@ -210,7 +210,7 @@ impl Rig<'_> {
     }
 
     // Whether a point detects the fault, and if none does, whether all agree.
-    fn compare(&self, cone: &Cone, good: &Sight<'_>, bad: &Sight<'_>) -> Compared
+    fn compare_points(&self, cone: &Cone, good: &Sight<'_>, bad: &Sight<'_>) -> Compared
         ensures differs { result.differs ≡ spec.found_at self.now cone.now good.now.first.now good.now.second.now bad.now.first.now bad.now.second.now }
         ensures agrees { result.differs ≡ false → result.agrees ≡ spec.same_at self.now cone.now good.now.first.now good.now.second.now bad.now.first.now bad.now.second.now }
     {
@@ -236,7 +236,7 @@ impl Rig<'_> {
     ) -> Verdict
         ensures { spec.verdict result ≡ trees.verdict_of (spec.found_at self.now cone.now good.now.first.now good.now.second.now bad.now.first.now bad.now.second.now) (spec.stays_at self.now fault good.now.first.now good.now.second.now || (spec.same_at self.now cone.now good.now.first.now good.now.second.now bad.now.first.now bad.now.second.now || whole)) }
     {
-        let points = self.compare(cone, good, bad);
+        let points = self.compare_points(cone, good, bad);
         let dead = self.stays(fault, good) || (points.agrees || whole);
         verdict_of(points.differs, dead)
     }
