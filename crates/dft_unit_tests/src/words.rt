@@ -12,10 +12,16 @@ const REPLAY: &str = "dft: usage: dft replay --netlist FILE --patterns FILE [--l
 
 const GENERATE: &str = "dft: usage: dft generate --seed NUMBER --size NUMBER\n";
 
+const SEEK: &str =
+    "dft: usage: dft seek --netlist FILE --config FILE --clock NAME --limit NUMBER --out-cubes FILE --out-report FILE [--library FILE]\n";
+
+const CONFIGURE: &str =
+    "dft: usage: dft configure --netlist FILE --channels NUMBER --out FILE [--chains NUMBER] [--length NUMBER] [--outputs NUMBER] [--masks NUMBER] [--library FILE]\n";
+
 const ANY: &str = "dft: usage: dft COMMAND ..; dft --help says more\n";
 
 // Words, what is said of them, and the form that follows.
-static FAULTS: [(&str, &str, &str); 20] = [
+static FAULTS: [(&str, &str, &str); 24] = [
     ("", "dft: no command\n", ANY),
     ("play --netlist a", "dft: no such command: play\n", ANY),
     ("--help scan", "dft: no such command: --help\n", ANY),
@@ -76,6 +82,26 @@ static FAULTS: [(&str, &str, &str); 20] = [
         GENERATE,
     ),
     ("generate --seed=1 --size=00016", "", GENERATE),
+    (
+        "seek --netlist a --config b --clock c --limit 1000001 --out-cubes d --out-report e",
+        "dft: --limit wants a number from 0 to 1000000: 1000001\n",
+        SEEK,
+    ),
+    (
+        "configure --netlist a --channels 33 --chains 4 --out b",
+        "dft: --channels wants a number from 1 to 32: 33\n",
+        CONFIGURE,
+    ),
+    (
+        "configure --netlist a --channels 1 --out b",
+        "dft: configure needs one of --chains and --length, and not both\n",
+        CONFIGURE,
+    ),
+    (
+        "configure --netlist a --channels 1 --chains 4 --length 3 --out b",
+        "dft: configure needs one of --chains and --length, and not both\n",
+        CONFIGURE,
+    ),
 ];
 
 // The words between the blanks of a line.
@@ -99,13 +125,15 @@ fn the_first_fault_of_words_is_told(rt: HostRuntime) -> Result<(), Fail> {
 }
 
 // Lines of words that are commands.
-static COMMANDS: [&str; 6] = [
+static COMMANDS: [&str; 8] = [
     "replay --netlist a --patterns=b --library c",
     "scan --netlist a --config b --out c --report=d --library e",
     "compile --netlist a --config=b --cubes c --out-netlist d --out-patterns e --out-report f --library=g",
     "certify --netlist a --config b --cubes c --report d --library e",
     "generate --seed 1 --size 16",
     "grade --netlist a --patterns=b --out c --library d",
+    "seek --netlist a --config=b --clock c --limit 7 --out-cubes d --out-report=e --library f",
+    "configure --netlist a --channels=2 --chains 4 --out b --outputs=1 --masks 3 --library c",
 ];
 
 // What stands in place of a word that is bent.
@@ -214,17 +242,19 @@ fn a_fault_is_told_where_words_are_no_command(rt: HostRuntime) -> Result<(), Fai
 }
 
 // Lines of words that are commands with the options that they need, and no others.
-static NEEDED: [&str; 6] = [
+static NEEDED: [&str; 8] = [
     "replay --netlist=a --patterns=b",
     "scan --netlist=a --config=b --out=c --report=d",
     "compile --netlist=a --config=b --cubes=c --out-netlist=d --out-patterns=e --out-report=f",
     "certify --netlist=a --config=b --cubes=c --report=d",
     "generate --seed=1 --size=16",
     "grade --netlist=a --patterns=b --out=c",
+    "seek --netlist=a --config=b --clock=c --limit=7 --out-cubes=d --out-report=e",
+    "configure --netlist=a --channels=2 --length=4 --out=b",
 ];
 
 // The options of all commands, and one that none has.
-static OPTIONS: [&str; 13] = [
+static OPTIONS: [&str; 21] = [
     "library",
     "config",
     "netlist",
@@ -237,6 +267,14 @@ static OPTIONS: [&str; 13] = [
     "out-report",
     "seed",
     "size",
+    "clock",
+    "limit",
+    "out-cubes",
+    "channels",
+    "chains",
+    "length",
+    "outputs",
+    "masks",
     "no",
 ];
 
@@ -305,11 +343,13 @@ fn outputs_of_one_name_are_told(rt: HostRuntime) -> Result<(), Fail> {
 }
 
 // Words that ask, and for what.
-static ASKED: [(&str, Option<Request>); 8] = [
+static ASKED: [(&str, Option<Request>); 10] = [
     ("--help", Some(Request::Help)),
     ("--version", Some(Request::Version)),
     ("scan --help", Some(Request::HelpOf(Topic::Scan))),
     ("grade --help", Some(Request::HelpOf(Topic::Grade))),
+    ("seek --help", Some(Request::HelpOf(Topic::Seek))),
+    ("configure --help", Some(Request::HelpOf(Topic::Configure))),
     ("scan --help x", None),
     ("help", None),
     ("-h", None),
