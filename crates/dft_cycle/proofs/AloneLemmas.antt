@@ -12,11 +12,10 @@ use Rattle.dft_base.specs.Tri.{AboveTri}
 use Rattle.dft_netlist.specs.declared.ids.NetId.{NetId}
 use Rattle.dft_netlist.specs.Logic.{Logic, IsRanked}
 use Rattle.dft_netlist.specs.Settled.{value_from}
-use Rattle.dft_logic.specs.declared.circuit.Circuit.{Circuit}
 use Rattle.dft_netlist.specs.Runs.{takes}
 use Rattle.dft_abstract.specs.Cycle.{Pulse, tri_forced_by, tri_taken_by, changes, next_value, view_sources, AreViews}
 use Rattle.dft_cycle.specs.Machine.{value_at}
-use Rattle.dft_logic.specs.Circuit.{logic_at, flag_at, IsCircuit}
+use Rattle.dft_logic.specs.Circuit.{Circuit, logic_at, flag_at, IsCircuit}
 use Rattle.dft_cycle.specs.Views.{raised_by, rank_of, Among, PulsesAmong, HasNext, AreNext, IsAlone}
 use Rattle.dft_abstract.proofs.Views.{settled_same, views_exist}
 use Rattle.dft_logic.proofs.CircuitRanks.{circuit_ranked}
@@ -56,13 +55,13 @@ raised_above true Zero Unknown h = tt
 raised_above true One Unknown h = tt
 raised_above true Unknown Unknown h = tt
 
-pub turn_alone : (x : Circuit) (p : Pulse) (clocks : List NetId) (next old new : List Tri) (view : ℕ → ℕ → Tri) → (is : IsCircuit x) → length old ≡ length x.flops.items → length new ≡ length old → length next ≡ length x.flops.items → (each : IsRaised x p next old new) →
+pub turn_alone : (x : Circuit) (p : Pulse) (clocks : List NetId) (next old new : List Tri) (view : ℕ → ℕ → Tri) → (is : IsCircuit x) → length old ≡ length x.flops → length new ≡ length old → length next ≡ length x.flops → (each : IsRaised x p next old new) →
     (among : ((e : ℕ) → p.pulsed e ≡ true → Among clocks (length clocks) e)) → (alone : IsAlone (logic_at x) p.pulsed) →
     (has : ((w : ℕ → ℕ → Tri) → AreViews (logic_at x) p (value_at old) w → HasNext x p w clocks (length clocks) next)) → (views : AreViews (logic_at x) p (value_at new) view) → AreNext (logic_at x) p view new next
 turn_alone x p clocks next old new view is a b n each among alone has views c up =
     let found = views_exist (logic_at x) (rank_of x) p (value_at old) (circuit_ranked x is) in
     let P : Tri → Type 0 = λ t. AboveTri t (next_value (logic_at x) p view c) in
-    elim (leb_tells (length x.flops.items) c) [
+    elim (leb_tells (length x.flops) c) [
       | inl out ↦ (
         (let far : length next ≤ c = omega (arith, out.1) in get_or_past next c Unknown far ∙ sym (past_next x p view c out.1)),
         (let far : length new ≤ c = omega (arith, out.1) in subst P (sym (get_or_past new c Unknown far)) tt),
@@ -92,7 +91,7 @@ module _ {X : Type 0} (test : X → Bool) where
   two_counted (x ∷ xs) zero (suc j) d less within first second = (let e = counted x xs true first in let r = one_counted xs j d (omega arith) second in omega arith)
   two_counted (x ∷ xs) (suc i) (suc j) d less within first second = (let e = counted x xs (test x) refl in let r = two_counted xs i j d (omega arith) (omega arith) first second in omega arith)
 
-pub alone_of : (x : Circuit) (pulsed : List Bool) (clocks : List NetId) → IsCircuit x → list_any (λ latch. is_some latch) x.latches.items ≡ false → PulsesAmong pulsed clocks → count_by (λ clock. flag_at pulsed clock.0) clocks < 2 → IsAlone (logic_at x) (flag_at pulsed)
+pub alone_of : (x : Circuit) (pulsed : List Bool) (clocks : List NetId) → IsCircuit x → list_any (λ latch. is_some latch) x.latches ≡ false → PulsesAmong pulsed clocks → count_by (λ clock. flag_at pulsed clock.0) clocks < 2 → IsAlone (logic_at x) (flag_at pulsed)
 alone_of x pulsed clocks is none among few = record {
   none = λ net c e high source here. no_latch x is none net c e high source here;
   one = λ e f up also.

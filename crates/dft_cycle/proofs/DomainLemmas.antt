@@ -13,11 +13,10 @@ use Rattle.dft_netlist.specs.Settled.{value_from, value_given, inverse}
 use Rattle.dft_netlist.specs.Orders.{Has}
 use Rattle.dft_logic.specs.declared.circuit.Op.{Op}
 use Rattle.dft_logic.specs.declared.circuit.Op.TheVariants as op
-use Rattle.dft_logic.specs.declared.circuit.Circuit.{Circuit}
 use Rattle.dft_logic.specs.declared.settling.View.{View}
 use Rattle.dft_abstract.specs.Cycle.{Pulse, lockup_shown}
 use Rattle.dft_cycle.specs.Machine.{value_at, acted}
-use Rattle.dft_logic.specs.Circuit.{Supply, base_of, view_base, changed, IsGivenIn, GivenIn, IsReady, source_places, flag_at, meaning, op_at, cell_of, cell_at, latch_at, latch_domains, force_nets, leaf_domains, leaves_from, IsCircuit}
+use Rattle.dft_logic.specs.Circuit.{Circuit, Supply, base_of, view_base, changed, IsGivenIn, GivenIn, IsReady, source_places, flag_at, meaning, op_at, cell_of, cell_at, latch_at, latch_domains, force_nets, leaf_domains, leaves_from, IsCircuit}
 use Rattle.dft_logic.specs.Tables.{list_at}
 use Rattle.dft_cycle.specs.Views.{next_at, next_by, held_by}
 use Rattle.dft_abstract.proofs.Forces.{forced_twice}
@@ -52,16 +51,16 @@ listed_all count start now new xs j past before k within = elim (before k within
 
 -- ---- the flip-flops of a domain
 
-pub cells_start : (x : Circuit) (d : ℕ) (ports values : ℕ → Tri) (next : List Tri) (xs : List ℕ) → IsCircuit x → d < length x.ops.items → xs ≡ list_at x.cells d →
-    Listed (length x.flops.items) next next (λ k old. next_by (cell_at (map cell_of x.flops.items) k) d ports values old) xs
+pub cells_start : (x : Circuit) (d : ℕ) (ports values : ℕ → Tri) (next : List Tri) (xs : List ℕ) → IsCircuit x → d < length x.ops → xs ≡ list_at x.cells d →
+    Listed (length x.flops) next next (λ k old. next_by (cell_at (map cell_of x.flops) k) d ports values old) xs
 cells_start x d ports values next xs is live e k less =
-    let cell : Cell = cell_at (map cell_of x.flops.items) k in
+    let cell : Cell = cell_at (map cell_of x.flops) k in
     elim (eqb_tells cell.domain d) [
       | inl q ↦ (let P : List ℕ → Type 0 = λ l. Has l k in inr (subst P (sym e) (is.tables.cells.each d k less live (inl (sym q.1))), refl))
       | inr q ↦ inl (sym (by_miss cell d ports values (value_at next k) q.0))
     ]
 
-pub cell_listed : (x : Circuit) (d c : ℕ) (xs : List ℕ) → IsCircuit x → xs ≡ list_at x.cells d → Has xs c → (c < length x.flops.items) × ((cell_at (map cell_of x.flops.items) c).domain ≡ d)
+pub cell_listed : (x : Circuit) (d c : ℕ) (xs : List ℕ) → IsCircuit x → xs ≡ list_at x.cells d → Has xs c → (c < length x.flops) × ((cell_at (map cell_of x.flops) c).domain ≡ d)
 cell_listed x d c xs is e h =
     let P : List ℕ → Type 0 = λ l. Has l c in
     let found = is.tables.cells.only d c (subst P e h) in
@@ -97,14 +96,14 @@ acted_twice (Some force) net value bit = by (force.port == net) where
   by true = forced_twice force.value value bit
   by false = refl
 
-pub followers_start : (x : Circuit) (net : ℕ) (value : Tri) (cells : List Tri) (xs : List ℕ) → IsCircuit x → net < length x.ops.items → xs ≡ list_at x.followers net →
-    Listed (length x.flops.items) cells cells (λ k old. acted (cell_at (map cell_of x.flops.items) k).force net value old) xs
-followers_start x net value cells xs is live e k less = elim (force_either (cell_at (map cell_of x.flops.items) k).force net) [
+pub followers_start : (x : Circuit) (net : ℕ) (value : Tri) (cells : List Tri) (xs : List ℕ) → IsCircuit x → net < length x.ops → xs ≡ list_at x.followers net →
+    Listed (length x.flops) cells cells (λ k old. acted (cell_at (map cell_of x.flops) k).force net value old) xs
+followers_start x net value cells xs is live e k less = elim (force_either (cell_at (map cell_of x.flops) k).force net) [
   | inl own ↦ (let P : List ℕ → Type 0 = λ l. Has l k in inr (subst P (sym e) (is.tables.followers.each net k less live own), refl))
-  | inr other ↦ inl (sym (acted_misses (cell_at (map cell_of x.flops.items) k).force net value (value_at cells k) other))
+  | inr other ↦ inl (sym (acted_misses (cell_at (map cell_of x.flops) k).force net value (value_at cells k) other))
 ]
 
-pub follower_listed : (x : Circuit) (net c : ℕ) (xs : List ℕ) → IsCircuit x → xs ≡ list_at x.followers net → Has xs c → c < length x.flops.items
+pub follower_listed : (x : Circuit) (net c : ℕ) (xs : List ℕ) → IsCircuit x → xs ≡ list_at x.followers net → Has xs c → c < length x.flops
 follower_listed x net c xs is e h = (let P : List ℕ → Type 0 = λ l. Has l c in (is.tables.followers.only net c (subst P e h)).0)
 
 pub acted_once : (count : ℕ) (start now : List Tri) (force : ℕ → Option Force) (net c : ℕ) (value : Tri) (rest : List ℕ) → c < count → Listed count start now (λ k old. acted (force k) net value old) rest →
@@ -130,14 +129,14 @@ hold_either (Some latch) d = elim (eqb_tells latch.0 d) [
   | inr q ↦ inr (λ h. elim h [ inl e ↦ q.1 (sym e) | inr none ↦ none ])
 ]
 
-pub holders_start : (x : Circuit) (d : ℕ) (values : ℕ → Tri) (held : List Tri) (xs : List ℕ) → IsCircuit x → d < length x.ops.items → xs ≡ list_at x.holders d →
-    Listed (length x.latches.items) held held (λ k old. held_by (latch_at x.latches.items k) d values old) xs
-holders_start x d values held xs is live e k less = elim (hold_either (latch_at x.latches.items k) d) [
+pub holders_start : (x : Circuit) (d : ℕ) (values : ℕ → Tri) (held : List Tri) (xs : List ℕ) → IsCircuit x → d < length x.ops → xs ≡ list_at x.holders d →
+    Listed (length x.latches) held held (λ k old. held_by (latch_at x.latches k) d values old) xs
+holders_start x d values held xs is live e k less = elim (hold_either (latch_at x.latches k) d) [
   | inl own ↦ (let P : List ℕ → Type 0 = λ l. Has l k in inr (subst P (sym e) (is.tables.holders.each d k less live own), refl))
-  | inr other ↦ inl (sym (hold_misses (latch_at x.latches.items k) d values (value_at held k) other))
+  | inr other ↦ inl (sym (hold_misses (latch_at x.latches k) d values (value_at held k) other))
 ]
 
-pub holder_listed : (x : Circuit) (d c : ℕ) (xs : List ℕ) → IsCircuit x → xs ≡ list_at x.holders d → Has xs c → (c < length x.latches.items) × Has (latch_domains (latch_at x.latches.items c)) d
+pub holder_listed : (x : Circuit) (d c : ℕ) (xs : List ℕ) → IsCircuit x → xs ≡ list_at x.holders d → Has xs c → (c < length x.latches) × Has (latch_domains (latch_at x.latches c)) d
 holder_listed x d c xs is e h = (let P : List ℕ → Type 0 = λ l. Has l c in is.tables.holders.only d c (subst P e h))
 
 -- what it is held at does not depend on what it was held at
@@ -151,9 +150,9 @@ held_once (Some latch) d values one other h = elim (eqb_tells latch.0 d) [
 -- ---- from view to view
 
 -- a net that shows a domain is one of its leaves
-leaf : (x : Circuit) (d k : ℕ) → IsCircuit x → d < length x.ops.items → Has (leaf_domains (map cell_of x.flops.items) k (meaning (op_at x.ops.items k))) d → Has (list_at x.leaves d) k
-leaf x d k is live h = elim (leb_tells (length x.ops.items) k) [
-  | inl out ↦ (let P : Op → Type 0 = λ o. Has (leaf_domains (map cell_of x.flops.items) k (meaning o)) d in absurd (subst P (get_or_past x.ops.items k op.Free out.1) h))
+leaf : (x : Circuit) (d k : ℕ) → IsCircuit x → d < length x.ops → Has (leaf_domains (map cell_of x.flops) k (meaning (op_at x.ops k))) d → Has (list_at x.leaves d) k
+leaf x d k is live h = elim (leb_tells (length x.ops) k) [
+  | inl out ↦ (let P : Op → Type 0 = λ o. Has (leaf_domains (map cell_of x.flops) k (meaning o)) d in absurd (subst P (get_or_past x.ops k op.Free out.1) h))
   | inr less ↦ is.tables.leaves.each d k less.1 live h
 ]
 
@@ -194,11 +193,11 @@ shown_same cells p poss held d e k values (Lockup c f high source) = elim (eqb_t
 ]
 shown_same cells p poss held d e k values Free = inr (inr refl)
 
-pub moved : (x : Circuit) (p : Pulse) (poss held values : List Tri) (d e k : ℕ) → IsCircuit x → d < length x.ops.items → e < length x.ops.items → Has (list_at x.leaves d) k ⊎ GivenIn x p poss held d values k →
+pub moved : (x : Circuit) (p : Pulse) (poss held values : List Tri) (d e k : ℕ) → IsCircuit x → d < length x.ops → e < length x.ops → Has (list_at x.leaves d) k ⊎ GivenIn x p poss held d values k →
     Has (list_at x.leaves d) k ⊎ (Has (list_at x.leaves e) k ⊎ GivenIn x p poss held e values k)
 moved x p poss held values d e k is here there before = elim before [
   | inl left ↦ inl left
-  | inr given ↦ elim (shown_same (map cell_of x.flops.items) p poss held d e k (value_at values) (meaning (op_at x.ops.items k))) [
+  | inr given ↦ elim (shown_same (map cell_of x.flops) p poss held d e k (value_at values) (meaning (op_at x.ops k))) [
     | inl own ↦ inl (leaf x d k is here own)
     | inr rest ↦ elim rest [ inl new ↦ inr (inl (leaf x e k is there new)) | inr same ↦ inr (inr (given ∙ same)) ]
   ]
@@ -218,17 +217,17 @@ held_same cells p poss held new d k values (Lockup c e high source) same = elim 
 held_same cells p poss held new d k values Free same = inr refl
 
 -- after the lock-ups of a domain are held anew, its leaves alone may differ
-pub held_near : (x : Circuit) (p : Pulse) (poss held new values : List Tri) (d k : ℕ) → IsCircuit x → d < length x.ops.items →
-    ((c : ℕ) → c < length x.latches.items → value_at new c ≡ held_by (latch_at x.latches.items c) d (value_at values) (value_at held c)) → GivenIn x p poss held d values k →
+pub held_near : (x : Circuit) (p : Pulse) (poss held new values : List Tri) (d k : ℕ) → IsCircuit x → d < length x.ops →
+    ((c : ℕ) → c < length x.latches → value_at new c ≡ held_by (latch_at x.latches c) d (value_at values) (value_at held c)) → GivenIn x p poss held d values k →
     Has (list_at x.leaves d) k ⊎ GivenIn x p poss new d values k
 held_near x p poss held new values d k is live each given =
-    let other : (c e : ℕ) (high : Bool) (source : Source) → meaning (op_at x.ops.items k) ≡ Lockup c e high source → (e ≡ d → ⊥) → value_at held c ≡ value_at new c = λ c e high source h ne.
+    let other : (c e : ℕ) (high : Bool) (source : Source) → meaning (op_at x.ops k) ≡ Lockup c e high source → (e ≡ d → ⊥) → value_at held c ≡ value_at new c = λ c e high source h ne.
     (let latch = is.latched k c e high source h in
     elim (eqb_tells e d) [
       | inl q ↦ absurd (ne q.1)
-      | inr q ↦ sym (each c (latch_live x.latches.items c (e, source) latch) ∙ latch_misses (latch_at x.latches.items c) d e source (value_at values) (value_at held c) latch q.0)
+      | inr q ↦ sym (each c (latch_live x.latches c (e, source) latch) ∙ latch_misses (latch_at x.latches c) d e source (value_at values) (value_at held c) latch q.0)
     ]) in
-    elim (held_same (map cell_of x.flops.items) p poss held new d k (value_at values) (meaning (op_at x.ops.items k)) other) [
+    elim (held_same (map cell_of x.flops) p poss held new d k (value_at values) (meaning (op_at x.ops k)) other) [
       | inl own ↦ inl (leaf x d k is live own)
       | inr same ↦ inr (given ∙ same)
     ]
@@ -244,27 +243,27 @@ given_any base other k values (Flop c inverted) = inl (inl refl)
 given_any base other k values (Lockup c e high source) = inl (inl refl)
 given_any base other k values Free = inr refl
 
-source : (x : Circuit) (k : ℕ) → IsCircuit x → Has (source_places (meaning (op_at x.ops.items k))) 0 → Has (list_at x.sources 0) k
-source x k is h = elim (leb_tells (length x.ops.items) k) [
-  | inl out ↦ (let P : Op → Type 0 = λ o. Has (source_places (meaning o)) 0 in absurd (subst P (get_or_past x.ops.items k op.Free out.1) h))
+source : (x : Circuit) (k : ℕ) → IsCircuit x → Has (source_places (meaning (op_at x.ops k))) 0 → Has (list_at x.sources 0) k
+source x k is h = elim (leb_tells (length x.ops) k) [
+  | inl out ↦ (let P : Op → Type 0 = λ o. Has (source_places (meaning o)) 0 in absurd (subst P (get_or_past x.ops k op.Free out.1) h))
   | inr less ↦ is.tables.sources.each 0 k less.1 (omega arith) h
 ]
 
 -- once the sources have their values, each net that is not marked has its driver's
 pub ready_refreshed : (x : Circuit) (base : Supply) (values new : List Tri) (first marked : List Bool) (xs : List ℕ) → IsCircuit x → xs ≡ list_at x.sources 0 → IsReady x values →
-    ((others : List ℕ) → ((k : ℕ) → flag_at first k ≡ false → Has xs k ⊎ (Has others k ⊎ IsGiven x.ops.items base values k)) → (k : ℕ) → flag_at marked k ≡ false → Has others k ⊎ IsGiven x.ops.items base new k) →
-    (k : ℕ) → flag_at marked k ≡ false → IsGiven x.ops.items base new k
+    ((others : List ℕ) → ((k : ℕ) → flag_at first k ≡ false → Has xs k ⊎ (Has others k ⊎ IsGiven x.ops base values k)) → (k : ℕ) → flag_at marked k ≡ false → Has others k ⊎ IsGiven x.ops base new k) →
+    (k : ℕ) → flag_at marked k ≡ false → IsGiven x.ops base new k
 ready_refreshed x base values new first marked xs is e ready done k down =
-    let near : (m : ℕ) → flag_at first m ≡ false → Has xs m ⊎ (Has [] m ⊎ IsGiven x.ops.items base values m) = λ m up.
+    let near : (m : ℕ) → flag_at first m ≡ false → Has xs m ⊎ (Has [] m ⊎ IsGiven x.ops base values m) = λ m up.
     (let P : List ℕ → Type 0 = λ l. Has l m in
-    elim (given_any ready.base base m (value_at values) (meaning (op_at x.ops.items m))) [
+    elim (given_any ready.base base m (value_at values) (meaning (op_at x.ops m))) [
       | inl own ↦ inl (subst P (sym e) (source x m is own))
       | inr same ↦ inr (inr (ready.given m ∙ same))
     ]) in
     elim (done [] near k down) [ inl none ↦ absurd none | inr given ↦ given ]
 
 pub ready_in : (x : Circuit) (p : Pulse) (poss held values : List Tri) (d : ℕ) → ((k : ℕ) → GivenIn x p poss held d values k) → IsReady x values
-ready_in x p poss held values d given = record { base = base_of (map cell_of x.flops.items) p poss held d; given = given }
+ready_in x p poss held values d given = record { base = base_of (map cell_of x.flops) p poss held d; given = given }
 
 pub ready_view : (x : Circuit) (v : View) (values : List Tri) → ((k : ℕ) → IsGivenIn x v v.domain.0 values k) → IsReady x values
-ready_view x v values given = record { base = view_base (map cell_of x.flops.items) v; given = given }
+ready_view x v values given = record { base = view_base (map cell_of x.flops) v; given = given }

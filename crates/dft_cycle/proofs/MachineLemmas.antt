@@ -15,10 +15,9 @@ use Rattle.dft_netlist.specs.Logic.{Logic, Cell, Force, IsRising, no_cell}
 use Rattle.dft_netlist.specs.Settled.{TriSources, value_from, IsTriSettled}
 use Rattle.dft_netlist.specs.Runs.{takes}
 use Rattle.dft_logic.specs.declared.circuit.FlipFlop.{FlipFlop}
-use Rattle.dft_logic.specs.declared.circuit.Circuit.{Circuit}
 use Rattle.dft_abstract.specs.Cycle.{Pulse, Half, tri_forced_by, tri_taken_by, next_value, falls_after, changes, AreViews, after_pulse, IsLeast}
 use Rattle.dft_cycle.specs.Machine.{Machine, value_at, is_one_of, ports_of, logic, acted, IsSet, at_strobe, IsStrobed, pulses, phase_from, pulse_from, IsPhase, IsPulsed}
-use Rattle.dft_logic.specs.Circuit.{IsReady, logic_at, cell_of, cell_at, flag_at, base_of, leaves_from, IsCircuit}
+use Rattle.dft_logic.specs.Circuit.{Circuit, IsReady, logic_at, cell_of, cell_at, flag_at, base_of, leaves_from, IsCircuit}
 use Rattle.dft_cycle.specs.Views.{rank_of, Among, AreNext}
 use Rattle.std.proofs.lemmas.Option.{slice_get-get_or}
 use Rattle.dft_registers.specs.declared.moves.Move.{Move}
@@ -61,33 +60,33 @@ same_sources : (t u : TriSources) → ((k : ℕ) → t.ports k ≡ u.ports k) �
 same_sources t u ports clocks flops lockups = λ i. record { ports = λ k. ports k i; clocks = λ e. clocks e i; flops = λ c. flops c i; lockups = λ c e high source. lockups c e high source i }
 
 pub strobed : (m after : Machine) (x : Circuit) (ports cells poss held values : List Tri) (d : ℕ) → (compiled : logic m ≡ logic_at x) → after.netlist ≡ m.netlist → after.clocks ≡ m.clocks → after.inputs ≡ m.inputs → after.cells ≡ m.cells → ports ≡ m.inputs → cells ≡ m.cells →
-    (settled : IsTriSettled (logic_at x) (leaves_from (base_of (map cell_of x.flops.items) (no_falls (value_at ports) (value_at cells)) poss held d) (value_at values)) (value_at values)) → (shown : after.shown ≡ values) → IsStrobed (logic m) m after
+    (settled : IsTriSettled (logic_at x) (leaves_from (base_of (map cell_of x.flops) (no_falls (value_at ports) (value_at cells)) poss held d) (value_at values)) (value_at values)) → (shown : after.shown ≡ values) → IsStrobed (logic m) m after
 strobed m after x ports cells poss held values d compiled n k i c same old settled shown =
     let Q : Logic → Type 0 = λ l. IsTriSettled l (at_strobe m (value_at values)) (value_at values) in
     let R : List Tri → Type 0 = λ v. IsTriSettled (logic m) (at_strobe m (value_at v)) (value_at v) in
     let S : TriSources → Type 0 = λ t. IsTriSettled (logic_at x) t (value_at values) in
     let kept : (a : ℕ) → value_at cells a ≡ value_at m.cells a = λ a. ap (λ (l : List Tri). value_at l a) old in
-    let from : leaves_from (base_of (map cell_of x.flops.items) (no_falls (value_at ports) (value_at cells)) poss held d) (value_at values) ≡ at_strobe m (value_at values) =
+    let from : leaves_from (base_of (map cell_of x.flops) (no_falls (value_at ports) (value_at cells)) poss held d) (value_at values) ≡ at_strobe m (value_at values) =
     same_sources _ (at_strobe m (value_at values)) (λ a. ap (λ (l : List Tri). value_at l a) same) (λ e. refl) kept
     (λ a e high source. strobe_holds (e == d) high (value_at cells a) (value_from (value_at values) source) (value_at held a) ∙ λ t. if high then kept a t else value_from (value_at values) source) in
     record { netlist = n; clocks = k; inputs = i; cells = c; settled = subst R (sym shown) (subst Q (sym compiled) (subst S from settled)) }
 
 pub looked : (m : Machine) (x : Circuit) (ports cells poss held values row : List Tri) (d : ℕ) (nets : List NetId) → IsCircuit x → logic m ≡ logic_at x → ports ≡ m.inputs → cells ≡ m.cells →
-    IsTriSettled (logic_at x) (leaves_from (base_of (map cell_of x.flops.items) (no_falls (value_at ports) (value_at cells)) poss held d) (value_at values)) (value_at values) →
+    IsTriSettled (logic_at x) (leaves_from (base_of (map cell_of x.flops) (no_falls (value_at ports) (value_at cells)) poss held d) (value_at values)) (value_at values) →
     row ≡ map (λ net. value_at values net.0) nets → AreSeen (logic m) (value_at m.inputs) (value_at m.cells) nets row
 looked m x ports cells poss held values row d nets is compiled same old settled read =
     let Q : Logic → Type 0 = λ l. AreSeen l (value_at m.inputs) (value_at m.cells) nets row in
     let R : List Tri → Type 0 = λ r. AreSeen (logic_at x) (value_at m.inputs) (value_at m.cells) nets r in
     let S : TriSources → Type 0 = λ t. IsTriSettled (logic_at x) t (value_at values) in
     let T : List Tri → List Tri → Type 0 = λ p c. IsStrobe (logic_at x) (value_at p) (value_at c) (value_at values) in
-    let here : T ports cells = subst S (strobe_leaves (map cell_of x.flops.items) (value_at ports) (value_at cells) poss held d (value_at values)) settled in
+    let here : T ports cells = subst S (strobe_leaves (map cell_of x.flops) (value_at ports) (value_at cells) poss held d (value_at values)) settled in
     subst Q (sym compiled) (subst R (sym read) (look_of_all x (value_at m.inputs) (value_at m.cells) values nets is (subst (λ (l : List Tri). T l m.cells) same (subst (T ports) old here))))
 
 -- ---- an input
 
 pub set_done : (m after : Machine) (x : Circuit) (net : ℕ) (value : Tri) → logic m ≡ logic_at x → after.netlist ≡ m.netlist → after.clocks ≡ m.clocks → after.shown ≡ m.shown →
-    after.inputs ≡ slice_set m.inputs net value → net < length m.inputs → length m.cells ≡ length x.flops.items → length after.cells ≡ length m.cells →
-    ((c : ℕ) → c < length x.flops.items → value_at after.cells c ≡ acted (cell_at (map cell_of x.flops.items) c).force net value (value_at m.cells c)) → IsSet (logic m) m net value after
+    after.inputs ≡ slice_set m.inputs net value → net < length m.inputs → length m.cells ≡ length x.flops → length after.cells ≡ length m.cells →
+    ((c : ℕ) → c < length x.flops → value_at after.cells c ≡ acted (cell_at (map cell_of x.flops) c).force net value (value_at m.cells c)) → IsSet (logic m) m net value after
 unfolding logic_at
 set_done m after x net value compiled n k s inputs live a b each =
     let V : (List Tri) → ℕ → Tri = value_at in
@@ -97,9 +96,9 @@ set_done m after x net value compiled n k s inputs live a b each =
       input = ap (λ (l : List Tri). value_at l net) inputs ∙ get_or-set_same m.inputs net value Unknown live;
       others = λ other ne. ap (λ (l : List Tri). value_at l other) inputs ∙ get_or-set_other m.inputs net other value Unknown ne;
       cells = λ c. (let P : Logic → Type 0 = λ l. value_at after.cells c ≡ acted (l.cell c).force net value (value_at m.cells c) in
-          subst P (sym compiled) (elim (leb_tells (length x.flops.items) c) [
+          subst P (sym compiled) (elim (leb_tells (length x.flops) c) [
             | inl out ↦ (let f : length after.cells ≤ c = omega (arith, out.1) in let g : length m.cells ≤ c = omega (arith, out.1) in
-                get_or_past after.cells c Unknown f ∙ sym (get_or_past m.cells c Unknown g) ∙ sym (ap (λ (q : Cell). acted q.force net value (value_at m.cells c)) (cell_past x.flops.items c out.1)))
+                get_or_past after.cells c Unknown f ∙ sym (get_or_past m.cells c Unknown g) ∙ sym (ap (λ (q : Cell). acted q.force net value (value_at m.cells c)) (cell_past x.flops c out.1)))
             | inr live ↦ each c live.1
           ]));
       shown = s;
@@ -149,16 +148,16 @@ half_of m x rising pulsed p new compiled same has =
 
 pub phase_done : (m after : Machine) (x : Circuit) (rising : Bool) (pulsed : List Bool) (p : Pulse) (poss next : List Tri) → (is : IsCircuit x) → (compiled : logic m ≡ logic_at x) → after.netlist ≡ m.netlist → after.clocks ≡ m.clocks → after.inputs ≡ m.inputs → after.shown ≡ m.shown →
     (edge : p.rising ≡ rising) → (ports : ((k : ℕ) → p.ports k ≡ value_at m.inputs k)) → (ups : ((e : ℕ) → p.pulsed e ≡ pulses m.clocks pulsed e)) → (old : ((c : ℕ) → p.old c ≡ value_at m.cells c)) →
-    length m.cells ≡ length x.flops.items → length after.cells ≡ length m.cells → length next ≡ length x.flops.items →
+    length m.cells ≡ length x.flops → length after.cells ≡ length m.cells → length next ≡ length x.flops →
     (least : ((view : ℕ → ℕ → Tri) → AreViews (logic_at x) p (value_at poss) view → IsLeast (logic_at x) p (value_at poss) view)) →
     (nexts : ((view : ℕ → ℕ → Tri) → AreViews (logic_at x) p (value_at poss) view → AreNext (logic_at x) p view poss next)) →
-    (each : ((c : ℕ) → c < length x.flops.items → value_at after.cells c ≡ (if changes (logic_at x) p c then value_at next c else value_at m.cells c))) → IsPhase (logic m) m rising pulsed after
+    (each : ((c : ℕ) → c < length x.flops → value_at after.cells c ≡ (if changes (logic_at x) p c then value_at next c else value_at m.cells c))) → IsPhase (logic m) m rising pulsed after
 phase_done m after x rising pulsed p poss next is compiled n k i s edge ports ups old a b d least nexts each =
     let found = views_exist (logic_at x) (rank_of x) p (value_at poss) (circuit_ranked x is) in
     let same : p ≡ phase_from m rising pulsed = λ t. record { rising = edge t; ports = λ q. ports q t; pulsed = λ e. ups e t; old = λ c. old c t } in
     let cells : (c : ℕ) → value_at after.cells c ≡ after_pulse (logic_at x) p found.0 c = λ c.
     (let taken : value_at after.cells c ≡ (if changes (logic_at x) p c then value_at next c else value_at m.cells c) =
-    elim (leb_tells (length x.flops.items) c) [
+    elim (leb_tells (length x.flops) c) [
       | inl out ↦ (let f : length after.cells ≤ c = omega (arith, out.1) in let g : length m.cells ≤ c = omega (arith, out.1) in let h : length next ≤ c = omega (arith, out.1) in
           past (value_at after.cells c) (value_at next c) (value_at m.cells c) (changes (logic_at x) p c) (get_or_past after.cells c Unknown f) (get_or_past next c Unknown h) (get_or_past m.cells c Unknown g))
       | inr live ↦ each c live.1
@@ -212,9 +211,9 @@ rises_in (f ∷ flops) (suc c) d none = rises_in flops c d (rest f.falling (list
   rest false b h = h
   rest true b h = absurd cc
 
-pub circuit_rises : (x : Circuit) → list_any (λ flop. flop.falling) x.flops.items ≡ false → IsRising (logic_at x)
+pub circuit_rises : (x : Circuit) → list_any (λ flop. flop.falling) x.flops ≡ false → IsRising (logic_at x)
 unfolding logic_at
-circuit_rises x none c = rises_in x.flops.items c c none
+circuit_rises x none c = rises_in x.flops c c none
 
 -- ---- the clocks that pulse
 
@@ -369,23 +368,23 @@ lower_all nets flags j e past old = go (flag_at flags e) (λ up. sym (ap (λ (l 
 
 -- ---- a pulse by a plan
 
-after_past : (x : Circuit) (p : Pulse) (view : ℕ → ℕ → Tri) (c : ℕ) → length x.flops.items ≤ c → p.old c ≡ Unknown → after_pulse (logic_at x) p view c ≡ Unknown
+after_past : (x : Circuit) (p : Pulse) (view : ℕ → ℕ → Tri) (c : ℕ) → length x.flops ≤ c → p.old c ≡ Unknown → after_pulse (logic_at x) p view c ≡ Unknown
 unfolding logic_at
 after_past x p view c out old =
     let F : Cell → Tri = λ cell. if p.pulsed cell.domain && takes p.rising cell.falling then tri_forced_by cell.force p.ports (tri_taken_by cell.scan (value_from (view cell.domain)) (value_from (view cell.domain) cell.input)) else p.old c in
-    ap F (cell_past x.flops.items c out) ∙ go (p.pulsed 0 && takes p.rising false) where
+    ap F (cell_past x.flops c out) ∙ go (p.pulsed 0 && takes p.rising false) where
       go : (up : Bool) → (if up then Unknown else p.old c) ≡ Unknown
       go true = refl
       go false = old
 
 pub phase_passed : (m after : Machine) (x : Circuit) (rising : Bool) (pulsed : List Bool) (p : Pulse) (new : List Tri) → (compiled : logic m ≡ logic_at x) → after.netlist ≡ m.netlist → after.clocks ≡ m.clocks → after.inputs ≡ m.inputs → after.shown ≡ m.shown →
     (cells : after.cells ≡ new) → (edge : p.rising ≡ rising) → (ports : ((k : ℕ) → p.ports k ≡ value_at m.inputs k)) → (ups : ((e : ℕ) → p.pulsed e ≡ pulses m.clocks pulsed e)) → (old : ((c : ℕ) → p.old c ≡ value_at m.cells c)) →
-    length m.cells ≡ length x.flops.items → length new ≡ length m.cells → (passed : IsPassed x p new) → IsPhase (logic m) m rising pulsed after
+    length m.cells ≡ length x.flops → length new ≡ length m.cells → (passed : IsPassed x p new) → IsPhase (logic m) m rising pulsed after
 phase_passed m after x rising pulsed p new compiled n k i s cells edge ports ups old a b passed =
     let same : p ≡ phase_from m rising pulsed = λ t. record { rising = edge t; ports = λ q. ports q t; pulsed = λ e. ups e t; old = λ c. old c t } in
     let each : (c : ℕ) → value_at after.cells c ≡ after_pulse (logic_at x) p passed.view c = λ c.
     ap (λ (l : List Tri). value_at l c) cells
-    ∙ elim (leb_tells (length x.flops.items) c) [
+    ∙ elim (leb_tells (length x.flops) c) [
       | inl out ↦ (let f : length new ≤ c = omega (arith, out.1) in let g : length m.cells ≤ c = omega (arith, out.1) in
           get_or_past new c Unknown f ∙ sym (after_past x p passed.view c out.1 (old c ∙ get_or_past m.cells c Unknown g)))
       | inr live ↦ passed.each c live.1
@@ -413,9 +412,9 @@ pub loose_kept : (x : Circuit) (v : Vec Tri) (ws rs : List Tri) → length ws �
 loose_kept x v ws rs a e loose = subst (λ (l : List Tri). LooseAreUnknown x (value_at l)) (sym (filled v ws rs a e)) loose
 
 -- past the end there is no value
-loose_within : (x : Circuit) (new : List Tri) → length new ≡ length x.flops.items → ((c : ℕ) → c < length x.flops.items → is_loose (cell_at (map cell_of x.flops.items) c) ≡ true → value_at new c ≡ Unknown) →
+loose_within : (x : Circuit) (new : List Tri) → length new ≡ length x.flops → ((c : ℕ) → c < length x.flops → is_loose (cell_at (map cell_of x.flops) c) ≡ true → value_at new c ≡ Unknown) →
     LooseAreUnknown x (value_at new)
-loose_within x new size each c is = elim (leb_tells (length x.flops.items) c) [
+loose_within x new size each c is = elim (leb_tells (length x.flops) c) [
   | inl out ↦ (let far : length new ≤ c = omega (arith, out.1) in get_or_past new c Unknown far)
   | inr live ↦ each c live.1 is
 ]
@@ -429,33 +428,33 @@ acted_loose cell net value bit is = go (is_loose_input cell.input) (is_none cell
   go true true (Some force) is = absurd cc
 
 -- an input that gets a value
-pub set_loose : (x : Circuit) (net : ℕ) (value : Tri) (old new : List Tri) → length new ≡ length x.flops.items → LooseAreUnknown x (value_at old) →
-    ((c : ℕ) → c < length x.flops.items → value_at new c ≡ acted (cell_at (map cell_of x.flops.items) c).force net value (value_at old c)) → LooseAreUnknown x (value_at new)
+pub set_loose : (x : Circuit) (net : ℕ) (value : Tri) (old new : List Tri) → length new ≡ length x.flops → LooseAreUnknown x (value_at old) →
+    ((c : ℕ) → c < length x.flops → value_at new c ≡ acted (cell_at (map cell_of x.flops) c).force net value (value_at old c)) → LooseAreUnknown x (value_at new)
 set_loose x net value old new size loose each =
-    loose_within x new size (λ c live is. each c live ∙ acted_loose (cell_at (map cell_of x.flops.items) c) net value (value_at old c) is ∙ loose c is)
+    loose_within x new size (λ c live is. each c live ∙ acted_loose (cell_at (map cell_of x.flops) c) net value (value_at old c) is ∙ loose c is)
 
 either_unknown : (up : Bool) (next old : Tri) → (up ≡ true → next ≡ Unknown) → old ≡ Unknown → (if up then next else old) ≡ Unknown
 either_unknown true next old a b = a refl
 either_unknown false next old a b = b
 
 -- a pulse by a plan, or none
-pub passed_loose : (x : Circuit) (p : Pulse) (old new : List Tri) (taken : Bool) → length new ≡ length x.flops.items → ((c : ℕ) → p.old c ≡ value_at old c) → LooseAreUnknown x (value_at old) →
+pub passed_loose : (x : Circuit) (p : Pulse) (old new : List Tri) (taken : Bool) → length new ≡ length x.flops → ((c : ℕ) → p.old c ≡ value_at old c) → LooseAreUnknown x (value_at old) →
     (taken ≡ true → IsPassed x p new) → (taken ≡ false → new ≡ old) → LooseAreUnknown x (value_at new)
 unfolding logic_at
 passed_loose x p old new false size olds loose passed same = λ c is. ap (λ (l : List Tri). value_at l c) (same refl) ∙ loose c is
 passed_loose x p old new true size olds loose passed same =
     let r = passed refl in
-    let cells : ℕ → Cell = cell_at (map cell_of x.flops.items) in
+    let cells : ℕ → Cell = cell_at (map cell_of x.flops) in
     loose_within x new size
     (λ c live is. r.each c live ∙ either_unknown (changes (logic_at x) p c) _ (p.old c) (λ up. next_loose (cells c) p.ports (r.view (cells c).domain) is) (olds c ∙ loose c is))
 
 -- a pulse by the views
-pub pulsed_loose : (x : Circuit) (p : Pulse) (poss next old new : List Tri) → IsCircuit x → length new ≡ length x.flops.items → LooseAreUnknown x (value_at old) →
+pub pulsed_loose : (x : Circuit) (p : Pulse) (poss next old new : List Tri) → IsCircuit x → length new ≡ length x.flops → LooseAreUnknown x (value_at old) →
     ((view : ℕ → ℕ → Tri) → AreViews (logic_at x) p (value_at poss) view → AreNext (logic_at x) p view poss next) →
-    ((c : ℕ) → c < length x.flops.items → value_at new c ≡ (if changes (logic_at x) p c then value_at next c else value_at old c)) → LooseAreUnknown x (value_at new)
+    ((c : ℕ) → c < length x.flops → value_at new c ≡ (if changes (logic_at x) p c then value_at next c else value_at old c)) → LooseAreUnknown x (value_at new)
 unfolding logic_at
 pulsed_loose x p poss next old new is size loose nexts each =
-    let cells : ℕ → Cell = cell_at (map cell_of x.flops.items) in
+    let cells : ℕ → Cell = cell_at (map cell_of x.flops) in
     let found = views_exist (logic_at x) (rank_of x) p (value_at poss) (circuit_ranked x is) in
     loose_within x new size
     (λ c live l. each c live

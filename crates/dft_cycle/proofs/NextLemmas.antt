@@ -9,23 +9,22 @@ use Rattle.dft_netlist.specs.Logic.{Cell}
 use Rattle.dft_netlist.specs.Settled.{TriSources, value_given, IsTriSettled}
 use Rattle.dft_logic.specs.declared.circuit.Op.{Op}
 use Rattle.dft_logic.specs.declared.circuit.Op.TheVariants.{Free}
-use Rattle.dft_logic.specs.declared.circuit.Circuit.{Circuit}
 use Rattle.dft_abstract.specs.Cycle.{Pulse, view_sources, AreViews}
 use Rattle.dft_cycle.specs.Machine.{value_at}
-use Rattle.dft_logic.specs.Circuit.{logic_at, meaning, IsCircuit}
+use Rattle.dft_logic.specs.Circuit.{Circuit, logic_at, meaning, IsCircuit}
 use Rattle.dft_cycle.specs.Views.{next_at, next_by, rank_of, IsHeld, HasNext}
 use Rattle.dft_logic.proofs.CircuitRanks.{rank_lower}
 use Rattle.dft_cycle.proofs.RoundLemmas.{IsHeldView, agree, among_before}
 
 -- the settled values are the view
 pub agree_all : (x : Circuit) (p : Pulse) (poss : ℕ → Tri) (view : ℕ → ℕ → Tri) (d : ℕ) (held : List Tri) (t : TriSources) (values : ℕ → Tri) → IsCircuit x → AreViews (logic_at x) p poss view →
-    IsHeldView x p poss view d held t values → IsTriSettled (logic_at x) t values → IsHeld x view held (length x.ops.items) → (k : ℕ) → values k ≡ view d k
+    IsHeldView x p poss view d held t values → IsTriSettled (logic_at x) t values → IsHeld x view held (length x.ops) → (k : ℕ) → values k ≡ view d k
 unfolding logic_at
-agree_all x p poss view d held t values is views same settled right k = elim (leb_tells (length x.ops.items) k) [
-  | inl out ↦ (let free = get_or_past x.ops.items k Free out.1 in
+agree_all x p poss view d held t values is views same settled right k = elim (leb_tells (length x.ops) k) [
+  | inl out ↦ (let free = get_or_past x.ops k Free out.1 in
       settled k ∙ ap (λ (o : Op). value_given t values k (meaning o)) free
       ∙ sym (ap (λ (o : Op). value_given (view_sources (logic_at x) p poss view d) (view d) k (meaning o)) free) ∙ sym (views d k))
-  | inr live ↦ agree x p poss view d held t values (length x.ops.items) is views same settled right (suc (rank_of x k)) k (omega arith) (rank_lower x is k live.1)
+  | inr live ↦ agree x p poss view d held t values (length x.ops) is views same settled right (suc (rank_of x k)) k (omega arith) (rank_lower x is k live.1)
 ]
 
 pub by_hit : (cell : Cell) (d : ℕ) (ports values : ℕ → Tri) (old : Tri) → (cell.domain == d) ≡ true → next_by cell d ports values old ≡ next_at cell ports values
@@ -39,8 +38,8 @@ next_start x p view clocks next c live up among = (let less = among.before in ab
 
 -- one pulsed domain more
 pub next_more : (x : Circuit) (p : Pulse) (poss : ℕ → Tri) (view : ℕ → ℕ → Tri) (clocks : List NetId) (held next new values : List Tri) (j d : ℕ) (t : TriSources) → (is : IsCircuit x) → (views : AreViews (logic_at x) p poss view) →
-    (same : IsHeldView x p poss view d held t (value_at values)) → (settled : IsTriSettled (logic_at x) t (value_at values)) → (right : IsHeld x view held (length x.ops.items)) →
-    (each : ((c : ℕ) → c < length x.flops.items → value_at new c ≡ next_by ((logic_at x).cell c) d p.ports (value_at values) (value_at next c))) →
+    (same : IsHeldView x p poss view d held t (value_at values)) → (settled : IsTriSettled (logic_at x) t (value_at values)) → (right : IsHeld x view held (length x.ops)) →
+    (each : ((c : ℕ) → c < length x.flops → value_at new c ≡ next_by ((logic_at x).cell c) d p.ports (value_at values) (value_at next c))) →
     (here : (get_or clocks j (record { 0 = 0 })).0 ≡ d) → (before : HasNext x p view clocks j next) → HasNext x p view clocks (j + 1) new
 next_more x p poss view clocks held next new values j d t is views same settled right each here before c live up among =
     let cell : Cell = (logic_at x).cell c in

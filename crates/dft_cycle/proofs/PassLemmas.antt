@@ -13,14 +13,13 @@ use Rattle.dft_netlist.specs.Settled.{value_from, value_given}
 use Rattle.dft_netlist.specs.Orders.{Has, numbers_of}
 use Rattle.dft_netlist.specs.Runs.{takes}
 use Rattle.dft_abstract.specs.Cycle.{Pulse, level_before}
-use Rattle.dft_logic.specs.declared.circuit.Circuit.{Circuit}
 use Rattle.dft_logic.specs.declared.takings.Taking.{Taking}
 use Rattle.dft_logic.specs.Needs.{strobe_from, before_from, AreSeen}
 use Rattle.dft_logic.specs.Shows.{Shown, IsShownOn}
 use Rattle.dft_logic.specs.Takes.{AreOrigins}
 use Rattle.dft_logic.specs.Entries.{Entry, entry_value}
 use Rattle.dft_logic.specs.Values.{value_at}
-use Rattle.dft_logic.specs.Circuit.{meaning, op_at, logic_at, cell_of, cell_at, force_nets, next_at, IsCircuit}
+use Rattle.dft_logic.specs.Circuit.{Circuit, meaning, op_at, logic_at, cell_of, cell_at, force_nets, next_at, IsCircuit}
 use Rattle.dft_logic.specs.EntryTables.{scan_needs, entry_for}
 use Rattle.dft_registers.specs.Layout.{Layout}
 use Rattle.dft_registers.specs.declared.moves.Move.{Move}
@@ -109,17 +108,17 @@ by_takings cells q v table count moved takings row old new are same loose found 
       go (Follows other) left carried = carried ∙ sym (same other) ∙ ap (entry_value q.old v (next_at (cells c) q.ports v) c) (sym left)
 
 pub passed : (x : Circuit) (clocks : List NetId) (l : Layout) (pins : Pins) (plan : Plan) (q : Pulse) (values row old new : List Tri) → (is : IsCircuit x) → (pinned : IsPins x pins) → IsMade x clocks l pins plan →
-    (among : ((e : ℕ) → q.pulsed e ≡ true → Among clocks (length clocks) e)) → (past : ((k : ℕ) → length x.ops.items ≤ k → q.ports k ≡ Unknown)) → (olds : ((c : ℕ) → q.old c ≡ value_at old c)) → (loose : LooseAreUnknown x (value_at old)) → (len : length values ≡ length x.ops.items) →
+    (among : ((e : ℕ) → q.pulsed e ≡ true → Among clocks (length clocks) e)) → (past : ((k : ℕ) → length x.ops ≤ k → q.ports k ≡ Unknown)) → (olds : ((c : ℕ) → q.old c ≡ value_at old c)) → (loose : LooseAreUnknown x (value_at old)) → (len : length values ≡ length x.ops) →
     (edge : plan.rising ≡ q.rising) → (flagged : plan.pulsed.items ≡ flags_of q.pulsed clocks) → (ports : plan.ports.items ≡ row_of q.ports pins.ports.items) → (enables : plan.enables.items ≡ row_of (value_at values) pins.enables.items) →
-    (settled : ((k : ℕ) → Has (numbers_of (step_nets plan.steps.items)) k → value_at values k ≡ value_given (before_from q (value_at values)) (value_at values) k (meaning (op_at x.ops.items k)))) →
-    (found : ((j : ℕ) → j < length plan.takings.items → value_at row j ≡ taken_by (cell_at (map cell_of x.flops.items)) q (value_at values) (taking_at plan.takings.items j))) → (size : length old ≡ length x.flops.items) →
+    (settled : ((k : ℕ) → Has (numbers_of (step_nets plan.steps.items)) k → value_at values k ≡ value_given (before_from q (value_at values)) (value_at values) k (meaning (op_at x.ops k)))) →
+    (found : ((j : ℕ) → j < length plan.takings.items → value_at row j ≡ taken_by (cell_at (map cell_of x.flops)) q (value_at values) (taking_at plan.takings.items j))) → (size : length old ≡ length x.flops) →
     (put : ArePut plan.takings.items (length plan.takings.items) (value_at row) (course l plan.moves.items) old new) → IsPassed x q new
 unfolding logic_at
 passed x clocks l pins plan q values row old new is pinned m among past olds loose len edge flagged ports enables settled found size put =
     let v : ℕ → Tri = value_at values in
     let w : ℕ → Tri = value_at m.values in
-    let count : ℕ = length x.ops.items in
-    let cells : ℕ → Cell = cell_at (map cell_of x.flops.items) in
+    let count : ℕ = length x.ops in
+    let cells : ℕ → Cell = cell_at (map cell_of x.flops) in
     let same : (e : ℕ) → m.pulse.pulsed e ≡ q.pulsed e = pulsed_same clocks m.pulse.pulsed q.pulsed m.key.among among (sym m.key.pulsed ∙ flagged) in
     let whole : m.pulse.pulsed ≡ q.pulsed = λ t e. same e t in
     let alike : m.pulse.rising ≡ q.rising = sym m.key.edge ∙ edge in
@@ -127,31 +126,31 @@ passed x clocks l pins plan q values row old new is pinned m among past olds loo
     let S : (ℕ → Bool) → Type 0 = λ f. IsShownOn (logic_at x) (edges_of m.pulse.rising f) (λ net. true) m.shown in
     let R : Bool → Type 0 = λ b. IsShownOn (logic_at x) (edges_of b q.pulsed) (λ net. true) m.shown in
     let beyond : (l : List Tri) → length l ≡ count → (k : ℕ) → count ≤ k → value_at l k ≡ Unknown = λ l e k far. get_or_past l k Unknown (omega arith) in
-    let port : (c : ℕ) (force : Force) → c < length x.flops.items → (cells c).force ≡ Some force → m.pulse.ports force.port ≡ q.ports force.port =
+    let port : (c : ℕ) (force : Force) → c < length x.flops → (cells c).force ≡ Some force → m.pulse.ports force.port ≡ q.ports force.port =
     λ c force live at. at_nets m.pulse.ports q.ports pins.ports.items count force.port (sym m.key.ports ∙ ports) m.past past (λ less. pinned.ports c force.port live less (force_here (cells c).force force at)) in
-    let enable : (c : ℕ) (scan : Scan) → c < length x.flops.items → (cells c).scan ≡ Some scan → value_from w scan.enable ≡ value_from v scan.enable =
+    let enable : (c : ℕ) (scan : Scan) → c < length x.flops → (cells c).scan ≡ Some scan → value_from w scan.enable ≡ value_from v scan.enable =
     λ c scan live at. source_same w v scan.enable
     (λ k net. at_nets w v pins.enables.items count k (sym m.key.enables ∙ enables) (beyond m.values m.size) (beyond values len) (λ less. pinned.enables c k live less (scan_here (cells c).scan scan k at net))) in
-    let entries : (c : ℕ) → c < length x.flops.items → entry_for (cells c) q m.origin m.shown v ≡ Some (m.table c) =
+    let entries : (c : ℕ) → c < length x.flops → entry_for (cells c) q m.origin m.shown v ≡ Some (m.table c) =
     λ c live. sym (entry_stays (record { net = λ net. Free; cell = λ k. cells c }) m.pulse q m.origin m.shown w v 0 (λ t. same (cells c).domain t && takes (alike t) (cells c).falling) (λ force at. port c force live at) (λ scan at. enable c scan live at)) ∙ m.entries c live in
     let pass = planned x q m.origin m.shown m.table m.marked values new is len (subst O (λ t e. same e t && not (alike t)) m.origins) (subst R alike (subst S whole m.shows)) m.list.closed (λ k up. settled k (m.list.listed k up)) entries m.needed
-    (by_takings cells q v m.table (length x.flops.items) (course l plan.moves.items) plan.takings.items (value_at row) old new m.takings olds loose found size put) in
+    (by_takings cells q v m.table (length x.flops) (course l plan.moves.items) plan.takings.items (value_at row) old new m.takings olds loose found size put) in
     record { poss = pass.0; view = pass.1.0; least = pass.1.1.0; each = pass.1.1.1 }
 
 -- ---- a plan is made
 
 pub plan_made : (x : Circuit) (clocks : List NetId) (l : Layout) (pins : Pins) (p : Pulse) (values : List Tri) (origin : ℕ → Option ℕ) (shown : ℕ → Shown) (table : ℕ → Entry) (old mid new : Plan) →
-    (was : IsPlan x clocks l pins old) → IsFilled x l table old mid → IsNoted clocks pins p (value_at values) Made mid new → (size : length values ≡ length x.ops.items) → (past : ((k : ℕ) → length x.ops.items ≤ k → p.ports k ≡ Unknown)) →
+    (was : IsPlan x clocks l pins old) → IsFilled x l table old mid → IsNoted clocks pins p (value_at values) Made mid new → (size : length values ≡ length x.ops) → (past : ((k : ℕ) → length x.ops ≤ k → p.ports k ≡ Unknown)) →
     (among : ((e : ℕ) → p.pulsed e ≡ true → Among clocks (length clocks) e)) → (origins : AreOrigins (logic_at x) (level_before p) origin) → (shows : IsShownOn (logic_at x) (edges_of p.rising p.pulsed) (λ net. true) shown) →
-    (entries : ((c : ℕ) → c < length x.flops.items → entry_for (cell_at (map cell_of x.flops.items) c) p origin shown (value_at values) ≡ Some (table c))) → IsPlan x clocks l pins new
+    (entries : ((c : ℕ) → c < length x.flops → entry_for (cell_at (map cell_of x.flops) c) p origin shown (value_at values) ≡ Some (table c))) → IsPlan x clocks l pins new
 plan_made x clocks l pins p values origin shown table old mid new was f n size past among origins shows entries =
     let stepped : vec_capacity new.steps ≡ vec_capacity mid.steps = ap (λ (v : Vec Step). vec_capacity v) n.steps in
     let taken : vec_capacity new.takings ≡ vec_capacity mid.takings = ap (λ (v : Vec Taking). vec_capacity v) n.takings in
     let L : Vec Step → Type 0 = λ v. IsNeedList x f.marked (step_nets v.items) in
     let A : Vec Step → Type 0 = λ v. All (IsStep x) v.items in
-    let T : List Move → List Taking → Type 0 = λ moves takings. AreTakings (cell_at (map cell_of x.flops.items)) table (length x.flops.items) (course l moves) takings in
-    let kept : length x.ops.items ≤ vec_capacity old.steps = was.steps in
-    let room : length x.flops.items ≤ vec_capacity old.takings = was.room in
+    let T : List Move → List Taking → Type 0 = λ moves takings. AreTakings (cell_at (map cell_of x.flops)) table (length x.flops) (course l moves) takings in
+    let kept : length x.ops ≤ vec_capacity old.steps = was.steps in
+    let room : length x.flops ≤ vec_capacity old.takings = was.room in
     record {
       pulsed = ap length n.pulsed ∙ length-map clocks _;
       ports = ap length n.ports ∙ length-map pins.ports.items _;
@@ -188,8 +187,8 @@ pub plan_noted : (x : Circuit) (clocks : List NetId) (l : Layout) (pins : Pins) 
 plan_noted x clocks l pins p values old new was n =
     let stepped : vec_capacity new.steps ≡ vec_capacity old.steps = ap (λ (v : Vec Step). vec_capacity v) n.steps in
     let taken : vec_capacity new.takings ≡ vec_capacity old.takings = ap (λ (v : Vec Taking). vec_capacity v) n.takings in
-    let kept : length x.ops.items ≤ vec_capacity old.steps = was.steps in
-    let room : length x.flops.items ≤ vec_capacity old.takings = was.room in
+    let kept : length x.ops ≤ vec_capacity old.steps = was.steps in
+    let room : length x.flops ≤ vec_capacity old.takings = was.room in
     record {
       pulsed = ap length n.pulsed ∙ length-map clocks _;
       ports = ap length n.ports ∙ length-map pins.ports.items _;
@@ -201,8 +200,8 @@ plan_noted x clocks l pins p values old new was n =
 
 -- ---- looks
 
-pub look_read : (x : Circuit) (look : Look) (ports flops : ℕ → Tri) (values row : List Tri) → IsCircuit x → IsListed x look → length values ≡ length x.ops.items →
-    ((k : ℕ) → Has (numbers_of (step_nets look.steps.items)) k → value_at values k ≡ value_given (strobe_from ports flops (value_at values)) (value_at values) k (meaning (op_at x.ops.items k))) →
+pub look_read : (x : Circuit) (look : Look) (ports flops : ℕ → Tri) (values row : List Tri) → IsCircuit x → IsListed x look → length values ≡ length x.ops →
+    ((k : ℕ) → Has (numbers_of (step_nets look.steps.items)) k → value_at values k ≡ value_given (strobe_from ports flops (value_at values)) (value_at values) k (meaning (op_at x.ops k))) →
     row ≡ map (λ net. value_at values net.0) look.nets.items → AreSeen (logic_at x) ports flops look.nets.items row
 unfolding logic_at
 look_read x look ports flops values row is listed len settled read =

@@ -9,11 +9,10 @@ use Rattle.dft_base.specs.Tri.{AboveTri, join}
 use Rattle.dft_cells.proofs.Completions.{above_self, trans}
 use Rattle.dft_netlist.specs.declared.ids.NetId.{NetId}
 use Rattle.dft_netlist.specs.Logic.{Logic, Cell}
-use Rattle.dft_logic.specs.declared.circuit.Circuit.{Circuit}
 use Rattle.dft_netlist.specs.Runs.{takes}
 use Rattle.dft_abstract.specs.Cycle.{Pulse, changes, next_value, AreViews, IsClosed, IsLeast}
 use Rattle.dft_cycle.specs.Machine.{value_at}
-use Rattle.dft_logic.specs.Circuit.{logic_at, IsCircuit}
+use Rattle.dft_logic.specs.Circuit.{Circuit, logic_at, IsCircuit}
 use Rattle.dft_cycle.specs.Views.{is_known, raised_by, rank_of, Among, HasNext, StaysBelow, AreNext}
 use Rattle.dft_abstract.proofs.Views.{views_exist}
 use Rattle.dft_abstract.proofs.Least.{step_below}
@@ -111,10 +110,10 @@ pulses l p c up = and_left (p.pulsed (l.cell c).domain) (takes p.rising (l.cell 
 
 -- what `raise` does to each flip-flop
 abbrev pub IsRaised : Circuit → Pulse → (next old new : List Tri) → Type 0
-IsRaised x p next old new = (c : ℕ) → c < length x.flops.items → value_at new c ≡ raised_by (changes (logic_at x) p c) (value_at next c) (value_at old c)
+IsRaised x p next old new = (c : ℕ) → c < length x.flops → value_at new c ≡ raised_by (changes (logic_at x) p c) (value_at next c) (value_at old c)
 
-pub turn_above : (x : Circuit) (p : Pulse) (next old new : List Tri) → length old ≡ length x.flops.items → length new ≡ length old → IsRaised x p next old new → (c : ℕ) → AboveTri (value_at new c) (value_at old c)
-turn_above x p next old new a b each c = elim (leb_tells (length x.flops.items) c) [
+pub turn_above : (x : Circuit) (p : Pulse) (next old new : List Tri) → length old ≡ length x.flops → length new ≡ length old → IsRaised x p next old new → (c : ℕ) → AboveTri (value_at new c) (value_at old c)
+turn_above x p next old new a b each c = elim (leb_tells (length x.flops) c) [
   | inl out ↦ (let far : length new ≤ c = omega (arith, out.1) in let P : Tri → Type 0 = λ t. AboveTri t (value_at old c) in subst P (sym (get_or_past new c Unknown far)) tt)
   | inr live ↦ (let P : Tri → Type 0 = λ t. AboveTri t (value_at old c) in subst P (sym (each c live.1)) (raised_over (changes (logic_at x) p c) (value_at next c) (value_at old c)))
 ]
@@ -124,13 +123,13 @@ below_case : (l : Logic) (rank : ℕ → ℕ) (p : Pulse) (poss other : ℕ → 
 below_case l rank p poss other view its c next true e is joined over = let P : Tri → Type 0 = λ t. AboveTri (other c) (join (poss c) t) in subst P (sym (is refl)) (joined e)
 below_case l rank p poss other view its c next false e is joined over = over
 
-pub turn_below : (x : Circuit) (p : Pulse) (clocks : List NetId) (next old new : List Tri) → IsCircuit x → length old ≡ length x.flops.items → length new ≡ length old → IsRaised x p next old new →
+pub turn_below : (x : Circuit) (p : Pulse) (clocks : List NetId) (next old new : List Tri) → IsCircuit x → length old ≡ length x.flops → length new ≡ length old → IsRaised x p next old new →
     ((e : ℕ) → p.pulsed e ≡ true → Among clocks (length clocks) e) →
     ((view : ℕ → ℕ → Tri) → AreViews (logic_at x) p (value_at old) view → HasNext x p view clocks (length clocks) next) → StaysBelow (logic_at x) p old new
 turn_below x p clocks next old new is a b each among has other its closed over c =
     let found = views_exist (logic_at x) (rank_of x) p (value_at old) (circuit_ranked x is) in
     let P : Tri → Type 0 = λ t. AboveTri (other c) t in
-    elim (leb_tells (length x.flops.items) c) [
+    elim (leb_tells (length x.flops) c) [
       | inl out ↦ (let far : length new ≤ c = omega (arith, out.1) in let there : length old ≤ c = omega (arith, out.1) in
           subst P (get_or_past old c Unknown there ∙ sym (get_or_past new c Unknown far)) (over c))
       | inr live ↦ subst P (sym (each c live.1))
@@ -140,15 +139,15 @@ turn_below x p clocks next old new is a b each among has other its closed over c
     ]
 
 -- past the end no flip-flop takes anything
-pub past_next : (x : Circuit) (p : Pulse) (view : ℕ → ℕ → Tri) (c : ℕ) → length x.flops.items ≤ c → next_value (logic_at x) p view c ≡ Unknown
+pub past_next : (x : Circuit) (p : Pulse) (view : ℕ → ℕ → Tri) (c : ℕ) → length x.flops ≤ c → next_value (logic_at x) p view c ≡ Unknown
 unfolding logic_at
-past_next x p view c far = ap (λ (k : Cell). next_value (record { net = (logic_at x).net; cell = λ n. k }) p view c) (cell_past x.flops.items c far)
+past_next x p view c far = ap (λ (k : Cell). next_value (record { net = (logic_at x).net; cell = λ n. k }) p view c) (cell_past x.flops c far)
 
-pub turn_done : (x : Circuit) (p : Pulse) (clocks : List NetId) (next old new : List Tri) (view : ℕ → ℕ → Tri) → length old ≡ length x.flops.items → length next ≡ length x.flops.items → IsRaised x p next old new →
+pub turn_done : (x : Circuit) (p : Pulse) (clocks : List NetId) (next old new : List Tri) (view : ℕ → ℕ → Tri) → length old ≡ length x.flops → length next ≡ length x.flops → IsRaised x p next old new →
     ((e : ℕ) → p.pulsed e ≡ true → Among clocks (length clocks) e) → new ≡ old → HasNext x p view clocks (length clocks) next → AreNext (logic_at x) p view new next
 turn_done x p clocks next old new view a b each among same has c up =
     let P : Tri → Type 0 = λ t. AboveTri t (next_value (logic_at x) p view c) in
-    elim (leb_tells (length x.flops.items) c) [
+    elim (leb_tells (length x.flops) c) [
       | inl out ↦ (
         (let far : length next ≤ c = omega (arith, out.1) in get_or_past next c Unknown far ∙ sym (past_next x p view c out.1)),
         (let far : length new ≤ c = (let e = ap length same in omega (arith, out.1)) in subst P (sym (get_or_past new c Unknown far)) tt),

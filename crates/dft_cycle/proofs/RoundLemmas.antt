@@ -10,10 +10,9 @@ use Rattle.dft_netlist.specs.Logic.{Meaning, Lockup, reads}
 use Rattle.dft_netlist.specs.Settled.{TriSources, value_from, IsTriSettled}
 use Rattle.dft_netlist.proofs.Meanings.{source_same}
 use Rattle.dft_logic.specs.declared.circuit.Latch.{Latch}
-use Rattle.dft_logic.specs.declared.circuit.Circuit.{Circuit}
 use Rattle.dft_abstract.specs.Cycle.{Pulse, lockup_shown, view_sources, AreViews}
 use Rattle.dft_cycle.specs.Machine.{value_at}
-use Rattle.dft_logic.specs.Circuit.{logic_at, latch_at, IsCircuit}
+use Rattle.dft_logic.specs.Circuit.{Circuit, logic_at, latch_at, IsCircuit}
 use Rattle.dft_cycle.specs.Views.{held_by, Among, rank_of, IsHeld, OwnsLatches}
 use Rattle.dft_abstract.proofs.Views.{given_same}
 use Rattle.dft_logic.proofs.CircuitRanks.{circuit_ranked}
@@ -56,11 +55,11 @@ latch_found (Some latch ∷ latches) zero found is = refl
 latch_found (None ∷ latches) (suc c) found is = latch_found latches c found is
 latch_found (Some latch ∷ latches) (suc c) found is = refl
 
-pub no_latch : (x : Circuit) → IsCircuit x → list_any (λ latch. is_some latch) x.latches.items ≡ false → (net c e : ℕ) (high : Bool) (source : Source) → (logic_at x).net net ≡ Lockup c e high source → ⊥
+pub no_latch : (x : Circuit) → IsCircuit x → list_any (λ latch. is_some latch) x.latches ≡ false → (net c e : ℕ) (high : Bool) (source : Source) → (logic_at x).net net ≡ Lockup c e high source → ⊥
 unfolding logic_at
-no_latch x is none net c e high source here = (let found = latch_found x.latches.items c (e, source) (is.latched net c e high source here) in true≢false (sym found ∙ none))
+no_latch x is none net c e high source here = (let found = latch_found x.latches c (e, source) (is.latched net c e high source here) in true≢false (sym found ∙ none))
 
-pub no_latch_held : (x : Circuit) (view : ℕ → ℕ → Tri) (held : List Tri) (r : ℕ) → IsCircuit x → list_any (λ latch. is_some latch) x.latches.items ≡ false → IsHeld x view held r
+pub no_latch_held : (x : Circuit) (view : ℕ → ℕ → Tri) (held : List Tri) (r : ℕ) → IsCircuit x → list_any (λ latch. is_some latch) x.latches ≡ false → IsHeld x view held r
 no_latch_held x view held r is none net c e high source here low = absurd (no_latch x is none net c e high source here)
 
 source_in : (x : Circuit) → IsCircuit x → (net c e : ℕ) (high : Bool) (source : Source) → (m : Meaning) → (logic_at x).net net ≡ m → m ≡ Lockup c e high source → AreBelow (rank_of x) (rank_of x net) (nets_of (source ∷ []))
@@ -91,7 +90,7 @@ rises_start x p poss clocks start = record { at = λ view r views right. (right,
 
 pub rises_more : (x : Circuit) (p : Pulse) (poss : ℕ → Tri) (clocks : List NetId) (start held new values : List Tri) (j d : ℕ) (t : TriSources) → (is : IsCircuit x) →
     (same : ((view : ℕ → ℕ → Tri) → IsHeldView x p poss view d held t (value_at values))) → (settled : IsTriSettled (logic_at x) t (value_at values)) →
-    (each : ((c : ℕ) → c < length x.latches.items → value_at new c ≡ held_by (latch_at x.latches.items c) d (value_at values) (value_at held c))) →
+    (each : ((c : ℕ) → c < length x.latches → value_at new c ≡ held_by (latch_at x.latches c) d (value_at values) (value_at held c))) →
     (here : (get_or clocks j (record { 0 = 0 })).0 ≡ d) → Rises x p poss clocks start held j → Rises x p poss clocks start new (j + 1)
 unfolding logic_at
 rises_more x p poss clocks start held new values j d t is same settled each here s = record {
@@ -101,13 +100,13 @@ rises_more x p poss clocks start held new values j d t is same settled each here
       λ net c e high source lockup low test eq.
       (let latch = is.latched net c e high source lockup in
       let V : ℕ → Type 0 = λ n. value_at new c ≡ value_from (view n) source in
-      subst V (sym eq) (each c (latch_live x.latches.items c (e, source) latch) ∙ latch_hits (latch_at x.latches.items c) d e source (value_at values) (value_at held c) latch test
+      subst V (sym eq) (each c (latch_live x.latches c (e, source) latch) ∙ latch_hits (latch_at x.latches c) d e source (value_at values) (value_at held c) latch test
       ∙ source_same (rank_of x) (rank_of x net) (value_at values) (view d) source (source_in x is net c e high source _ refl lockup)
       (λ k below. agree x p poss view d held t (value_at values) r is views (same view) settled before.0 (suc (rank_of x k)) k (omega arith) (omega arith)))) in
       let miss : (net c e : ℕ) (high : Bool) (source : Source) → (logic_at x).net net ≡ Lockup c e high source → (e == d) ≡ false → value_at new c ≡ value_at held c =
       λ net c e high source lockup test.
       (let latch = is.latched net c e high source lockup in
-      each c (latch_live x.latches.items c (e, source) latch) ∙ latch_misses (latch_at x.latches.items c) d e source (value_at values) (value_at held c) latch test) in (
+      each c (latch_live x.latches c (e, source) latch) ∙ latch_misses (latch_at x.latches c) d e source (value_at values) (value_at held c) latch test) in (
         (λ net c e high source lockup low. elim (eqb_tells e d) [
           | inl q ↦ hit net c e high source lockup (omega arith) q.0 q.1
           | inr q ↦ miss net c e high source lockup q.0 ∙ before.0 net c e high source lockup low

@@ -4,9 +4,8 @@ use Rattle.std.proofs.lemmas.List.{map-append, get_or-map, length-map}
 use Rattle.dft_base.specs.declared.tri.Tri.{Tri}
 use Rattle.dft_netlist.specs.declared.ids.NetId.{NetId}
 use Rattle.dft_netlist.specs.Settled.{value_given}
-use Rattle.dft_logic.specs.declared.circuit.Circuit.{Circuit}
 use Rattle.dft_logic.specs.Values.{value_at}
-use Rattle.dft_logic.specs.Circuit.{meaning, op_at, Supply, leaves_from}
+use Rattle.dft_logic.specs.Circuit.{Circuit, meaning, op_at, Supply, leaves_from}
 use Rattle.dft_logic.proofs.Listings.{Listed, net_live, one_more}
 use Rattle.dft_cycle.specs.declared.steps.Step.{Step}
 use Rattle.dft_cycle.specs.Steps.{told_by, step_nets, IsWithin, IsStep}
@@ -30,22 +29,22 @@ here steps j d less = omega (arith, length-map steps (λ (s : Step). s.net))
 net_here : (steps : List Step) (j : ℕ) (d : Step) → j < length steps → (get_or steps j d).net ≡ get_or (step_nets steps) j (get_or steps j d).net
 net_here steps j d less = sym (get_or-map (λ (s : Step). s.net) steps j d (get_or steps j d).net less)
 
-pub step_live : (x : Circuit) (base : Supply) (steps : List Step) (values : List Tri) (j : ℕ) (d : Step) → j < length steps → length values ≡ length x.ops.items →
-    Listed x.ops.items base (step_nets steps) values j → (get_or steps j d).net.0 < length values
+pub step_live : (x : Circuit) (base : Supply) (steps : List Step) (values : List Tri) (j : ℕ) (d : Step) → j < length steps → length values ≡ length x.ops →
+    Listed x.ops base (step_nets steps) values j → (get_or steps j d).net.0 < length values
 step_live x base steps values j d less len s =
-    let live = net_live x.ops.items base (step_nets steps) values j (get_or steps j d).net (here steps j d less) (net_here steps j d less) s in
+    let live = net_live x.ops base (step_nets steps) values j (get_or steps j d).net (here steps j d less) (net_here steps j d less) s in
     omega (arith, live, len)
 
 -- a step more has its driver's value
-pub step_settled : (x : Circuit) (base : Supply) (steps : List Step) (values : List Tri) (j : ℕ) (d : Step) (t : Tri) → j < length steps → length values ≡ length x.ops.items →
-    All (IsStep x) steps → Listed x.ops.items base (step_nets steps) values j →
-    t ≡ value_given (leaves_from base (value_at values)) (value_at values) (get_or steps j d).net.0 (told_by (get_or steps j d) (meaning (op_at x.ops.items (get_or steps j d).net.0))) →
-    Listed x.ops.items base (step_nets steps) (slice_set values (get_or steps j d).net.0 t) (j + 1)
+pub step_settled : (x : Circuit) (base : Supply) (steps : List Step) (values : List Tri) (j : ℕ) (d : Step) (t : Tri) → j < length steps → length values ≡ length x.ops →
+    All (IsStep x) steps → Listed x.ops base (step_nets steps) values j →
+    t ≡ value_given (leaves_from base (value_at values)) (value_at values) (get_or steps j d).net.0 (told_by (get_or steps j d) (meaning (op_at x.ops (get_or steps j d).net.0))) →
+    Listed x.ops base (step_nets steps) (slice_set values (get_or steps j d).net.0 t) (j + 1)
 step_settled x base steps values j d t less len all s given =
-    one_more x.ops.items base (step_nets steps) values j (get_or steps j d).net t (here steps j d less) (net_here steps j d less) len s
+    one_more x.ops base (step_nets steps) values j (get_or steps j d).net t (here steps j d less) (net_here steps j d less) len s
     (given ∙ ap (value_given (leaves_from base (value_at values)) (value_at values) (get_or steps j d).net.0) (sym (all j d less).told))
 
-pub step_within : (x : Circuit) (steps : List Step) (values : List Tri) (j : ℕ) (d : Step) → j < length steps → length values ≡ length x.ops.items → All (IsStep x) steps →
+pub step_within : (x : Circuit) (steps : List Step) (values : List Tri) (j : ℕ) (d : Step) → j < length steps → length values ≡ length x.ops → All (IsStep x) steps →
     IsWithin (get_or steps j d).what (get_or steps j d).first (get_or steps j d).second (get_or steps j d).third (length values)
 step_within x steps values j d less len all =
     let step : Step = get_or steps j d in

@@ -12,9 +12,8 @@ use Rattle.dft_netlist.specs.Orders.{Has, numbers_of}
 use Rattle.dft_netlist.proofs.RankLemmas.{has_all}
 use Rattle.dft_logic.specs.declared.circuit.Op.{Op}
 use Rattle.dft_logic.specs.declared.circuit.Op.TheVariants.{Free}
-use Rattle.dft_logic.specs.declared.circuit.Circuit.{Circuit}
 use Rattle.dft_cycle.specs.Machine.{value_at}
-use Rattle.dft_logic.specs.Circuit.{meaning, op_at, Supply, leaves_from, AreOrdered, IsCircuit, flag_at}
+use Rattle.dft_logic.specs.Circuit.{Circuit, meaning, op_at, Supply, leaves_from, AreOrdered, IsCircuit, flag_at}
 use Rattle.dft_logic.specs.Tables.{list_at}
 use Rattle.dft_logic.proofs.Settlings.{IsGiven, given_agree, all_more}
 
@@ -91,7 +90,7 @@ pub record Sweeping (ops : List Op) (base : Supply) (order : List NetId) (values
   pub either : (k : ℕ) → k < length ops → Has before k ⊎ Has (numbers_of (drop j order)) k
 
 pub sweeping_starts : (x : Circuit) (base : Supply) (values : List Tri) (marked : List Bool) → IsCircuit x →
-    ((k : ℕ) → flag_at marked k ≡ false → IsGiven x.ops.items base values k) → Sweeping x.ops.items base x.order.items values marked 0
+    ((k : ℕ) → flag_at marked k ≡ false → IsGiven x.ops base values k) → Sweeping x.ops base x.order values marked 0
 sweeping_starts x base values marked is given = record { before = []; rest = is.after; closed = λ k h. absurd h; clean = λ k h. absurd h; given = given; either = λ k less. inr (is.whole k less) }
 
 front : (ops : List Op) (base : Supply) (order : List NetId) (values : List Tri) (marked : List Bool) (j : ℕ) (net d : NetId) → j < length order → net ≡ get_or order j d →
@@ -135,12 +134,12 @@ sweeping_more ops base order values new marked now j net d less is s given raise
       down k false is never = is
       down k true is never = absurd (never is)
 
-pub swept : (x : Circuit) (base : Supply) (values : List Tri) (marked : List Bool) (j : ℕ) → length x.order.items ≤ j → length marked ≡ length x.ops.items →
-    Sweeping x.ops.items base x.order.items values marked j → (k : ℕ) → flag_at marked k ≡ false
-swept x base values marked j past len s k = elim (leb_tells (length x.ops.items) k) [
+pub swept : (x : Circuit) (base : Supply) (values : List Tri) (marked : List Bool) (j : ℕ) → length x.order ≤ j → length marked ≡ length x.ops →
+    Sweeping x.ops base x.order values marked j → (k : ℕ) → flag_at marked k ≡ false
+swept x base values marked j past len s k = elim (leb_tells (length x.ops) k) [
   | inl out ↦ (let far : length marked ≤ k = omega (arith, out.1) in get_or_past marked k false far)
   | inr live ↦ (let Q : List NetId → Type 0 = λ l. Has s.before k ⊎ Has (numbers_of l) k in
-      elim (subst Q (drop_all j x.order.items past) (s.either k live.1)) [ inl older ↦ s.clean k older | inr none ↦ absurd none ])
+      elim (subst Q (drop_all j x.order past) (s.either k live.1)) [ inl older ↦ s.clean k older | inr none ↦ absurd none ])
 ]
 
 -- ---- these nets, one after another
@@ -161,9 +160,9 @@ refreshed_more ops base nets start values new first marked now any j net d less 
     ]
 
 -- a net that is none of the readers does not read it
-pub blind : (x : Circuit) (net k : ℕ) (readers : List ℕ) → IsCircuit x → net < length x.ops.items → readers ≡ list_at x.readers net → (Has readers k → ⊥) → Has (reads (meaning (op_at x.ops.items k))) net → ⊥
-blind x net k readers is live e none h = elim (leb_tells (length x.ops.items) k) [
-  | inl out ↦ (let P : Op → Type 0 = λ o. Has (reads (meaning o)) net in subst P (get_or_past x.ops.items k Free out.1) h)
+pub blind : (x : Circuit) (net k : ℕ) (readers : List ℕ) → IsCircuit x → net < length x.ops → readers ≡ list_at x.readers net → (Has readers k → ⊥) → Has (reads (meaning (op_at x.ops k))) net → ⊥
+blind x net k readers is live e none h = elim (leb_tells (length x.ops) k) [
+  | inl out ↦ (let P : Op → Type 0 = λ o. Has (reads (meaning o)) net in subst P (get_or_past x.ops k Free out.1) h)
   | inr less ↦ (let Q : List ℕ → Type 0 = λ l. Has l k in none (subst Q (sym e) (is.tables.readers.each net k less.1 live h)))
 ]
 

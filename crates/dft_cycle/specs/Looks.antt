@@ -2,8 +2,7 @@
 use Rattle.std.specs.Prelude.{ℕ, Bool, true, ◌≡◌, ◌<◌, ◌≤◌, List, All, length, slice_index_or}
 use Rattle.std.specs.Vec.{vec_capacity}
 use Rattle.dft_netlist.specs.Orders.{Has, numbers_of}
-use Rattle.dft_logic.specs.declared.circuit.Circuit.{Circuit}
-use Rattle.dft_logic.specs.Circuit.{flag_at}
+use Rattle.dft_logic.specs.Circuit.{Circuit, flag_at}
 use Rattle.dft_netlist.specs.declared.ids.NetId.{NetId}
 use Rattle.dft_cycle.specs.declared.looks.Look.{Look}
 use Rattle.dft_cycle.specs.declared.looking.Looks.{Looks}
@@ -15,11 +14,11 @@ pub record IsListed (x : Circuit) (look : Look) : Type 0 where
   pub marked : List Bool
   pub steps : All (IsStep x) look.steps.items
   pub list : IsNeedList x marked (step_nets look.steps.items)
-  pub all : (k : ℕ) → k < length x.ops.items → Has (numbers_of look.nets.items) k → flag_at marked k ≡ true
+  pub all : (k : ℕ) → k < length x.ops → Has (numbers_of look.nets.items) k → flag_at marked k ≡ true
 
 pub record IsLook (x : Circuit) (look : Look) : Type 0 where
-  pub steps : length x.ops.items ≤ vec_capacity look.steps
-  pub room : length x.ops.items ≤ vec_capacity look.nets
+  pub steps : length x.ops ≤ vec_capacity look.steps
+  pub room : length x.ops ≤ vec_capacity look.nets
   pub listed : look.made ≡ true → IsListed x look
 
 -- the look at this place is at these nets
@@ -30,5 +29,5 @@ pub record IsAt (looks : List Look) (place : ℕ) (nets : List NetId) : Type 0 w
 -- all looks
 pub record AreLooks (x : Circuit) (l : Looks) : Type 0 where
   pub looks : All (IsLook x) l.looks.items
-  pub list : length l.list.items ≡ length x.ops.items
+  pub list : length l.list.items ≡ length x.ops
   pub some : 0 < length l.looks.items

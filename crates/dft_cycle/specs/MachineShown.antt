@@ -20,17 +20,17 @@ pub record IsMachine (d : Inside) : Type 0 where
   pub rests : d.falls ≡ false → IsRising (logic_at d.circuit)
   pub owned : OwnsLatches d.circuit d.clocks.items
   pub live : (place : ℕ) (clock : NetId) → slice_get d.clocks.items place ≡ Some clock → clock.0 < length d.pulsed.items
-  pub nets : length d.circuit.ops.items ≡ length d.design.now.nets
-  pub pulsed : length d.pulsed.items ≡ length d.circuit.ops.items
-  pub inputs : length d.inputs.items ≡ length d.circuit.ops.items
-  pub shown : length d.shown.items ≡ length d.circuit.ops.items
-  pub values : length d.values.items ≡ length d.circuit.ops.items
-  pub cells : length d.cells.values ≡ length d.circuit.flops.items
+  pub nets : length d.circuit.ops ≡ length d.design.now.nets
+  pub pulsed : length d.pulsed.items ≡ length d.circuit.ops
+  pub inputs : length d.inputs.items ≡ length d.circuit.ops
+  pub shown : length d.shown.items ≡ length d.circuit.ops
+  pub values : length d.values.items ≡ length d.circuit.ops
+  pub cells : length d.cells.values ≡ length d.circuit.flops
   pub search : IsSearch d.circuit d.search
-  pub marked : length d.marked.items ≡ length d.circuit.ops.items
+  pub marked : length d.marked.items ≡ length d.circuit.ops
   pub clear : (k : ℕ) → flag_at d.marked.items k ≡ false
   pub ready : IsReady d.circuit d.values.items
-  pub quick : length d.quick.items ≡ length d.circuit.ops.items
+  pub quick : length d.quick.items ≡ length d.circuit.ops
   pub plans : ArePlans d.circuit d.clocks.items d.cells.layout d.plans
   pub looks : AreLooks d.circuit d.looks
   pub loose : LooseAreUnknown d.circuit (value_at d.cells.values)

@@ -6,13 +6,12 @@ use Rattle.dft_base.specs.declared.tri.Tri.TheVariants.{Unknown}
 use Rattle.dft_netlist.specs.declared.ids.NetId.{NetId}
 use Rattle.dft_netlist.specs.Orders.{Has, numbers_of}
 use Rattle.dft_abstract.specs.Cycle.{Pulse, level_before, IsLeast, after_pulse}
-use Rattle.dft_logic.specs.declared.circuit.Circuit.{Circuit}
 use Rattle.dft_logic.specs.Needs.{IsStrobeClosed}
 use Rattle.dft_logic.specs.Shows.{Shown, IsShownOn}
 use Rattle.dft_logic.specs.Takes.{AreOrigins}
 use Rattle.dft_logic.specs.Entries.{Entry}
 use Rattle.dft_logic.specs.Values.{value_at}
-use Rattle.dft_logic.specs.Circuit.{logic_at, cell_of, cell_at, flag_at, force_nets, AreOrdered}
+use Rattle.dft_logic.specs.Circuit.{Circuit, logic_at, cell_of, cell_at, flag_at, force_nets, AreOrdered}
 use Rattle.dft_logic.specs.EntryTables.{scan_needs, entry_for, entry_needs}
 use Rattle.dft_registers.specs.Layout.{Layout}
 use Rattle.dft_registers.specs.Cells.{Contents, course, CanMove}
@@ -38,15 +37,15 @@ flags_of flags nets = map (λ net. flags net.0) nets
 -- the nets at the front of a list are in order, and with these marked nets all are there that they are settled from
 pub record IsNeedList (x : Circuit) (marked : List Bool) (nets : List NetId) : Type 0 where
   pub closed : IsStrobeClosed (logic_at x) (flag_at marked)
-  pub ordered : AreOrdered x.ops.items [] (numbers_of nets)
+  pub ordered : AreOrdered x.ops [] (numbers_of nets)
   pub listed : (k : ℕ) → flag_at marked k ≡ true → Has (numbers_of nets) k
 
 -- the ports of all resets and sets, and the nets of all scan enables, so far as there are such nets
 pub record IsPins (x : Circuit) (pins : Pins) : Type 0 where
-  pub ports : (c k : ℕ) → c < length x.flops.items → k < length x.ops.items → Has (force_nets (cell_at (map cell_of x.flops.items) c).force) k → Has (numbers_of pins.ports.items) k
-  pub enables : (c k : ℕ) → c < length x.flops.items → k < length x.ops.items → Has (scan_needs true (cell_at (map cell_of x.flops.items) c).scan) k → Has (numbers_of pins.enables.items) k
+  pub ports : (c k : ℕ) → c < length x.flops → k < length x.ops → Has (force_nets (cell_at (map cell_of x.flops) c).force) k → Has (numbers_of pins.ports.items) k
+  pub enables : (c k : ℕ) → c < length x.flops → k < length x.ops → Has (scan_needs true (cell_at (map cell_of x.flops) c).scan) k → Has (numbers_of pins.enables.items) k
   pub count : pins.count ≤ length pins.list.items
-  pub ordered : AreOrdered x.ops.items [] (numbers_of (take pins.count pins.list.items))
+  pub ordered : AreOrdered x.ops [] (numbers_of (take pins.count pins.list.items))
 
 -- these are the edge and the flags of the clocks, where all clocks that pulse are among them, and the values of the pins' ports and of their scan enables
 pub record IsKey (clocks : List NetId) (pins : Pins) (p : Pulse) (values : ℕ → Tri) (rising : Bool) (flags : List Bool) (forces scans : List Tri) : Type 0 where
@@ -64,25 +63,25 @@ pub record IsMade (x : Circuit) (clocks : List NetId) (l : Layout) (pins : Pins)
   pub shown : ℕ → Shown
   pub marked : List Bool
   pub table : ℕ → Entry
-  pub size : length values ≡ length x.ops.items
-  pub past : (k : ℕ) → length x.ops.items ≤ k → pulse.ports k ≡ Unknown
+  pub size : length values ≡ length x.ops
+  pub past : (k : ℕ) → length x.ops ≤ k → pulse.ports k ≡ Unknown
   pub key : IsKey clocks pins pulse (value_at values) plan.rising plan.pulsed.items plan.ports.items plan.enables.items
   pub origins : AreOrigins (logic_at x) (level_before pulse) origin
   pub shows : IsShownOn (logic_at x) (edges_of pulse.rising pulse.pulsed) (λ net. true) shown
-  pub entries : (c : ℕ) → c < length x.flops.items → entry_for (cell_at (map cell_of x.flops.items) c) pulse origin shown (value_at values) ≡ Some (table c)
-  pub needed : (c : ℕ) → c < length x.flops.items → (k : ℕ) → k < length x.ops.items → Has (entry_needs (cell_at (map cell_of x.flops.items) c) (table c)) k → flag_at marked k ≡ true
+  pub entries : (c : ℕ) → c < length x.flops → entry_for (cell_at (map cell_of x.flops) c) pulse origin shown (value_at values) ≡ Some (table c)
+  pub needed : (c : ℕ) → c < length x.flops → (k : ℕ) → k < length x.ops → Has (entry_needs (cell_at (map cell_of x.flops) c) (table c)) k → flag_at marked k ≡ true
   pub steps : All (IsStep x) plan.steps.items
   pub list : IsNeedList x marked (step_nets plan.steps.items)
   pub can : CanMove l plan.moves.items
-  pub takings : AreTakings (cell_at (map cell_of x.flops.items)) table (length x.flops.items) (course l plan.moves.items) plan.takings.items
+  pub takings : AreTakings (cell_at (map cell_of x.flops)) table (length x.flops) (course l plan.moves.items) plan.takings.items
 
 -- where flip-flops lie so
 pub record IsPlan (x : Circuit) (clocks : List NetId) (l : Layout) (pins : Pins) (plan : Plan) : Type 0 where
   pub pulsed : length plan.pulsed.items ≡ length clocks
   pub ports : length plan.ports.items ≡ length pins.ports.items
   pub enables : length plan.enables.items ≡ length pins.enables.items
-  pub steps : length x.ops.items ≤ vec_capacity plan.steps
-  pub room : length x.flops.items ≤ vec_capacity plan.takings
+  pub steps : length x.ops ≤ vec_capacity plan.steps
+  pub room : length x.flops ≤ vec_capacity plan.takings
   pub made : plan.stage ≡ Made → IsMade x clocks l pins plan
 
 -- ---- what is written in a plan
@@ -109,30 +108,30 @@ pub record IsFilled (x : Circuit) (l : Layout) (table : ℕ → Entry) (old new 
   pub listed : vec_capacity new.steps ≡ vec_capacity old.steps
   pub steps : All (IsStep x) new.steps.items
   pub list : IsNeedList x marked (step_nets new.steps.items)
-  pub needed : (c : ℕ) → c < length x.flops.items → (k : ℕ) → k < length x.ops.items → Has (entry_needs (cell_at (map cell_of x.flops.items) c) (table c)) k → flag_at marked k ≡ true
+  pub needed : (c : ℕ) → c < length x.flops → (k : ℕ) → k < length x.ops → Has (entry_needs (cell_at (map cell_of x.flops) c) (table c)) k → flag_at marked k ≡ true
   pub can : CanMove l new.moves.items
-  pub takings : AreTakings (cell_at (map cell_of x.flops.items)) table (length x.flops.items) (course l new.moves.items) new.takings.items
+  pub takings : AreTakings (cell_at (map cell_of x.flops)) table (length x.flops) (course l new.moves.items) new.takings.items
   pub room : vec_capacity new.takings ≡ vec_capacity old.takings
 
 -- ---- loose flip-flops
 
 -- flip-flops that are loose have never another value than Unknown, so no plan lists them
 abbrev pub LooseAreUnknown : Circuit → (values : ℕ → Tri) → Type 0
-LooseAreUnknown x values = (c : ℕ) → is_loose (cell_at (map cell_of x.flops.items) c) ≡ true → values c ≡ Unknown
+LooseAreUnknown x values = (c : ℕ) → is_loose (cell_at (map cell_of x.flops) c) ≡ true → values c ≡ Unknown
 
 -- ---- all plans
 
 -- the room has a place for each net and each instance
 pub record IsSketch (x : Circuit) (room : Sketch) : Type 0 where
-  pub origins : length room.origins.items ≡ length x.ops.items
-  pub shown : length room.shown.items ≡ length x.ops.items
-  pub entries : length room.entries.items ≡ length x.flops.items
+  pub origins : length room.origins.items ≡ length x.ops
+  pub shown : length room.shown.items ≡ length x.ops
+  pub entries : length room.entries.items ≡ length x.flops
 
 -- the plans of a circuit with these clocks, and what they are made from
 pub record ArePlans (x : Circuit) (clocks : List NetId) (l : Layout) (p : Plans) : Type 0 where
   pub pins : IsPins x p.pins
   pub sketch : IsSketch x p.sketch
-  pub list : length p.list.items ≡ length x.ops.items
+  pub list : length p.list.items ≡ length x.ops
   pub plans : All (IsPlan x clocks l p.pins) p.plans.items
   pub some : 0 < length p.plans.items
 
@@ -141,13 +140,13 @@ pub record IsPassed (x : Circuit) (p : Pulse) (new : List Tri) : Type 0 where
   pub poss : ℕ → Tri
   pub view : ℕ → ℕ → Tri
   pub least : IsLeast (logic_at x) p poss view
-  pub each : (c : ℕ) → c < length x.flops.items → value_at new c ≡ after_pulse (logic_at x) p view c
+  pub each : (c : ℕ) → c < length x.flops → value_at new c ≡ after_pulse (logic_at x) p view c
 
 -- What was found for a plan's list: where it is put, as the plan's registers move, the phase is passed.
 pub record IsFound (x : Circuit) (p : Pulse) (old : Contents) (plan : Plan) (row : List Tri) : Type 0 where
   pub can : CanMove old.layout plan.moves.items
-  pub few : length plan.takings.items ≤ length x.flops.items
-  pub live : (j : ℕ) → j < length plan.takings.items → (taking_at plan.takings.items j).place < length x.flops.items
+  pub few : length plan.takings.items ≤ length x.flops
+  pub live : (j : ℕ) → j < length plan.takings.items → (taking_at plan.takings.items j).place < length x.flops
   pub passed : (new : List Tri) → ArePut plan.takings.items (length plan.takings.items) (value_at row) (course old.layout plan.moves.items) old.values new → IsPassed x p new
 
 -- for the plan at a place

@@ -5,8 +5,7 @@ use Rattle.dft_netlist.specs.declared.ids.NetId.{NetId}
 use Rattle.dft_netlist.specs.Drivers.{Net}
 use Rattle.dft_netlist.specs.Logic.{Meaning}
 use Rattle.dft_netlist.specs.Logic as meanings
-use Rattle.dft_logic.specs.declared.circuit.Circuit.{Circuit}
-use Rattle.dft_logic.specs.Circuit.{meaning, op_at}
+use Rattle.dft_logic.specs.Circuit.{Circuit, meaning, op_at}
 use Rattle.dft_cycle.specs.declared.steps.What.{What}
 use Rattle.dft_cycle.specs.declared.steps.What.TheVariants.{Buf, Inv, And, Nand, Or, Nor, Xor, Xnor, Mux2, Joined, Flop, Inverse, Low, High, Other}
 use Rattle.dft_cycle.specs.declared.steps.Step.{Step}
@@ -52,8 +51,8 @@ IsWithin Other a b c count = Unit {0}
 
 -- the step's net takes its value from what the step tells, which is there
 pub record IsStep (x : Circuit) (step : Step) : Type 0 where
-  pub told : meaning (op_at x.ops.items step.net.0) ≡ told_by step (meaning (op_at x.ops.items step.net.0))
-  pub within : IsWithin step.what step.first step.second step.third (length x.ops.items)
+  pub told : meaning (op_at x.ops step.net.0) ≡ told_by step (meaning (op_at x.ops step.net.0))
+  pub within : IsWithin step.what step.first step.second step.third (length x.ops)
 
 -- the nets of steps
 abbrev pub step_nets : List Step → List NetId

@@ -7,14 +7,13 @@ use Rattle.dft_netlist.specs.declared.ids.NetId.{NetId}
 use Rattle.dft_netlist.specs.Drivers.{Source}
 use Rattle.dft_netlist.specs.Logic.{Logic, Lockup, Cell}
 use Rattle.dft_netlist.specs.Settled.{value_from}
-use Rattle.dft_logic.specs.declared.circuit.Circuit.{Circuit}
 use Rattle.dft_cycle.specs.declared.phases.Search.{Search}
 use Rattle.dft_abstract.specs.Cycle.{next_value, changes, IsClosed}
 use Rattle.dft_abstract.specs.Cycle as Cycle
 use Rattle.dft_logic.specs.Values.{value_at}
 pub use Rattle.dft_logic.specs.Ranks.{rank_from, rank_of}
 pub use Rattle.dft_logic.specs.Circuit.{taken_at, next_at}
-use Rattle.dft_logic.specs.Circuit.{logic_at, latch_at, flag_at}
+use Rattle.dft_logic.specs.Circuit.{Circuit, logic_at, latch_at, flag_at}
 
 -- ---- a flip-flop and a lock-up, from the values of a view
 
@@ -41,12 +40,12 @@ IsHeld x view held r = (net c e : ℕ) (high : Bool) (source : Source) → (logi
 
 -- each lock-up's domain is one of these clocks
 abbrev pub OwnsLatches : Circuit → List NetId → Type 0
-OwnsLatches x clocks = (c e : ℕ) (high : Bool) (source : Source) → latch_at x.latches.items c ≡ Some (e, source) → Among clocks (length clocks) e
+OwnsLatches x clocks = (c e : ℕ) (high : Bool) (source : Source) → latch_at x.latches c ≡ Some (e, source) → Among clocks (length clocks) e
 
 -- each flip-flop whose domain is pulsed and one of the first clocks has its next value
 abbrev pub HasNext : Circuit → Cycle.Pulse → (view : ℕ → ℕ → Tri) → List NetId → (count : ℕ) → (next : List Tri) → Type 0
 HasNext x p view clocks count next =
-    (c : ℕ) → c < length x.flops.items → p.pulsed ((logic_at x).cell c).domain ≡ true → Among clocks count ((logic_at x).cell c).domain → value_at next c ≡ next_value (logic_at x) p view c
+    (c : ℕ) → c < length x.flops → p.pulsed ((logic_at x).cell c).domain ≡ true → Among clocks count ((logic_at x).cell c).domain → value_at next c ≡ next_value (logic_at x) p view c
 
 -- every domain that pulses is one of the clocks
 abbrev pub PulsesAmong : List Bool → List NetId → Type 0
@@ -75,9 +74,9 @@ AreNext l p view poss next =
 
 -- the search has an entry for each flip-flop
 pub record IsSearch (x : Circuit) (search : Search) : Type 0 where
-  pub poss : length search.poss.items ≡ length x.flops.items
-  pub held : length search.held.items ≡ length x.flops.items
-  pub next : length search.next.items ≡ length x.flops.items
+  pub poss : length search.poss.items ≡ length x.flops
+  pub held : length search.held.items ≡ length x.flops
+  pub next : length search.next.items ≡ length x.flops
 
 -- one domain pulses at most, and there is no lock-up
 pub record IsAlone (l : Logic) (pulsed : ℕ → Bool) : Type 0 where

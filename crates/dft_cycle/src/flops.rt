@@ -23,9 +23,9 @@ pub(crate) fn take_next(
     next: &mut [Tri],
 )
     requires circuit { IsCircuit circuit.now }
-    requires live { domain.0 < length circuit.now.ops.items }
-    requires next { length next.old ≡ length circuit.now.flops.items }
-    ensures { (c : ℕ) → c < length circuit.now.flops.items → spec.value_at next.new c ≡ next_by (cell_at (map cell_of circuit.now.flops.items) c) domain.0 (spec.value_at ports.now) (spec.value_at values.now) (spec.value_at next.old c) }
+    requires live { domain.0 < length circuit.now.ops }
+    requires next { length next.old ≡ length circuit.now.flops }
+    ensures { (c : ℕ) → c < length circuit.now.flops → spec.value_at next.new c ≡ next_by (cell_at (map cell_of circuit.now.flops) c) domain.0 (spec.value_at ports.now) (spec.value_at values.now) (spec.value_at next.old c) }
 {
     for cell in list_of(&circuit.cells, domain) {
         let place = *cell as usize;
@@ -50,9 +50,9 @@ fn held_value(latch: Option<Latch>, domain: NetId, values: &[Tri], old: Tri) -> 
 // Each lock-up of a domain is held at its input's value in the domain's view. Whether one changed.
 pub(crate) fn hold(circuit: &Circuit, domain: NetId, values: &[Tri], held: &mut [Tri]) -> bool
     requires circuit { IsCircuit circuit.now }
-    requires live { domain.0 < length circuit.now.ops.items }
-    requires held { length held.old ≡ length circuit.now.latches.items }
-    ensures each { (c : ℕ) → c < length circuit.now.latches.items → spec.value_at held.new c ≡ held_by (latch_at circuit.now.latches.items c) domain.0 (spec.value_at values.now) (spec.value_at held.old c) }
+    requires live { domain.0 < length circuit.now.ops }
+    requires held { length held.old ≡ length circuit.now.latches }
+    ensures each { (c : ℕ) → c < length circuit.now.latches → spec.value_at held.new c ≡ held_by (latch_at circuit.now.latches c) domain.0 (spec.value_at values.now) (spec.value_at held.old c) }
     ensures same { result ≡ false → held.new ≡ held.old }
 {
     let mut changed = false;

@@ -63,7 +63,7 @@ fn flop_before(flops: &[FlipFlop], flop: &FlipFlop, origins: &[Option<InstanceId
 // The flip-flops of a circuit, whose values nobody knows, laid one behind the other where they shift so.
 pub(crate) fn lay_out(alloc: Global, circuit: &Circuit) -> Result<Cells, AllocError>
     requires { IsCircuit circuit.now }
-    ensures { IfOk result (λ cells. cells.values ≡ replicate (length circuit.now.flops.items) Tri.Unknown) }
+    ensures { IfOk result (λ cells. cells.values ≡ replicate (length circuit.now.flops) Tri.Unknown) }
 {
     let nothing = Cells::new(alloc, &[])?;
     let pulse = Pulse {

@@ -45,8 +45,8 @@ impl Looks {
     ) -> bool
         requires circuit { IsCircuit strobe.circuit.now }
         requires looks { AreLooks strobe.circuit.now self.old }
-        requires values { length values.old ≡ length strobe.circuit.now.ops.items }
-        requires marked { length marked.old ≡ length strobe.circuit.now.ops.items }
+        requires values { length values.old ≡ length strobe.circuit.now.ops }
+        requires marked { length marked.old ≡ length strobe.circuit.now.ops }
         requires clear { (k : ℕ) → is_up marked.old k ≡ false }
         requires row { length row.old ≡ length strobe.nets.now }
         ensures looks { AreLooks strobe.entry.circuit.now self.new }

@@ -65,11 +65,11 @@ pub(crate) fn find_look(looks: &[Look], nets: &[NetId]) -> Option<usize>
 // Lists what nets are settled from, at the front of a list: how many.
 fn list_sources(circuit: &Circuit, nets: &[NetId], marked: &mut [bool], list: &mut [NetId]) -> usize
     requires circuit { IsCircuit circuit.now }
-    requires marked { length marked.old ≡ length circuit.now.ops.items }
-    requires list { length list.old ≡ length circuit.now.ops.items }
+    requires marked { length marked.old ≡ length circuit.now.ops }
+    requires list { length list.old ≡ length circuit.now.ops }
     ensures room { result ≤ length list.new }
     ensures list { IsNeedList circuit.now marked.new (take result list.new) }
-    ensures all { (k : ℕ) → k < length circuit.now.ops.items → Has (numbers_of nets.now) k → is_up marked.new k ≡ true }
+    ensures all { (k : ℕ) → k < length circuit.now.ops → Has (numbers_of nets.now) k → is_up marked.new k ≡ true }
 {
     mark_nets(nets, marked);
     mark_needed(circuit, marked);
@@ -91,9 +91,9 @@ impl Look {
     // Lists what its nets are settled from.
     fn make(&mut self, circuit: &Circuit, marked: &mut [bool], list: &mut [NetId])
         requires circuit { IsCircuit circuit.now }
-        requires marked { length marked.old ≡ length circuit.now.ops.items }
+        requires marked { length marked.old ≡ length circuit.now.ops }
         requires look { IsLook circuit.now self.old }
-        requires list { length list.old ≡ length circuit.now.ops.items }
+        requires list { length list.old ≡ length circuit.now.ops }
         ensures look { IsLook circuit.now self.new }
         ensures made { IsListed circuit.now self.new }
         ensures nets { self.new.nets ≡ self.old.nets }
@@ -108,7 +108,7 @@ impl Look {
     // Reads the values of its nets at a strobe.
     fn read(&self, strobe: Strobe<'_>, values: &mut [Tri], row: &mut [Tri])
         requires circuit { IsCircuit strobe.circuit.now }
-        requires values { length values.old ≡ length strobe.circuit.now.ops.items }
+        requires values { length values.old ≡ length strobe.circuit.now.ops }
         requires look { IsLook strobe.circuit.now self.now }
         requires listed { IsListed strobe.circuit.now self.now }
         requires row { length row.old ≡ length self.now.nets.items }
@@ -135,9 +135,9 @@ impl Look {
     )
         requires circuit { IsCircuit strobe.circuit.now }
         requires look { IsLook strobe.circuit.now self.old }
-        requires list { length list.old ≡ length strobe.circuit.now.ops.items }
-        requires values { length values.old ≡ length strobe.circuit.now.ops.items }
-        requires marked { length marked.old ≡ length strobe.circuit.now.ops.items }
+        requires list { length list.old ≡ length strobe.circuit.now.ops }
+        requires values { length values.old ≡ length strobe.circuit.now.ops }
+        requires marked { length marked.old ≡ length strobe.circuit.now.ops }
         requires clear { (k : ℕ) → is_up marked.old k ≡ false }
         requires row { length row.old ≡ length self.old.nets.items }
         ensures look { IsLook strobe.entry.circuit.now self.new }

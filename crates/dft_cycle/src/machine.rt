@@ -297,11 +297,11 @@ fn acted_on(force: Option<Acting>, net: NetId, value: Tri, bit: Tri) -> Tri
 // An input that gets a value acts on the flip-flops that have it as their reset or set.
 fn act(circuit: &Circuit, net: NetId, value: Tri, cells: &mut Cells)
     requires circuit { IsCircuit circuit.now }
-    requires live { net.0 < length circuit.now.ops.items }
-    requires cells { length cells.old.values ≡ length circuit.now.flops.items }
+    requires live { net.0 < length circuit.now.ops }
+    requires cells { length cells.old.values ≡ length circuit.now.flops }
     ensures layout { cells.new.layout ≡ cells.old.layout }
     ensures count { length cells.new.values ≡ length cells.old.values }
-    ensures each { (c : ℕ) → c < length circuit.now.flops.items → spec.value_at cells.new.values c ≡ acted (cell_at (map cell_of circuit.now.flops.items) c).force net.0 value (spec.value_at cells.old.values c) }
+    ensures each { (c : ℕ) → c < length circuit.now.flops → spec.value_at cells.new.values c ≡ acted (cell_at (map cell_of circuit.now.flops) c).force net.0 value (spec.value_at cells.old.values c) }
 {
     for cell in list_of(&circuit.followers, net) {
         let place = *cell as usize;

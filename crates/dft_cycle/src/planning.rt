@@ -80,11 +80,11 @@ impl Plans {
         requires plans { ArePlans phase.circuit.now phase.clocks.now phase.pulse.old.now.layout self.old }
         requires live { place < length self.old.plans.items }
         requires among { PulsesAmong phase.pulse.pulsed.now phase.clocks.now }
-        requires ports { length phase.pulse.ports.now ≡ length phase.circuit.now.ops.items }
-        requires values { length values.old ≡ length phase.circuit.now.ops.items }
-        requires marked { length marked.old ≡ length phase.circuit.now.ops.items }
+        requires ports { length phase.pulse.ports.now ≡ length phase.circuit.now.ops }
+        requires values { length values.old ≡ length phase.circuit.now.ops }
+        requires marked { length marked.old ≡ length phase.circuit.now.ops }
         requires clear { (k : ℕ) → is_up marked.old k ≡ false }
-        requires cells { length phase.pulse.old.now.values ≡ length phase.circuit.now.flops.items }
+        requires cells { length phase.pulse.old.now.values ≡ length phase.circuit.now.flops }
         ensures plans { ArePlans phase.entry.circuit.now phase.entry.clocks.now phase.entry.pulse.old.now.layout self.new }
         ensures count { length self.new.plans.items ≡ length self.old.plans.items }
         ensures clear { (k : ℕ) → is_up marked.new k ≡ false }
@@ -109,11 +109,11 @@ impl Plans {
         requires circuit { IsCircuit phase.circuit.now }
         requires plans { ArePlans phase.circuit.now phase.clocks.now phase.pulse.old.now.layout self.old }
         requires among { PulsesAmong phase.pulse.pulsed.now phase.clocks.now }
-        requires ports { length phase.pulse.ports.now ≡ length phase.circuit.now.ops.items }
-        requires values { length values.old ≡ length phase.circuit.now.ops.items }
-        requires marked { length marked.old ≡ length phase.circuit.now.ops.items }
+        requires ports { length phase.pulse.ports.now ≡ length phase.circuit.now.ops }
+        requires values { length values.old ≡ length phase.circuit.now.ops }
+        requires marked { length marked.old ≡ length phase.circuit.now.ops }
         requires clear { (k : ℕ) → is_up marked.old k ≡ false }
-        requires cells { length phase.pulse.old.now.values ≡ length phase.circuit.now.flops.items }
+        requires cells { length phase.pulse.old.now.values ≡ length phase.circuit.now.flops }
         ensures plans { ArePlans phase.entry.circuit.now phase.entry.clocks.now phase.entry.pulse.old.now.layout self.new }
         ensures live { IfSome result (λ place. place < length self.new.plans.items) }
         ensures clear { (k : ℕ) → is_up marked.new k ≡ false }
@@ -146,12 +146,12 @@ impl Plans {
         requires circuit { IsCircuit phase.circuit.now }
         requires plans { ArePlans phase.circuit.now phase.clocks.now phase.pulse.old.now.layout self.old }
         requires among { PulsesAmong phase.pulse.pulsed.now phase.clocks.now }
-        requires ports { length phase.pulse.ports.now ≡ length phase.circuit.now.ops.items }
-        requires values { length values.old ≡ length phase.circuit.now.ops.items }
-        requires marked { length marked.old ≡ length phase.circuit.now.ops.items }
+        requires ports { length phase.pulse.ports.now ≡ length phase.circuit.now.ops }
+        requires values { length values.old ≡ length phase.circuit.now.ops }
+        requires marked { length marked.old ≡ length phase.circuit.now.ops }
         requires clear { (k : ℕ) → is_up marked.old k ≡ false }
-        requires row { length row.old ≡ length phase.circuit.now.flops.items }
-        requires cells { length phase.pulse.old.now.values ≡ length phase.circuit.now.flops.items }
+        requires row { length row.old ≡ length phase.circuit.now.flops }
+        requires cells { length phase.pulse.old.now.values ≡ length phase.circuit.now.flops }
         requires loose { LooseAreUnknown phase.circuit.now (spec.value_at phase.pulse.old.now.values) }
         ensures plans { ArePlans phase.entry.circuit.now phase.entry.clocks.now phase.entry.pulse.old.now.layout self.new }
         ensures clear { (k : ℕ) → is_up marked.new k ≡ false }

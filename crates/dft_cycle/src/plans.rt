@@ -150,11 +150,11 @@ pub(crate) struct Sketch {
 pub(crate) fn draw(phase: Phase<'_>, sketch: &mut Sketch, values: &mut [Tri]) -> bool
     requires circuit { IsCircuit phase.circuit.now }
     requires sketch { IsSketch phase.circuit.now sketch.old }
-    requires values { length values.old ≡ length phase.circuit.now.ops.items }
+    requires values { length values.old ≡ length phase.circuit.now.ops }
     ensures sketch { IsSketch phase.entry.circuit.now sketch.new }
     ensures origins { AreOrigins (logic_at phase.entry.circuit.now) (level_before (pulse_at phase.entry.pulse)) (origin_at sketch.new.origins.items) }
     ensures shows { IsShownOn (logic_at phase.entry.circuit.now) (edges_of phase.entry.pulse.rising (is_up phase.entry.pulse.pulsed.now)) (λ net. true) (shown_at sketch.new.shown.items) }
-    ensures entries { result ≡ true → (c : ℕ) → c < length phase.entry.circuit.now.flops.items → entry_for (cell_at (map cell_of phase.entry.circuit.now.flops.items) c) (pulse_at phase.entry.pulse) (origin_at sketch.new.origins.items) (shown_at sketch.new.shown.items) (spec.value_at values.new) ≡ Some (entry_at sketch.new.entries.items c) }
+    ensures entries { result ≡ true → (c : ℕ) → c < length phase.entry.circuit.now.flops → entry_for (cell_at (map cell_of phase.entry.circuit.now.flops) c) (pulse_at phase.entry.pulse) (origin_at sketch.new.origins.items) (shown_at sketch.new.shown.items) (spec.value_at values.new) ≡ Some (entry_at sketch.new.entries.items c) }
 {
     let pulse = phase.pulse;
     settle_list(phase.circuit, pulse, &phase.circuit.order, values);
@@ -176,12 +176,12 @@ fn list_needs(
     list: &mut [NetId],
 ) -> usize
     requires circuit { IsCircuit circuit.now }
-    requires entries { length entries.now ≡ length circuit.now.flops.items }
-    requires marked { length marked.old ≡ length circuit.now.ops.items }
-    requires list { length list.old ≡ length circuit.now.ops.items }
+    requires entries { length entries.now ≡ length circuit.now.flops }
+    requires marked { length marked.old ≡ length circuit.now.ops }
+    requires list { length list.old ≡ length circuit.now.ops }
     ensures room { result ≤ length list.new }
     ensures list { IsNeedList circuit.now marked.new (take result list.new) }
-    ensures needed { (c : ℕ) → c < length circuit.now.flops.items → (k : ℕ) → k < length circuit.now.ops.items → Has (entry_needs (cell_at (map cell_of circuit.now.flops.items) c) (entry_at entries.now c)) k → is_up marked.new k ≡ true }
+    ensures needed { (c : ℕ) → c < length circuit.now.flops → (k : ℕ) → k < length circuit.now.ops → Has (entry_needs (cell_at (map cell_of circuit.now.flops) c) (entry_at entries.now c)) k → is_up marked.new k ≡ true }
 {
     mark_entries(&circuit.flops, entries, marked);
     mark_needed(circuit, marked);
@@ -214,12 +214,12 @@ impl Plan {
         list: &mut [NetId],
     )
         requires circuit { IsCircuit circuit.now }
-        requires cells { length cells.now.values ≡ length circuit.now.flops.items }
-        requires entries { length entries.now ≡ length circuit.now.flops.items }
-        requires marked { length marked.old ≡ length circuit.now.ops.items }
-        requires list { length list.old ≡ length circuit.now.ops.items }
-        requires steps { length circuit.now.ops.items ≤ vec_capacity self.old.steps }
-        requires room { length circuit.now.flops.items ≤ vec_capacity self.old.takings }
+        requires cells { length cells.now.values ≡ length circuit.now.flops }
+        requires entries { length entries.now ≡ length circuit.now.flops }
+        requires marked { length marked.old ≡ length circuit.now.ops }
+        requires list { length list.old ≡ length circuit.now.ops }
+        requires steps { length circuit.now.ops ≤ vec_capacity self.old.steps }
+        requires room { length circuit.now.flops ≤ vec_capacity self.old.takings }
         ensures filled { IsFilled circuit.now cells.now.layout (entry_at entries.now) self.old self.new }
         ensures clear { (k : ℕ) → is_up marked.new k ≡ false }
     {
@@ -249,10 +249,10 @@ impl Plan {
         requires pins { IsPins phase.circuit.now pins.now }
         requires plan { IsPlan phase.circuit.now phase.clocks.now phase.pulse.old.now.layout pins.now self.now }
         requires among { PulsesAmong phase.pulse.pulsed.now phase.clocks.now }
-        requires ports { length phase.pulse.ports.now ≡ length phase.circuit.now.ops.items }
-        requires values { length values.old ≡ length phase.circuit.now.ops.items }
-        requires row { length row.old ≡ length phase.circuit.now.flops.items }
-        requires cells { length phase.pulse.old.now.values ≡ length phase.circuit.now.flops.items }
+        requires ports { length phase.pulse.ports.now ≡ length phase.circuit.now.ops }
+        requires values { length values.old ≡ length phase.circuit.now.ops }
+        requires row { length row.old ≡ length phase.circuit.now.flops }
+        requires cells { length phase.pulse.old.now.values ≡ length phase.circuit.now.flops }
         requires loose { LooseAreUnknown phase.circuit.now (spec.value_at phase.pulse.old.now.values) }
         ensures { result ≡ true → IsFound phase.entry.circuit.now (pulse_at phase.entry.pulse) phase.entry.pulse.old.now self.now row.new }
     {

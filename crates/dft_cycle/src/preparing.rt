@@ -30,10 +30,10 @@ const LOOKS: usize = 4;
 // Lists the ports of resets and sets, at the front of a list: how many. All marks are lowered after it.
 fn list_forces(circuit: &Circuit, marked: &mut [bool], list: &mut [NetId]) -> usize
     requires circuit { IsCircuit circuit.now }
-    requires marked { length marked.old ≡ length circuit.now.ops.items }
-    requires list { length list.old ≡ length circuit.now.ops.items }
+    requires marked { length marked.old ≡ length circuit.now.ops }
+    requires list { length list.old ≡ length circuit.now.ops }
     ensures room { result ≤ length list.new }
-    ensures all { (c k : ℕ) → c < length circuit.now.flops.items → k < length circuit.now.ops.items → Has (force_nets (cell_at (map cell_of circuit.now.flops.items) c).force) k → Has (numbers_of (take result list.new)) k }
+    ensures all { (c k : ℕ) → c < length circuit.now.flops → k < length circuit.now.ops → Has (force_nets (cell_at (map cell_of circuit.now.flops) c).force) k → Has (numbers_of (take result list.new)) k }
     ensures clear { (k : ℕ) → is_up marked.new k ≡ false }
 {
     mark_forces(&circuit.flops, marked);
@@ -50,12 +50,12 @@ fn list_enables(
     list: &mut [NetId],
 ) -> usize
     requires circuit { IsCircuit circuit.now }
-    requires entries { length entries.now ≡ length circuit.now.flops.items }
+    requires entries { length entries.now ≡ length circuit.now.flops }
     requires keep { (c : ℕ) → entry_at entries.now c ≡ Keeps }
-    requires marked { length marked.old ≡ length circuit.now.ops.items }
-    requires list { length list.old ≡ length circuit.now.ops.items }
+    requires marked { length marked.old ≡ length circuit.now.ops }
+    requires list { length list.old ≡ length circuit.now.ops }
     ensures room { result ≤ length list.new }
-    ensures all { (c k : ℕ) → c < length circuit.now.flops.items → k < length circuit.now.ops.items → Has (scan_needs true (cell_at (map cell_of circuit.now.flops.items) c).scan) k → Has (numbers_of (take result list.new)) k }
+    ensures all { (c k : ℕ) → c < length circuit.now.flops → k < length circuit.now.ops → Has (scan_needs true (cell_at (map cell_of circuit.now.flops) c).scan) k → Has (numbers_of (take result list.new)) k }
 {
     mark_entries(&circuit.flops, entries, marked);
     list_marked(circuit, marked, list)
@@ -69,9 +69,9 @@ fn pins(
     marked: &mut [bool],
 ) -> Result<Pins, AllocError>
     requires circuit { IsCircuit circuit.now }
-    requires entries { length entries.now ≡ length circuit.now.flops.items }
+    requires entries { length entries.now ≡ length circuit.now.flops }
     requires keep { (c : ℕ) → entry_at entries.now c ≡ Keeps }
-    requires marked { length marked.old ≡ length circuit.now.ops.items }
+    requires marked { length marked.old ≡ length circuit.now.ops }
     ensures pins { IfOk result (IsPins circuit.now) }
     ensures clear { IfOk result (λ _. (k : ℕ) → is_up marked.new k ≡ false) }
 {
@@ -147,7 +147,7 @@ impl Plans {
         marked: &mut [bool],
     ) -> Result<Plans, AllocError>
         requires circuit { IsCircuit circuit.now }
-        requires marked { length marked.old ≡ length circuit.now.ops.items }
+        requires marked { length marked.old ≡ length circuit.now.ops }
         ensures plans { IfOk result (λ plans. (l : Layout) → ArePlans circuit.now clocks.now l plans) }
         ensures clear { IfOk result (λ _. (k : ℕ) → is_up marked.new k ≡ false) }
     {

@@ -36,10 +36,10 @@ fn round(
     marked: &mut [bool],
 ) -> bool
     requires circuit { IsCircuit phase.circuit.now }
-    requires held { length held.old ≡ length phase.circuit.now.flops.items }
-    requires values { length values.old ≡ length phase.circuit.now.ops.items }
-    requires marked { length marked.old ≡ length phase.circuit.now.ops.items }
-    requires live { AreNets (length phase.circuit.now.ops.items) phase.clocks.now }
+    requires held { length held.old ≡ length phase.circuit.now.flops }
+    requires values { length values.old ≡ length phase.circuit.now.ops }
+    requires marked { length marked.old ≡ length phase.circuit.now.ops }
+    requires live { AreNets (length phase.circuit.now.ops) phase.clocks.now }
     requires owned { OwnsLatches phase.circuit.now phase.clocks.now }
     requires clear { (k : ℕ) → is_up marked.old k ≡ false }
     requires ready { IsReady phase.circuit.now values.old }
@@ -89,14 +89,14 @@ fn hold_lockups(
     marked: &mut [bool],
 )
     requires circuit { IsCircuit phase.circuit.now }
-    requires held { length held.old ≡ length phase.circuit.now.flops.items }
-    requires values { length values.old ≡ length phase.circuit.now.ops.items }
-    requires marked { length marked.old ≡ length phase.circuit.now.ops.items }
-    requires live { AreNets (length phase.circuit.now.ops.items) phase.clocks.now }
+    requires held { length held.old ≡ length phase.circuit.now.flops }
+    requires values { length values.old ≡ length phase.circuit.now.ops }
+    requires marked { length marked.old ≡ length phase.circuit.now.ops }
+    requires live { AreNets (length phase.circuit.now.ops) phase.clocks.now }
     requires owned { OwnsLatches phase.circuit.now phase.clocks.now }
     requires clear { (k : ℕ) → is_up marked.old k ≡ false }
     requires ready { IsReady phase.circuit.now values.old }
-    ensures held { (view : ℕ → ℕ → Tri) → AreViews (logic_at phase.entry.circuit.now) (pulse_at phase.entry.pulse) (spec.value_at poss.now) view → IsHeld phase.entry.circuit.now view held.new (length phase.entry.circuit.now.ops.items) }
+    ensures held { (view : ℕ → ℕ → Tri) → AreViews (logic_at phase.entry.circuit.now) (pulse_at phase.entry.pulse) (spec.value_at poss.now) view → IsHeld phase.entry.circuit.now view held.new (length phase.entry.circuit.now.ops) }
     ensures clear { (k : ℕ) → is_up marked.new k ≡ false }
     ensures ready { IsReady phase.entry.circuit.now values.new }
 {
@@ -113,13 +113,13 @@ fn hold_lockups(
 // The next values of the flip-flops of the pulsed domains, each in the view of its domain.
 fn next_values(views: Views<'_>, values: &mut [Tri], marked: &mut [bool], next: &mut [Tri])
     requires circuit { IsCircuit views.phase.circuit.now }
-    requires values { length values.old ≡ length views.phase.circuit.now.ops.items }
-    requires marked { length marked.old ≡ length views.phase.circuit.now.ops.items }
-    requires live { AreNets (length views.phase.circuit.now.ops.items) views.phase.clocks.now }
-    requires next { length next.old ≡ length views.phase.circuit.now.flops.items }
+    requires values { length values.old ≡ length views.phase.circuit.now.ops }
+    requires marked { length marked.old ≡ length views.phase.circuit.now.ops }
+    requires live { AreNets (length views.phase.circuit.now.ops) views.phase.clocks.now }
+    requires next { length next.old ≡ length views.phase.circuit.now.flops }
     requires clear { (k : ℕ) → is_up marked.old k ≡ false }
     requires ready { IsReady views.phase.circuit.now values.old }
-    ensures next { (view : ℕ → ℕ → Tri) → AreViews (logic_at views.entry.phase.circuit.now) (pulse_at views.entry.phase.pulse) (spec.value_at views.entry.poss.now) view → IsHeld views.entry.phase.circuit.now view views.entry.held.now (length views.entry.phase.circuit.now.ops.items) → HasNext views.entry.phase.circuit.now (pulse_at views.entry.phase.pulse) view views.entry.phase.clocks.now (length views.entry.phase.clocks.now) next.new }
+    ensures next { (view : ℕ → ℕ → Tri) → AreViews (logic_at views.entry.phase.circuit.now) (pulse_at views.entry.phase.pulse) (spec.value_at views.entry.poss.now) view → IsHeld views.entry.phase.circuit.now view views.entry.held.now (length views.entry.phase.circuit.now.ops) → HasNext views.entry.phase.circuit.now (pulse_at views.entry.phase.pulse) view views.entry.phase.clocks.now (length views.entry.phase.clocks.now) next.new }
     ensures clear { (k : ℕ) → is_up marked.new k ≡ false }
     ensures ready { IsReady views.entry.phase.circuit.now values.new }
 {
@@ -215,9 +215,9 @@ fn turn(
     requires pulsing { PulsesAmong phase.pulse.pulsed.now phase.clocks.now }
     requires alone { alone ≡ true → IsAlone (logic_at phase.circuit.now) (is_up phase.pulse.pulsed.now) }
     requires search { IsSearch phase.circuit.now search.old }
-    requires values { length values.old ≡ length phase.circuit.now.ops.items }
-    requires marked { length marked.old ≡ length phase.circuit.now.ops.items }
-    requires live { AreNets (length phase.circuit.now.ops.items) phase.clocks.now }
+    requires values { length values.old ≡ length phase.circuit.now.ops }
+    requires marked { length marked.old ≡ length phase.circuit.now.ops }
+    requires live { AreNets (length phase.circuit.now.ops) phase.clocks.now }
     requires clear { (k : ℕ) → is_up marked.old k ≡ false }
     requires ready { IsReady phase.circuit.now values.old }
     ensures search { IsSearch phase.entry.circuit.now search.new }
@@ -258,9 +258,9 @@ pub(crate) fn find_least(
     requires pulsing { PulsesAmong phase.pulse.pulsed.now phase.clocks.now }
     requires search { IsSearch phase.circuit.now search.old }
     requires begins { search.old.poss.items ≡ phase.pulse.old.now.values }
-    requires values { length values.old ≡ length phase.circuit.now.ops.items }
-    requires marked { length marked.old ≡ length phase.circuit.now.ops.items }
-    requires live { AreNets (length phase.circuit.now.ops.items) phase.clocks.now }
+    requires values { length values.old ≡ length phase.circuit.now.ops }
+    requires marked { length marked.old ≡ length phase.circuit.now.ops }
+    requires live { AreNets (length phase.circuit.now.ops) phase.clocks.now }
     requires clear { (k : ℕ) → is_up marked.old k ≡ false }
     requires ready { IsReady phase.circuit.now values.old }
     ensures search { IsSearch phase.entry.circuit.now search.new }

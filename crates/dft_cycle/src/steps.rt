@@ -225,7 +225,7 @@ fn level(pulse: Pulse<'_>, clock: u32) -> bool
 #[inline(never)]
 fn net_before(circuit: &Circuit, net: NetId, pulse: Pulse<'_>, values: &[Tri]) -> Tri
     requires { IsCircuit circuit.now }
-    ensures { result ≡ value_given (before_from (pulse_at pulse.entry) (spec.value_at values.now)) (spec.value_at values.now) net.0 (meaning (op_at circuit.now.ops.items net.0)) }
+    ensures { result ≡ value_given (before_from (pulse_at pulse.entry) (spec.value_at values.now)) (spec.value_at values.now) net.0 (meaning (op_at circuit.now.ops net.0)) }
 {
     match circuit.ops.get(net.0 as usize) {
         Some(op) => op_before(op, net, pulse, values),
@@ -258,7 +258,7 @@ impl Step {
     fn value(&self, circuit: &Circuit, pulse: Pulse<'_>, values: &[Tri]) -> Tri
         requires circuit { IsCircuit circuit.now }
         requires within { IsWithin self.now.what self.now.first self.now.second self.now.third (length values.now) }
-        ensures { result ≡ value_given (before_from (pulse_at pulse.entry) (spec.value_at values.now)) (spec.value_at values.now) self.now.net.0 (told_by self.now (meaning (op_at circuit.now.ops.items self.now.net.0))) }
+        ensures { result ≡ value_given (before_from (pulse_at pulse.entry) (spec.value_at values.now)) (spec.value_at values.now) self.now.net.0 (told_by self.now (meaning (op_at circuit.now.ops self.now.net.0))) }
     {
         match self.what {
             What::Buf => at(values, self.first),
@@ -287,10 +287,10 @@ impl Step {
 // Settles the nets of steps before the edges of a phase, whatever the values before.
 pub(crate) fn settle_steps(circuit: &Circuit, pulse: Pulse<'_>, steps: &[Step], values: &mut [Tri])
     requires circuit { IsCircuit circuit.now }
-    requires values { length values.old ≡ length circuit.now.ops.items }
+    requires values { length values.old ≡ length circuit.now.ops }
     requires steps { All (IsStep circuit.now) steps.now }
-    requires ordered { AreOrdered circuit.now.ops.items [] (numbers_of (step_nets steps.now)) }
-    ensures { (k : ℕ) → Has (numbers_of (step_nets steps.now)) k → spec.value_at values.new k ≡ value_given (before_from (pulse_at pulse.entry) (spec.value_at values.new)) (spec.value_at values.new) k (meaning (op_at circuit.now.ops.items k)) }
+    requires ordered { AreOrdered circuit.now.ops [] (numbers_of (step_nets steps.now)) }
+    ensures { (k : ℕ) → Has (numbers_of (step_nets steps.now)) k → spec.value_at values.new k ≡ value_given (before_from (pulse_at pulse.entry) (spec.value_at values.new)) (spec.value_at values.new) k (meaning (op_at circuit.now.ops k)) }
 {
     for step in steps {
         let value = step.value(circuit, pulse, values);
@@ -307,10 +307,10 @@ pub(crate) fn strobe_steps(
     values: &mut [Tri],
 )
     requires circuit { IsCircuit circuit.now }
-    requires values { length values.old ≡ length circuit.now.ops.items }
+    requires values { length values.old ≡ length circuit.now.ops }
     requires steps { All (IsStep circuit.now) steps.now }
-    requires ordered { AreOrdered circuit.now.ops.items [] (numbers_of (step_nets steps.now)) }
-    ensures { (k : ℕ) → Has (numbers_of (step_nets steps.now)) k → spec.value_at values.new k ≡ value_given (strobe_from (spec.value_at ports.now) (spec.value_at cells.now.values) (spec.value_at values.new)) (spec.value_at values.new) k (meaning (op_at circuit.now.ops.items k)) }
+    requires ordered { AreOrdered circuit.now.ops [] (numbers_of (step_nets steps.now)) }
+    ensures { (k : ℕ) → Has (numbers_of (step_nets steps.now)) k → spec.value_at values.new k ≡ value_given (strobe_from (spec.value_at ports.now) (spec.value_at cells.now.values) (spec.value_at values.new)) (spec.value_at values.new) k (meaning (op_at circuit.now.ops k)) }
 {
     let pulse = Pulse {
         rising: true,

@@ -30,12 +30,12 @@ fn renew(
     marked: &mut [bool],
 ) -> bool
     requires circuit { IsCircuit circuit.now }
-    requires live { net.0 < length circuit.now.ops.items }
-    requires values { length values.old ≡ length circuit.now.ops.items }
-    requires marked { length marked.old ≡ length circuit.now.ops.items }
+    requires live { net.0 < length circuit.now.ops }
+    requires values { length values.old ≡ length circuit.now.ops }
+    requires marked { length marked.old ≡ length circuit.now.ops }
     ensures given { (k : ℕ) → is_up marked.new k ≡ false → (k ≡ net.0) ⊎ IsGiven circuit.now view.now values.old k → IsGiven circuit.now view.now values.new k }
     ensures lowered { (k : ℕ) → is_up marked.new k ≡ false → is_up marked.old k ≡ false }
-    ensures raised { (k : ℕ) → is_up marked.new k ≡ true → (is_up marked.old k ≡ true) ⊎ Has (reads (meaning (op_at circuit.now.ops.items k))) net.0 }
+    ensures raised { (k : ℕ) → is_up marked.new k ≡ true → (is_up marked.old k ≡ true) ⊎ Has (reads (meaning (op_at circuit.now.ops k))) net.0 }
     ensures none { result ≡ false → (k : ℕ) → is_up marked.old k ≡ false → is_up marked.new k ≡ false }
 {
     let value = op_value(
@@ -63,9 +63,9 @@ fn refresh(
     marked: &mut [bool],
 ) -> bool
     requires circuit { IsCircuit circuit.now }
-    requires live { (k : ℕ) → Has nets.now k → k < length circuit.now.ops.items }
-    requires values { length values.old ≡ length circuit.now.ops.items }
-    requires marked { length marked.old ≡ length circuit.now.ops.items }
+    requires live { (k : ℕ) → Has nets.now k → k < length circuit.now.ops }
+    requires values { length values.old ≡ length circuit.now.ops }
+    requires marked { length marked.old ≡ length circuit.now.ops }
     ensures given { (others : List ℕ) → ((k : ℕ) → is_up marked.old k ≡ false → Has nets.now k ⊎ (Has others k ⊎ IsGiven circuit.now view.now values.old k)) → (k : ℕ) → is_up marked.new k ≡ false → Has others k ⊎ IsGiven circuit.now view.now values.new k }
     ensures none { result ≡ false → (k : ℕ) → is_up marked.old k ≡ false → is_up marked.new k ≡ false }
 {
@@ -86,12 +86,12 @@ fn settle_marked(
     marked: &mut [bool],
 )
     requires circuit { IsCircuit circuit.now }
-    requires live { net.0 < length circuit.now.ops.items }
-    requires values { length values.old ≡ length circuit.now.ops.items }
-    requires marked { length marked.old ≡ length circuit.now.ops.items }
+    requires live { net.0 < length circuit.now.ops }
+    requires values { length values.old ≡ length circuit.now.ops }
+    requires marked { length marked.old ≡ length circuit.now.ops }
     requires given { (k : ℕ) → is_up marked.old k ≡ false → IsGiven circuit.now view.now values.old k }
     ensures given { (k : ℕ) → is_up marked.new k ≡ false → IsGiven circuit.now view.now values.new k }
-    ensures raised { (k : ℕ) → is_up marked.new k ≡ true → ((is_up marked.old k ≡ true) × (k ≡ net.0 → ⊥)) ⊎ Has (reads (meaning (op_at circuit.now.ops.items k))) net.0 }
+    ensures raised { (k : ℕ) → is_up marked.new k ≡ true → ((is_up marked.old k ≡ true) × (k ≡ net.0 → ⊥)) ⊎ Has (reads (meaning (op_at circuit.now.ops k))) net.0 }
 {
     if marked[net.0 as usize] {
         marked[net.0 as usize] = false;
@@ -102,8 +102,8 @@ fn settle_marked(
 // Evaluates the marked nets, in the circuit's order, and the readers of those that change.
 fn sweep(circuit: &Circuit, view: &View<'_, '_, '_>, values: &mut [Tri], marked: &mut [bool])
     requires circuit { IsCircuit circuit.now }
-    requires values { length values.old ≡ length circuit.now.ops.items }
-    requires marked { length marked.old ≡ length circuit.now.ops.items }
+    requires values { length values.old ≡ length circuit.now.ops }
+    requires marked { length marked.old ≡ length circuit.now.ops }
     requires given { (k : ℕ) → is_up marked.old k ≡ false → IsGiven circuit.now view.now values.old k }
     ensures given { (k : ℕ) → IsGiven circuit.now view.now values.new k }
     ensures clear { (k : ℕ) → is_up marked.new k ≡ false }
@@ -122,8 +122,8 @@ pub(crate) fn change_view(
     marked: &mut [bool],
 )
     requires circuit { IsCircuit circuit.now }
-    requires values { length values.old ≡ length circuit.now.ops.items }
-    requires marked { length marked.old ≡ length circuit.now.ops.items }
+    requires values { length values.old ≡ length circuit.now.ops }
+    requires marked { length marked.old ≡ length circuit.now.ops }
     requires clear { (k : ℕ) → is_up marked.old k ≡ false }
     requires near { (k : ℕ) → Has (list_at circuit.now.leaves last.0) k ⊎ (Has (list_at circuit.now.leaves view.now.domain.0) k ⊎ IsGiven circuit.now view.now values.old k) }
     ensures given { (k : ℕ) → IsGiven circuit.now view.now values.new k }
@@ -156,8 +156,8 @@ pub(crate) fn settle_again(
     marked: &mut [bool],
 )
     requires circuit { IsCircuit circuit.now }
-    requires values { length values.old ≡ length circuit.now.ops.items }
-    requires marked { length marked.old ≡ length circuit.now.ops.items }
+    requires values { length values.old ≡ length circuit.now.ops }
+    requires marked { length marked.old ≡ length circuit.now.ops }
     requires clear { (k : ℕ) → is_up marked.old k ≡ false }
     requires ready { IsReady circuit.now values.old }
     ensures given { (k : ℕ) → IsGiven circuit.now view.now values.new k }
@@ -178,9 +178,9 @@ pub(crate) fn enter(
     marked: &mut [bool],
 )
     requires circuit { IsCircuit circuit.now }
-    requires values { length values.old ≡ length circuit.now.ops.items }
-    requires marked { length marked.old ≡ length circuit.now.ops.items }
-    requires live { (last.0 < length circuit.now.ops.items) × (view.now.domain.0 < length circuit.now.ops.items) }
+    requires values { length values.old ≡ length circuit.now.ops }
+    requires marked { length marked.old ≡ length circuit.now.ops }
+    requires live { (last.0 < length circuit.now.ops) × (view.now.domain.0 < length circuit.now.ops) }
     requires clear { (k : ℕ) → is_up marked.old k ≡ false }
     requires given { (k : ℕ) → IsGivenIn circuit.now view.now last.0 values.old k }
     ensures given { (k : ℕ) → IsGiven circuit.now view.now values.new k }

@@ -19,8 +19,7 @@ use Rattle.dft_netlist.specs.Logic.{Logic, Meaning, Cell, Ports, Input, Clock, G
 use Rattle.dft_netlist.specs.Settled.{TriSources, value_given, IsTriSettled}
 use Rattle.dft_logic.specs.declared.circuit.Op.{Op}
 use Rattle.dft_logic.specs.declared.circuit.Op.TheVariants as op
-use Rattle.dft_logic.specs.declared.circuit.Circuit.{Circuit}
-use Rattle.dft_logic.specs.Circuit.{meaning, op_at, logic_at}
+use Rattle.dft_logic.specs.Circuit.{Circuit, meaning, op_at, logic_at}
 use Rattle.dft_logic.specs.Compiling.{ports_by, IsCircuitOf}
 use Rattle.dft_evaluator.specs.Wides.{value_in, values_in, wide_at, unknown_wide, IsWide, AreWides}
 use Rattle.dft_evaluator.specs.Evaluations.{value_set, IsSettledFrom, IsGiven, AreGiven, Evaluation, meaning_at, value_at, no_clocks, IsFor, IsSet, IsSettledIn}
@@ -58,9 +57,9 @@ any_ports n ports other given values settled net = settled net ∙ driver_set n 
 pub meaning_shown : (ops : List Op) (net : ℕ) → meaning_at (map meaning ops) net ≡ meaning (op_at ops net)
 meaning_shown ops net = get_or-map meaning ops net op.Free
 
-pub prepared : (n : Netlist) (x : Circuit) (wides : List Wide) → IsCircuitOf n (ports_by []) x → length wides ≡ length n.nets → IsFor n (record { meanings = map meaning x.ops.items; wides = wides })
+pub prepared : (n : Netlist) (x : Circuit) (wides : List Wide) → IsCircuitOf n (ports_by []) x → length wides ≡ length n.nets → IsFor n (record { meanings = map meaning x.ops; wides = wides })
 unfolding logic_at
-prepared n x wides is nets = record { nets = nets; means = λ net. meaning_shown x.ops.items net ∙ sym (ap (λ (l : Logic). l.net net) is.compiled) }
+prepared n x wides is nets = record { nets = nets; means = λ net. meaning_shown x.ops net ∙ sym (ap (λ (l : Logic). l.net net) is.compiled) }
 
 blank_case : (n k : ℕ) → (k < n) ⊎ (n ≤ k) → wide_at (replicate n unknown_wide) k ≡ unknown_wide
 blank_case n k (inl less) = get_or-replicate n k unknown_wide unknown_wide less
@@ -104,10 +103,10 @@ value_set_at meanings wides net pattern old w value live read each =
 -- ---- all nets are settled
 
 pub settled_in : (x : Circuit) (old new : List Wide) → length new ≡ length old
-    → ((p : ℕ) → p < 512 → IsSettledFrom (λ net. meaning (op_at x.ops.items net)) (values_in old p) (values_in new p))
-    → IsSettledIn (record { meanings = map meaning x.ops.items; wides = old }) (record { meanings = map meaning x.ops.items; wides = new })
+    → ((p : ℕ) → p < 512 → IsSettledFrom (λ net. meaning (op_at x.ops net)) (values_in old p) (values_in new p))
+    → IsSettledIn (record { meanings = map meaning x.ops; wides = old }) (record { meanings = map meaning x.ops; wides = new })
 settled_in x old new nets settled =
-    record { meanings = refl; nets = nets; each = λ p less net. settled p less net ∙ ap (λ (m : Meaning). value_set (values_in old p) (values_in new p) net m) (sym (meaning_shown x.ops.items net)) }
+    record { meanings = refl; nets = nets; each = λ p less net. settled p less net ∙ ap (λ (m : Meaning). value_set (values_in old p) (values_in new p) net m) (sym (meaning_shown x.ops net)) }
 
 pub for_new : (old new : Evaluation) → IsSettledIn old new → (n : Netlist) → IsFor n old → IsFor n new
 for_new old new settled n is = record { nets = settled.nets ∙ is.nets; means = λ net. ap (λ (ms : List Meaning). meaning_at ms net) settled.meanings ∙ is.means net }
@@ -136,9 +135,9 @@ filled : (v : Vec Wide) (ws rs : List Wide) → length ws ≡ length rs → rs �
 filled v ws rs a e = with_items_is v ws (a ∙ ap length e ∙ sym v.ok.0)
 
 pub swept : (x : Circuit) (v : Vec Wide) (ws rs : List Wide) → length ws ≡ length rs → rs ≡ v.items
-    → ((p : ℕ) → p < 512 → IsSettledFrom (λ net. meaning (op_at x.ops.items net)) (values_in rs p) (values_in ws p))
-    → IsSettledIn (record { meanings = map meaning x.ops.items; wides = v.items }) (record { meanings = map meaning x.ops.items; wides = (with_items v ws).items })
+    → ((p : ℕ) → p < 512 → IsSettledFrom (λ net. meaning (op_at x.ops net)) (values_in rs p) (values_in ws p))
+    → IsSettledIn (record { meanings = map meaning x.ops; wides = v.items }) (record { meanings = map meaning x.ops; wides = (with_items v ws).items })
 swept x v ws rs a e settled =
-    let P : List Wide → Type 0 = λ l. IsSettledIn (record { meanings = map meaning x.ops.items; wides = v.items }) (record { meanings = map meaning x.ops.items; wides = l }) in
-    let Q : List Wide → Type 0 = λ l. IsSettledIn (record { meanings = map meaning x.ops.items; wides = l }) (record { meanings = map meaning x.ops.items; wides = ws }) in
+    let P : List Wide → Type 0 = λ l. IsSettledIn (record { meanings = map meaning x.ops; wides = v.items }) (record { meanings = map meaning x.ops; wides = l }) in
+    let Q : List Wide → Type 0 = λ l. IsSettledIn (record { meanings = map meaning x.ops; wides = l }) (record { meanings = map meaning x.ops; wides = ws }) in
     subst P (sym (filled v ws rs a e)) (subst Q e (settled_in x rs ws a settled))

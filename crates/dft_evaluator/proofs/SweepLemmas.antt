@@ -12,8 +12,7 @@ use Rattle.dft_netlist.specs.Logic.{Meaning, Input, Clock, Gate, Joined, Flop, L
 use Rattle.dft_netlist.specs.Orders.{Has, numbers_of}
 use Rattle.dft_logic.specs.declared.circuit.Op.{Op}
 use Rattle.dft_logic.specs.declared.circuit.Op.TheVariants as op
-use Rattle.dft_logic.specs.declared.circuit.Circuit.{Circuit}
-use Rattle.dft_logic.specs.Circuit.{meaning, op_at, AreOrdered, IsCircuit}
+use Rattle.dft_logic.specs.Circuit.{Circuit, meaning, op_at, AreOrdered, IsCircuit}
 use Rattle.dft_logic.proofs.Settlings.{all_more, source_agree, inputs_agree}
 use Rattle.dft_logic.proofs.Fillings.{front}
 use Rattle.dft_evaluator.specs.Wides.{value_in, values_in, wide_at, unknown_wide, IsWide, AreWides}
@@ -57,7 +56,7 @@ pub record Sweeping (ops : List Op) (start : List Wide) (order : List NetId) (wi
   pub later : (k : ℕ) → (Has before k → ⊥) → wide_at wides k ≡ wide_at start k
   pub either : (k : ℕ) → k < length ops → Has before k ⊎ Has (numbers_of (drop j order)) k
 
-pub sweeping_starts : (x : Circuit) (start : List Wide) → IsCircuit x → AreWides start → Sweeping x.ops.items start x.order.items start 0
+pub sweeping_starts : (x : Circuit) (start : List Wide) → IsCircuit x → AreWides start → Sweeping x.ops start x.order start 0
 sweeping_starts x start is whole =
     record { whole = whole; before = []; rest = is.after; closed = λ k h. absurd h; done = λ p k less h. absurd h; later = λ k none. refl; either = λ k less. inr (is.whole k less) }
 
@@ -126,13 +125,13 @@ step ops start order nets wides j driver w e less len s read given =
     let R : Op → Type 0 = λ o. IsWide w (λ p. value_set (values_in wides p) (values_in wides p) net.0 (meaning o)) in
     one_more ops start order wides j net w here is len s (subst R (get_or_read ops net.0 driver live read op.Free) given)
 
-pub all_settled : (x : Circuit) (start wides : List Wide) (j : ℕ) → length x.order.items ≤ j → length wides ≡ length x.ops.items → length start ≡ length x.ops.items
-    → Sweeping x.ops.items start x.order.items wides j → (p : ℕ) → p < 512 → IsSettledFrom (λ net. meaning (op_at x.ops.items net)) (values_in start p) (values_in wides p)
-all_settled x start wides j past len old s p within k = elim (leb_tells (length x.ops.items) k) [
+pub all_settled : (x : Circuit) (start wides : List Wide) (j : ℕ) → length x.order ≤ j → length wides ≡ length x.ops → length start ≡ length x.ops
+    → Sweeping x.ops start x.order wides j → (p : ℕ) → p < 512 → IsSettledFrom (λ net. meaning (op_at x.ops net)) (values_in start p) (values_in wides p)
+all_settled x start wides j past len old s p within k = elim (leb_tells (length x.ops) k) [
   | inl out ↦ (let far : length wides ≤ k = omega (arith, out.1) in
       let before : length start ≤ k = omega (arith, out.1) in
       ap (λ (v : Wide). value_in v p) (get_or_past wides k unknown_wide far ∙ sym (get_or_past start k unknown_wide before))
-      ∙ sym (ap (λ (o : Op). value_set (values_in start p) (values_in wides p) k (meaning o)) (get_or_past x.ops.items k op.Free out.1)))
+      ∙ sym (ap (λ (o : Op). value_set (values_in start p) (values_in wides p) k (meaning o)) (get_or_past x.ops k op.Free out.1)))
   | inr live ↦ (let Q : List NetId → Type 0 = λ l. Has s.before k ⊎ Has (numbers_of l) k in
-      elim (subst Q (drop_all j x.order.items past) (s.either k live.1)) [ inl older ↦ s.done p k within older | inr none ↦ absurd none ])
+      elim (subst Q (drop_all j x.order past) (s.either k live.1)) [ inl older ↦ s.done p k within older | inr none ↦ absurd none ])
 ]

@@ -12,10 +12,10 @@ use dft_logic::Circuit;
 // Settles all nets in all patterns from what their sources are, in the circuit's order.
 pub(crate) fn sweep(circuit: &Circuit, wides: &mut [Wide])
     requires circuit { IsCircuit circuit.now }
-    requires nets { length wides.old ≡ length circuit.now.ops.items }
+    requires nets { length wides.old ≡ length circuit.now.ops }
     requires wides { AreWides wides.old }
     ensures wides { AreWides wides.new }
-    ensures settled { (pattern : ℕ) → pattern < 512 → IsSettledFrom (λ net. meaning (op_at circuit.now.ops.items net)) (values_in wides.old pattern) (values_in wides.new pattern) }
+    ensures settled { (pattern : ℕ) → pattern < 512 → IsSettledFrom (λ net. meaning (op_at circuit.now.ops net)) (values_in wides.old pattern) (values_in wides.new pattern) }
 {
     for net in &circuit.order {
         let wide = op_wide(&circuit.ops[net.0 as usize], *net, wides);

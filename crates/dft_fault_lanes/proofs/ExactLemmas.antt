@@ -9,8 +9,7 @@ use Rattle.dft_base.specs.declared.tri.Tri.TheVariants.{One, Unknown}
 use Rattle.dft_lanes.specs.declared.wide.Wide.{Wide}
 use Rattle.dft_netlist.specs.Netlist.{Netlist}
 use Rattle.dft_netlist.specs.Logic.{Logic, logic_of}
-use Rattle.dft_logic.specs.declared.circuit.Circuit.{Circuit}
-use Rattle.dft_logic.specs.Circuit.{logic_at}
+use Rattle.dft_logic.specs.Circuit.{Circuit, logic_at}
 use Rattle.dft_logic.specs.Values.{value_at}
 use Rattle.dft_evaluator.specs.Wides.{value_in, values_in, unknown_wide, IsWide}
 use Rattle.dft_evaluator.proofs.BitLemmas.{all_unknown}

@@ -12,9 +12,8 @@ use Rattle.dft_abstract.specs.Cycle.{tri_forced_by, tri_taken_by}
 use Rattle.dft_lane_registers.specs.declared.layout.Place.{Place}
 use Rattle.dft_lane_registers.specs.Layout.{Layout, place_at}
 use Rattle.dft_evaluator.specs.Wides.{values_in}
-use Rattle.dft_logic.specs.declared.circuit.Circuit.{Circuit}
 use Rattle.dft_logic.specs.declared.circuit.FlipFlop.{FlipFlop}
-use Rattle.dft_logic.specs.Circuit.{cell_of, flag_at, next_at, taken_at}
+use Rattle.dft_logic.specs.Circuit.{Circuit, cell_of, flag_at, next_at, taken_at}
 use Rattle.dft_logic.specs.Values.{value_at}
 use Rattle.dft_logic.proofs.Writings.{cell_read}
 use Rattle.dft_fault_lanes.specs.declared.clamps.Clamp.{Clamp}
@@ -66,12 +65,12 @@ pub idle_acted : (flops : List FlipFlop) (ports : List Tri) (old new : List Wide
 idle_acted flops ports old new acted was lane c within idle = acted lane c within ∙ idle_forced (flop_at flops c) (value_at ports) (values_in old lane c) idle ∙ was lane c within idle
 
 pub idle_pulsed : (x : Circuit) (needs known : ℕ → Bool) (ports : List Tri) (pulsed : List Bool) (clamps : List (Option Clamp)) (wides old middle new : List Wide) (live risen fallen : Wide) → IsPhase x known true ports pulsed wides old middle live risen →
-    IsFall x needs ports pulsed clamps middle new risen fallen → AreIdleUnknown x.flops.items old → AreIdleUnknown x.flops.items new
+    IsFall x needs ports pulsed clamps middle new risen fallen → AreIdleUnknown x.flops old → AreIdleUnknown x.flops new
 idle_pulsed x needs known ports pulsed clamps wides old middle new live risen fallen rise fall was =
-    let after : AreIdleUnknown x.flops.items middle = idle_taken x.flops.items true pulsed ports wides old middle rise.taken was in
+    let after : AreIdleUnknown x.flops middle = idle_taken x.flops true pulsed ports wides old middle rise.taken was in
     elim fall [
-      | inl none ↦ subst (AreIdleUnknown x.flops.items) (sym none.1.0) after
-      | inr some ↦ idle_taken x.flops.items false pulsed ports some.0 middle new some.1.1.taken after
+      | inl none ↦ subst (AreIdleUnknown x.flops) (sym none.1.0) after
+      | inr some ↦ idle_taken x.flops false pulsed ports some.0 middle new some.1.1.taken after
     ]
 
 -- ---- cells that are left out

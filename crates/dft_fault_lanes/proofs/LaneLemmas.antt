@@ -20,5 +20,5 @@ pub lane_is_faulty : LaneIsFaulty
 unfolding logic_at
 lane_is_faulty x s needs wides lane stuck value settled within is net need =
     settled lane net within need
-    ∙ is net (value_given (still_from (flag_at s.levels) (value_at s.ports) (values_in s.cells lane) (values_in wides lane)) (values_in wides lane) net (meaning (op_at x.ops.items net)))
-    ∙ stuck_given (still_from (flag_at s.levels) (value_at s.ports) (values_in s.cells lane) (values_in wides lane)) (values_in wides lane) net (net == stuck) value (meaning (op_at x.ops.items net))
+    ∙ is net (value_given (still_from (flag_at s.levels) (value_at s.ports) (values_in s.cells lane) (values_in wides lane)) (values_in wides lane) net (meaning (op_at x.ops net)))
+    ∙ stuck_given (still_from (flag_at s.levels) (value_at s.ports) (values_in s.cells lane) (values_in wides lane)) (values_in wides lane) net (net == stuck) value (meaning (op_at x.ops net))

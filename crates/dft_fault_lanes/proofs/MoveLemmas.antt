@@ -21,10 +21,9 @@ use Rattle.dft_lane_registers.specs.Cells.{Contents, Course, Rests, Follows, cou
 use Rattle.dft_evaluator.specs.Wides.{value_in, values_in, wide_at, unknown_wide, IsWide, AreWides}
 use Rattle.dft_evaluator.proofs.BitLemmas.{all_unknown}
 use Rattle.dft_evaluator.proofs.WideLemmas.{wide_is}
-use Rattle.dft_logic.specs.declared.circuit.Circuit.{Circuit}
 use Rattle.dft_logic.specs.declared.circuit.FlipFlop.{FlipFlop}
 use Rattle.dft_logic.specs.declared.circuit.Op.{Op}
-use Rattle.dft_logic.specs.Circuit.{logic_at, flag_at, cell_of, next_at, taken_at}
+use Rattle.dft_logic.specs.Circuit.{Circuit, logic_at, flag_at, cell_of, next_at, taken_at}
 use Rattle.dft_logic.specs.Needs.{HasAll, chosen_reads, taken_reads, forced_reads, next_reads}
 use Rattle.dft_logic.specs.Shows.{still_needs}
 use Rattle.dft_logic.specs.ShownTables.{shown_at}
@@ -165,21 +164,21 @@ takes_value ops clamps s cell other ports values v t free steers shows =
 
 -- the cell before it, of which it takes the value, and where its register moves
 pub record Carried (x : Circuit) (clamps : List (Option Clamp)) (l : Layout) (p : Plan) (c : ℕ) : Type 0 where
-  pub changed : is_changed (flop_at x.flops.items c) true p.pulsed.items ≡ true
+  pub changed : is_changed (flop_at x.flops c) true p.pulsed.items ≡ true
   pub other : ℕ
-  pub from : TakesFrom x.ops.items clamps p.steer (flop_at x.flops.items c) other
+  pub from : TakesFrom x.ops clamps p.steer (flop_at x.flops c) other
   pub follows : course l p.moves.items c ≡ Follows other
 
 moved_from : (ops : List Op) (clamps : List (Option Clamp)) (s : Steer) (cell : Cell) (cells : List ℕ) (index : ℕ) → nat_lt 0 index ≡ true → IsMoved ops clamps s cell (course_in cells index) → (other : ℕ) × (TakesFrom ops clamps s cell other × (course_in cells index ≡ Follows other))
 moved_from ops clamps s cell cells zero up is = absurd (true≢false (sym up))
 moved_from ops clamps s cell cells (suc index) up is = (slice_index_or cells index 0, (is, refl))
 
-pub carried : (x : Circuit) (clamps : List (Option Clamp)) (l : Layout) (signals : List NetId) (p : Plan) (c : ℕ) → IsPlan x clamps l signals p → c < length x.flops.items → is_carried l p.moves.items c ≡ true → Carried x clamps l p c
+pub carried : (x : Circuit) (clamps : List (Option Clamp)) (l : Layout) (signals : List NetId) (p : Plan) (c : ℕ) → IsPlan x clamps l signals p → c < length x.flops → is_carried l p.moves.items c ≡ true → Carried x clamps l p c
 carried x clamps l signals p c is near up =
     let place = place_at l.places c in
     let both = both_true (flag_at p.moves.items place.register) (nat_lt 0 place.index) up in
     let at = is.moving c near both.0 in
-    let from = moved_from x.ops.items clamps p.steer (flop_at x.flops.items c) (cells_at l.registers place.register) place.index both.1 at.1 in
+    let from = moved_from x.ops clamps p.steer (flop_at x.flops c) (cells_at l.registers place.register) place.index both.1 at.1 in
     record {
       changed = at.0;
       other = from.0;
@@ -192,11 +191,11 @@ takes_once true up down = true≢false (sym up)
 takes_once false up down = true≢false (sym down)
 
 -- a cell that takes a value at a fall is not carried
-pub falls_stay : (x : Circuit) (clamps : List (Option Clamp)) (l : Layout) (signals : List NetId) (p : Plan) (c : ℕ) → IsPlan x clamps l signals p → is_changed (flop_at x.flops.items c) false p.pulsed.items ≡ true → is_carried l p.moves.items c ≡ false
-falls_stay x clamps l signals p c is down = elim (leb_tells (length x.flops.items) c) [
-  | inl far ↦ absurd (true≢false (sym down ∙ ap (λ (k : Cell). is_changed k false p.pulsed.items) (cell_past x.flops.items c far.1) ∙ and_false (flag_at p.pulsed.items 0)))
+pub falls_stay : (x : Circuit) (clamps : List (Option Clamp)) (l : Layout) (signals : List NetId) (p : Plan) (c : ℕ) → IsPlan x clamps l signals p → is_changed (flop_at x.flops c) false p.pulsed.items ≡ true → is_carried l p.moves.items c ≡ false
+falls_stay x clamps l signals p c is down = elim (leb_tells (length x.flops) c) [
+  | inl far ↦ absurd (true≢false (sym down ∙ ap (λ (k : Cell). is_changed k false p.pulsed.items) (cell_past x.flops c far.1) ∙ and_false (flag_at p.pulsed.items 0)))
   | inr near ↦ elim (cases_Bool (is_carried l p.moves.items c)) [
-    | inl up ↦ (let cell = flop_at x.flops.items c in
+    | inl up ↦ (let cell = flop_at x.flops c in
         let rising = both_true (flag_at p.pulsed.items cell.domain) (takes true cell.falling) (carried x clamps l signals p c is near.1 up).changed in
         let falling = both_true (flag_at p.pulsed.items cell.domain) (takes false cell.falling) down in
         absurd (takes_once cell.falling rising.1 falling.1))
@@ -207,26 +206,26 @@ falls_stay x clamps l signals p c is down = elim (leb_tells (length x.flops.item
 -- ---- reads
 
 -- all that a cell reads is known
-pub reads_known : (x : Circuit) (clamps : List (Option Clamp)) (l : Layout) (signals : List NetId) (p : Plan) (c : ℕ) → IsPlan x clamps l signals p → HasReadsOf (knows x.ops.items clamps p.marked.items) p.steer (flop_at x.flops.items c)
+pub reads_known : (x : Circuit) (clamps : List (Option Clamp)) (l : Layout) (signals : List NetId) (p : Plan) (c : ℕ) → IsPlan x clamps l signals p → HasReadsOf (knows x.ops clamps p.marked.items) p.steer (flop_at x.flops c)
 reads_known x clamps l signals p c is =
-    let needs : ℕ → Bool = needs_of (length x.ops.items) p.marked.items in
-    let known : ℕ → Bool = knows x.ops.items clamps p.marked.items in
-    let wider : (k : ℕ) → needs k ≡ true → known k ≡ true = needs_known x.ops.items clamps p.marked.items in
-    elim (leb_tells (length x.flops.items) c) [
-      | inl far ↦ λ ports values steers. (let Q : Cell → Type 0 = λ k. HasAll known (nets_of (next_reads k ports (value_from values))) in subst Q (sym (cell_past x.flops.items c far.1)) tt)
+    let needs : ℕ → Bool = needs_of (length x.ops) p.marked.items in
+    let known : ℕ → Bool = knows x.ops clamps p.marked.items in
+    let wider : (k : ℕ) → needs k ≡ true → known k ≡ true = needs_known x.ops clamps p.marked.items in
+    elim (leb_tells (length x.flops) c) [
+      | inl far ↦ λ ports values steers. (let Q : Cell → Type 0 = λ k. HasAll known (nets_of (next_reads k ports (value_from values))) in subst Q (sym (cell_past x.flops c far.1)) tt)
       | inr near ↦ elim (cases_Bool (is_carried l p.moves.items c)) [
         | inl up ↦ (let it = carried x clamps l signals p c is near.1 up in
-            takes_reads known x.ops.items clamps p.steer (flop_at x.flops.items c) it.other it.from (all_wider needs known (enable_needs (flop_at x.flops.items c)) wider (is.enables c))
-            (λ net shown. shown_known x.ops.items clamps p.marked.items net it.other shown))
-        | inr stays ↦ λ ports values steers. all_wider needs known (nets_of (next_reads (flop_at x.flops.items c) ports (value_from values))) wider (is.reads c stays ports values steers)
+            takes_reads known x.ops clamps p.steer (flop_at x.flops c) it.other it.from (all_wider needs known (enable_needs (flop_at x.flops c)) wider (is.enables c))
+            (λ net shown. shown_known x.ops clamps p.marked.items net it.other shown))
+        | inr stays ↦ λ ports values steers. all_wider needs known (nets_of (next_reads (flop_at x.flops c) ports (value_from values))) wider (is.reads c stays ports values steers)
       ]
     ]
 
 -- the steer is seen as it is
-pub steers_seen : (x : Circuit) (clamps : List (Option Clamp)) (l : Layout) (signals : List NetId) (p : Plan) (held wides : List Wide) (lane : ℕ) → IsPlan x clamps l signals p → length wides ≡ length x.ops.items → Steers p.steer (values_in wides lane) →
-    Steers p.steer (values_in (seen x.ops.items clamps p.marked.items held wides) lane)
+pub steers_seen : (x : Circuit) (clamps : List (Option Clamp)) (l : Layout) (signals : List NetId) (p : Plan) (held wides : List Wide) (lane : ℕ) → IsPlan x clamps l signals p → length wides ≡ length x.ops → Steers p.steer (values_in wides lane) →
+    Steers p.steer (values_in (seen x.ops clamps p.marked.items held wides) lane)
 steers_seen x clamps l signals p held wides lane is size (inl none) = inl none
-steers_seen x clamps l signals p held wides lane is size (inr at) = inr (ap (λ (w : Wide). value_in w lane) (marked_seen x.ops.items clamps p.marked.items held wides p.steer.net.0 size is.steered) ∙ at)
+steers_seen x clamps l signals p held wides lane is size (inr at) = inr (ap (λ (w : Wide). value_in w lane) (marked_seen x.ops clamps p.marked.items held wides p.steer.net.0 size is.steered) ∙ at)
 
 taken_by_enable : (scan : Option Scan) (v w : ℕ → Tri) (data_in : Source) → Agree v w (enable_of scan) → taken_reads scan (value_from v) data_in ≡ taken_reads scan (value_from w) data_in
 taken_by_enable None v w d same = refl
@@ -239,36 +238,36 @@ reads_by_enable cell ports v w same = ap (forced_reads cell.force ports) (taken_
 -- ---- which lanes stay live
 
 -- where all read what is still, every lane does
-pub all_steady_by : (x : Circuit) (clamps : List (Option Clamp)) (l : Layout) (signals : List NetId) (p : Plan) (held wides : List Wide) (live : Wide) → IsPlan x clamps l signals p → length wides ≡ length x.ops.items → p.steady ≡ true → SteersAll p.steer wides →
-    KeepsSteady x.flops.items true p.pulsed.items (knows x.ops.items clamps p.marked.items) p.rises.items (seen x.ops.items clamps p.marked.items held wides) live live
+pub all_steady_by : (x : Circuit) (clamps : List (Option Clamp)) (l : Layout) (signals : List NetId) (p : Plan) (held wides : List Wide) (live : Wide) → IsPlan x clamps l signals p → length wides ≡ length x.ops → p.steady ≡ true → SteersAll p.steer wides →
+    KeepsSteady x.flops true p.pulsed.items (knows x.ops clamps p.marked.items) p.rises.items (seen x.ops clamps p.marked.items held wides) live live
 all_steady_by x clamps l signals p held wides live is size steady steers lane within h = (
   h,
-  λ c up ports. (let values : ℕ → Tri = values_in (seen x.ops.items clamps p.marked.items held wides) lane in
+  λ c up ports. (let values : ℕ → Tri = values_in (seen x.ops clamps p.marked.items held wides) lane in
       let on = steers_seen x clamps l signals p held wides lane is size (steers lane within) in
-      both_sets (knows x.ops.items clamps p.marked.items) (shown_at p.rises.items) (flop_at x.flops.items c).domain (nets_of (next_reads (flop_at x.flops.items c) ports (value_from values)))
+      both_sets (knows x.ops clamps p.marked.items) (shown_at p.rises.items) (flop_at x.flops c).domain (nets_of (next_reads (flop_at x.flops c) ports (value_from values)))
       (reads_known x clamps l signals p c is ports values on) (is.steady steady c up ports values on)),
 )
 
 -- what is still is of the nets that are known
-pub keeps_known : (x : Circuit) (clamps : List (Option Clamp)) (l : Layout) (signals : List NetId) (p : Plan) (held wides : List Wide) (old new : Wide) → IsPlan x clamps l signals p → length wides ≡ length x.ops.items → SteersAll p.steer wides →
-    KeepsSteady x.flops.items true p.pulsed.items every p.rises.items wides old new → KeepsSteady x.flops.items true p.pulsed.items (knows x.ops.items clamps p.marked.items) p.rises.items (seen x.ops.items clamps p.marked.items held wides) old new
+pub keeps_known : (x : Circuit) (clamps : List (Option Clamp)) (l : Layout) (signals : List NetId) (p : Plan) (held wides : List Wide) (old new : Wide) → IsPlan x clamps l signals p → length wides ≡ length x.ops → SteersAll p.steer wides →
+    KeepsSteady x.flops true p.pulsed.items every p.rises.items wides old new → KeepsSteady x.flops true p.pulsed.items (knows x.ops clamps p.marked.items) p.rises.items (seen x.ops clamps p.marked.items held wides) old new
 keeps_known x clamps l signals p held wides old new is size steers keeps lane within h =
     let was = keeps lane within h in (
       was.0,
       λ c up ports. (let v : ℕ → Tri = values_in wides lane in
-          let w : ℕ → Tri = values_in (seen x.ops.items clamps p.marked.items held wides) lane in
-          let cell : Cell = flop_at x.flops.items c in
-          let same : Agree v w (enable_needs cell) = set_agrees (needs_of (length x.ops.items) p.marked.items) v w (enable_needs cell) (is.enables c)
-          (λ net need. sym (ap (λ (u : Wide). value_in u lane) (marked_seen x.ops.items clamps p.marked.items held wides net size need))) in
+          let w : ℕ → Tri = values_in (seen x.ops clamps p.marked.items held wides) lane in
+          let cell : Cell = flop_at x.flops c in
+          let same : Agree v w (enable_needs cell) = set_agrees (needs_of (length x.ops) p.marked.items) v w (enable_needs cell) (is.enables c)
+          (λ net need. sym (ap (λ (u : Wide). value_in u lane) (marked_seen x.ops clamps p.marked.items held wides net size need))) in
           let H : List Source → Type 0 = λ r. HasAll (still_needs every (shown_at p.rises.items) cell.domain) (nets_of r) in
-          both_sets (knows x.ops.items clamps p.marked.items) (shown_at p.rises.items) cell.domain (nets_of (next_reads cell ports (value_from w)))
+          both_sets (knows x.ops clamps p.marked.items) (shown_at p.rises.items) cell.domain (nets_of (next_reads cell ports (value_from w)))
           (reads_known x clamps l signals p c is ports w (steers_seen x clamps l signals p held wides lane is size (steers lane within))) (subst H (reads_by_enable cell ports v w same) (was.1 c up ports))),
     )
 
 -- ---- what cells take
 
 -- the next value of a cell, where two assignments agree on what it reads
-next_same : (x : Circuit) (ports : List Tri) (c : ℕ) (v w : ℕ → Tri) → Agree v w (nets_of (next_reads (flop_at x.flops.items c) (value_at ports) (value_from v))) → next_at (flop_at x.flops.items c) (value_at ports) v ≡ next_at (flop_at x.flops.items c) (value_at ports) w
+next_same : (x : Circuit) (ports : List Tri) (c : ℕ) (v w : ℕ → Tri) → Agree v w (nets_of (next_reads (flop_at x.flops c) (value_at ports) (value_from v))) → next_at (flop_at x.flops c) (value_at ports) v ≡ next_at (flop_at x.flops c) (value_at ports) w
 unfolding logic_at
 next_same x ports c v w same = next_agrees (logic_at x) (record { rising = true; ports = value_at ports; pulsed = λ e. false; old = v }) c (λ d. v) (λ d. w) same
 
@@ -276,12 +275,12 @@ next_same x ports c v w same = next_agrees (logic_at x) (record { rising = true;
 abbrev Kept : (x : Circuit) → List (Option Clamp) → Layout → Plan → (old new : List Wide) → (c : ℕ) → Type 0
 Kept x clamps l p old new c =
     ((it : Carried x clamps l p c) × (wide_at new c ≡ wide_at old it.other))
-    ⊎ (((is_changed (flop_at x.flops.items c) true p.pulsed.items ≡ false) ⊎ (is_idle (flop_at x.flops.items c) ≡ true)) × (wide_at new c ≡ wide_at old c))
+    ⊎ (((is_changed (flop_at x.flops c) true p.pulsed.items ≡ false) ⊎ (is_idle (flop_at x.flops c) ≡ true)) × (wide_at new c ≡ wide_at old c))
 
 zero_is : (n : ℕ) → (n == 0) ≡ true → n ≡ 0
 zero_is n up = elim (eqb_tells n 0) [ inl same ↦ same.1 | inr other ↦ absurd (true≢false (sym up ∙ other.0)) ]
 
-kept_at : (x : Circuit) (clamps : List (Option Clamp)) (signals : List NetId) (p : Plan) (old new : Contents) (c : ℕ) → IsPlan x clamps old.layout signals p → length old.values ≡ length x.flops.items → IsShifted p.moves.items old new → c < length x.flops.items →
+kept_at : (x : Circuit) (clamps : List (Option Clamp)) (signals : List NetId) (p : Plan) (old new : Contents) (c : ℕ) → IsPlan x clamps old.layout signals p → length old.values ≡ length x.flops → IsShifted p.moves.items old new → c < length x.flops →
     (Has p.taking.items c → ⊥) → Kept x clamps old.layout p old.values new.values c
 kept_at x clamps signals p old new c is size shifted near none =
     let l : Layout = old.layout in
@@ -291,9 +290,9 @@ kept_at x clamps signals p old new c is size shifted near none =
     let stays : flag_at p.moves.items place.register ≡ false → wide_at new.values c ≡ wide_at old.values c = λ still. subst C (ap (λ (b : Bool). if b then course_in (cells_at l.registers place.register) place.index else Rests) still) at in
     elim (cases_Bool (is_carried l p.moves.items c)) [
       | inl up ↦ (let it = carried x clamps l signals p c is near up in inl (it, subst C it.follows at))
-      | inr down ↦ elim (cases_Bool (is_changed (flop_at x.flops.items c) true p.pulsed.items)) [
-        | inl changes ↦ elim (cases_Bool (is_left l p.moves.items x.flops.items c)) [
-          | inl left ↦ (let idle = left_idle (is_carried l p.moves.items c) (is_idle (flop_at x.flops.items c)) (place.register == 0) down left in
+      | inr down ↦ elim (cases_Bool (is_changed (flop_at x.flops c) true p.pulsed.items)) [
+        | inl changes ↦ elim (cases_Bool (is_left l p.moves.items x.flops c)) [
+          | inl left ↦ (let idle = left_idle (is_carried l p.moves.items c) (is_idle (flop_at x.flops c)) (place.register == 0) down left in
               inr (inr idle.0, stays (ap (flag_at p.moves.items) (zero_is place.register idle.1) ∙ is.rests)))
           | inr taken ↦ absurd (none (is.taking.0 c near changes taken))
         ]
@@ -305,11 +304,11 @@ kept_at x clamps signals p old new c is size shifted near none =
     ]
 
 -- each cell that is not listed can be something in each lane
-pub shifted_wides : (x : Circuit) (clamps : List (Option Clamp)) (signals : List NetId) (p : Plan) (old new : Contents) → IsPlan x clamps old.layout signals p → length old.values ≡ length x.flops.items → IsShifted p.moves.items old new → AreWides old.values →
+pub shifted_wides : (x : Circuit) (clamps : List (Option Clamp)) (signals : List NetId) (p : Plan) (old new : Contents) → IsPlan x clamps old.layout signals p → length old.values ≡ length x.flops → IsShifted p.moves.items old new → AreWides old.values →
     (c : ℕ) → (Has p.taking.items c → ⊥) → IsWide (wide_at new.values c) (value_in (wide_at new.values c))
 shifted_wides x clamps signals p old new is size shifted whole c none =
     let W : Wide → Type 0 = λ w. IsWide w (value_in w) in
-    elim (leb_tells (length x.flops.items) c) [
+    elim (leb_tells (length x.flops) c) [
       | inl far ↦ (let out : length new.values ≤ c = omega (arith, far.1, size, shifted.count) in subst W (sym (get_or_past new.values c unknown_wide out)) (wide_is unknown_wide (λ lane. Unknown) all_unknown))
       | inr near ↦ kept_wide x clamps old.layout p old.values new.values c whole (kept_at x clamps signals p old new c is size shifted near.1 none)
     ] where
@@ -330,49 +329,49 @@ if_same true s t is = sym is
 if_same false s t is = refl
 
 -- registers move and the listed cells take their values: so all cells do
-pub moves_taken : (x : Circuit) (clamps : List (Option Clamp)) (signals : List NetId) (p : Plan) (ports : List Tri) (wides : List Wide) (old shifted new : Contents) → IsPlan x clamps old.layout signals p → length old.values ≡ length x.flops.items → length wides ≡ length x.ops.items →
-    SteersAll p.steer wides → (p.steer.free ≡ true → NoneActs x.flops.items ports) → AreIdleUnknown x.flops.items old.values → IsShifted p.moves.items old shifted → length new.values ≡ length shifted.values →
-    ((lane c : ℕ) → lane < 512 → Has p.taking.items c → values_in new.values lane c ≡ next_at (flop_at x.flops.items c) (value_at ports) (values_in wides lane)) → ((c : ℕ) → (Has p.taking.items c → ⊥) → wide_at new.values c ≡ wide_at shifted.values c) →
-    AreSettledOn x.ops.items (at_levels ports [] old.values clamps) (needs_of (length x.ops.items) p.marked.items) wides →
-    AreTaken x.flops.items true p.pulsed.items ports (seen x.ops.items clamps p.marked.items old.values wides) old.values new.values
+pub moves_taken : (x : Circuit) (clamps : List (Option Clamp)) (signals : List NetId) (p : Plan) (ports : List Tri) (wides : List Wide) (old shifted new : Contents) → IsPlan x clamps old.layout signals p → length old.values ≡ length x.flops → length wides ≡ length x.ops →
+    SteersAll p.steer wides → (p.steer.free ≡ true → NoneActs x.flops ports) → AreIdleUnknown x.flops old.values → IsShifted p.moves.items old shifted → length new.values ≡ length shifted.values →
+    ((lane c : ℕ) → lane < 512 → Has p.taking.items c → values_in new.values lane c ≡ next_at (flop_at x.flops c) (value_at ports) (values_in wides lane)) → ((c : ℕ) → (Has p.taking.items c → ⊥) → wide_at new.values c ≡ wide_at shifted.values c) →
+    AreSettledOn x.ops (at_levels ports [] old.values clamps) (needs_of (length x.ops) p.marked.items) wides →
+    AreTaken x.flops true p.pulsed.items ports (seen x.ops clamps p.marked.items old.values wides) old.values new.values
 moves_taken x clamps signals p ports wides old shifted new is size count steers free idle moved len taken kept settled lane c within =
-    let cell : Cell = flop_at x.flops.items c in
-    let view : List Wide = seen x.ops.items clamps p.marked.items old.values wides in
+    let cell : Cell = flop_at x.flops c in
+    let view : List Wide = seen x.ops clamps p.marked.items old.values wides in
     let v : ℕ → Tri = values_in wides lane in
     let w : ℕ → Tri = values_in view lane in
     let up : Bool = is_changed cell true p.pulsed.items in
     let next : Tri = next_at cell (value_at ports) w in
     let on : Steers p.steer w = steers_seen x clamps old.layout signals p old.values wides lane is count (steers lane within) in
-    elim (leb_tells (length x.flops.items) c) [
+    elim (leb_tells (length x.flops) c) [
       | inl far ↦ (let first : length old.values ≤ c = omega (arith, far.1, size) in
           let second : length new.values ≤ c = omega (arith, far.1, size, moved.count, len) in
-          past_unknown new.values lane c second within ∙ sym (taken_past x.flops.items true p.pulsed.items ports view lane c far.1)
-          ∙ ap (taken_by x.flops.items true p.pulsed.items ports view lane c) (sym (past_unknown old.values lane c first within)))
+          past_unknown new.values lane c second within ∙ sym (taken_past x.flops true p.pulsed.items ports view lane c far.1)
+          ∙ ap (taken_by x.flops true p.pulsed.items ports view lane c) (sym (past_unknown old.values lane c first within)))
       | inr near ↦ elim (has_or_not p.taking.items c) [
         | inl h ↦ (let here = (is.taking.1 c h).1 in
-            let same : Agree v w (nets_of (next_reads cell (value_at ports) (value_from v))) = set_agrees (needs_of (length x.ops.items) p.marked.items) v w (nets_of (next_reads cell (value_at ports) (value_from v)))
-            (is.reads c (left_carried (is_carried old.layout p.moves.items c) (is_idle cell && ((place_at old.layout.places c).register == 0)) here.1) (value_at ports) v (steers lane within)) (λ net need. sym (ap (λ (u : Wide). value_in u lane) (marked_seen x.ops.items clamps p.marked.items old.values wides net count need))) in
+            let same : Agree v w (nets_of (next_reads cell (value_at ports) (value_from v))) = set_agrees (needs_of (length x.ops) p.marked.items) v w (nets_of (next_reads cell (value_at ports) (value_from v)))
+            (is.reads c (left_carried (is_carried old.layout p.moves.items c) (is_idle cell && ((place_at old.layout.places c).register == 0)) here.1) (value_at ports) v (steers lane within)) (λ net need. sym (ap (λ (u : Wide). value_in u lane) (marked_seen x.ops clamps p.marked.items old.values wides net count need))) in
             taken lane c within h ∙ next_same x ports c v w same ∙ if_true up next (values_in old.values lane c) here.0)
         | inr none ↦ ap (λ (u : Wide). value_in u lane) (kept c none)
             ∙ kept_value x clamps old.layout p ports old.values shifted.values wides lane c within near.1 free idle on (knows_settled x ports [] old.values clamps p.marked.items wides count is.closed settled) (kept_at x clamps signals p old shifted c is size moved near.1 none)
       ]
     ] where
-      kept_value : (x : Circuit) (clamps : List (Option Clamp)) (l : Layout) (p : Plan) (ports : List Tri) (old new wides : List Wide) (lane c : ℕ) → lane < 512 → c < length x.flops.items → (p.steer.free ≡ true → NoneActs x.flops.items ports) → AreIdleUnknown x.flops.items old → Steers p.steer (values_in (seen x.ops.items clamps p.marked.items old wides) lane) →
-          AreSettledOn x.ops.items (at_levels ports [] old clamps) (knows x.ops.items clamps p.marked.items) (seen x.ops.items clamps p.marked.items old wides) → Kept x clamps l p old new c →
-          values_in new lane c ≡ (if is_changed (flop_at x.flops.items c) true p.pulsed.items then next_at (flop_at x.flops.items c) (value_at ports) (values_in (seen x.ops.items clamps p.marked.items old wides) lane) else values_in old lane c)
+      kept_value : (x : Circuit) (clamps : List (Option Clamp)) (l : Layout) (p : Plan) (ports : List Tri) (old new wides : List Wide) (lane c : ℕ) → lane < 512 → c < length x.flops → (p.steer.free ≡ true → NoneActs x.flops ports) → AreIdleUnknown x.flops old → Steers p.steer (values_in (seen x.ops clamps p.marked.items old wides) lane) →
+          AreSettledOn x.ops (at_levels ports [] old clamps) (knows x.ops clamps p.marked.items) (seen x.ops clamps p.marked.items old wides) → Kept x clamps l p old new c →
+          values_in new lane c ≡ (if is_changed (flop_at x.flops c) true p.pulsed.items then next_at (flop_at x.flops c) (value_at ports) (values_in (seen x.ops clamps p.marked.items old wides) lane) else values_in old lane c)
       kept_value x clamps l p ports old new wides lane c within near free idle on settled (inl moved) =
           let it = moved.0 in
-          let w : ℕ → Tri = values_in (seen x.ops.items clamps p.marked.items old wides) lane in
+          let w : ℕ → Tri = values_in (seen x.ops clamps p.marked.items old wides) lane in
           ap (λ (u : Wide). value_in u lane) moved.1
-          ∙ sym (takes_value x.ops.items clamps p.steer (flop_at x.flops.items c) it.other (value_at ports) w (values_in old lane it.other) it.from (λ up t. free up c near t) on
-          (λ net shown. shows_held x ports [] old clamps p.marked.items (seen x.ops.items clamps p.marked.items old wides) lane net it.other within shown settled))
-          ∙ if_true (is_changed (flop_at x.flops.items c) true p.pulsed.items) (next_at (flop_at x.flops.items c) (value_at ports) w) (values_in old lane c) it.changed
+          ∙ sym (takes_value x.ops clamps p.steer (flop_at x.flops c) it.other (value_at ports) w (values_in old lane it.other) it.from (λ up t. free up c near t) on
+          (λ net shown. shows_held x ports [] old clamps p.marked.items (seen x.ops clamps p.marked.items old wides) lane net it.other within shown settled))
+          ∙ if_true (is_changed (flop_at x.flops c) true p.pulsed.items) (next_at (flop_at x.flops c) (value_at ports) w) (values_in old lane c) it.changed
       kept_value x clamps l p ports old new wides lane c within near free idle on settled (inr stays) =
-          let w : ℕ → Tri = values_in (seen x.ops.items clamps p.marked.items old wides) lane in
-          let up : Bool = is_changed (flop_at x.flops.items c) true p.pulsed.items in
-          let next : Tri = next_at (flop_at x.flops.items c) (value_at ports) w in
+          let w : ℕ → Tri = values_in (seen x.ops clamps p.marked.items old wides) lane in
+          let up : Bool = is_changed (flop_at x.flops c) true p.pulsed.items in
+          let next : Tri = next_at (flop_at x.flops c) (value_at ports) w in
           let same : values_in new lane c ≡ values_in old lane c = ap (λ (u : Wide). value_in u lane) stays.1 in
           elim stays.0 [
             | inl none ↦ same ∙ if_false up next (values_in old lane c) none
-            | inr is ↦ same ∙ if_same up next (values_in old lane c) (idle_next (flop_at x.flops.items c) (value_at ports) w is ∙ sym (idle lane c within is))
+            | inr is ↦ same ∙ if_same up next (values_in old lane c) (idle_next (flop_at x.flops c) (value_at ports) w is ∙ sym (idle lane c within is))
           ]

@@ -24,13 +24,12 @@ use Rattle.dft_replay.specs.Verdicts.{bit_decides, bits_decide}
 use Rattle.dft_evaluator.specs.Wides.{value_in, values_in, unknown_wide}
 use Rattle.dft_evaluator.proofs.BitLemmas.{all_unknown}
 use Rattle.dft_evaluator.proofs.WideLemmas.{value_is}
-use Rattle.dft_logic.specs.declared.circuit.Circuit.{Circuit}
 use Rattle.dft_logic.specs.declared.circuit.FlipFlop.{FlipFlop}
 use Rattle.dft_logic.specs.declared.circuit.Op.{Op}
 use Rattle.dft_logic.specs.declared.circuit.Op.TheVariants as op
 use Rattle.dft_logic.specs.declared.shown.Shown.{Shown}
 use Rattle.dft_abstract.specs.Cycle.{tri_forced_by}
-use Rattle.dft_logic.specs.Circuit.{cell_of, force_at, force_nets, meaning, op_at, flag_at}
+use Rattle.dft_logic.specs.Circuit.{Circuit, cell_of, force_at, force_nets, meaning, op_at, flag_at}
 use Rattle.dft_logic.specs.Values.{value_at}
 use Rattle.dft_logic.specs.Needs.{HasAll, next_reads}
 use Rattle.dft_logic.specs.Shows.{still_needs}
@@ -55,34 +54,34 @@ use Rattle.dft_fault_lanes.proofs.WholeLemmas.{both_sets}
 
 -- ---- what is settled
 
-pub settled_needs : (x : Circuit) (s : Situation) (marked : List Bool) (list : List NetId) (wides : List Wide) → length wides ≡ length x.ops.items → length s.clamps ≡ length x.ops.items → ((k : ℕ) → flag_at marked k ≡ true → Has (numbers_of list) k) →
-    ((lane k : ℕ) → lane < 512 → Has (numbers_of list) k → values_in wides lane k ≡ lane_given s lane (values_in wides lane) k (meaning (op_at x.ops.items k))) →
-    AreSettledOn x.ops.items s (needs_of (length x.ops.items) marked) wides
-settled_needs x s marked list wides len clamps listed settled lane k within need = elim (leb_tells (length x.ops.items) k) [
+pub settled_needs : (x : Circuit) (s : Situation) (marked : List Bool) (list : List NetId) (wides : List Wide) → length wides ≡ length x.ops → length s.clamps ≡ length x.ops → ((k : ℕ) → flag_at marked k ≡ true → Has (numbers_of list) k) →
+    ((lane k : ℕ) → lane < 512 → Has (numbers_of list) k → values_in wides lane k ≡ lane_given s lane (values_in wides lane) k (meaning (op_at x.ops k))) →
+    AreSettledOn x.ops s (needs_of (length x.ops) marked) wides
+settled_needs x s marked list wides len clamps listed settled lane k within need = elim (leb_tells (length x.ops) k) [
   | inl out ↦ (let far : length wides ≤ k = omega (arith, out.1, len) in
       let free : length s.clamps ≤ k = omega (arith, out.1, clamps) in
       ap (λ (v : Wide). value_in v lane) (get_or_past wides k unknown_wide far) ∙ value_is unknown_wide (λ lane. Unknown) all_unknown lane within
       ∙ sym (ap (λ (o : Option Clamp). clamped o lane Unknown) (get_or_past s.clamps k None free))
-      ∙ sym (ap (λ (o : Op). lane_given s lane (values_in wides lane) k (meaning o)) (get_or_past x.ops.items k op.Free out.1)))
-  | inr live ↦ settled lane k within (listed k (or_only (flag_at marked k) (nat_le (length x.ops.items) k) live.0 need))
+      ∙ sym (ap (λ (o : Op). lane_given s lane (values_in wides lane) k (meaning o)) (get_or_past x.ops k op.Free out.1)))
+  | inr live ↦ settled lane k within (listed k (or_only (flag_at marked k) (nat_le (length x.ops) k) live.0 need))
 ]
 
 -- ---- which lanes stay live
 
 -- what is still is of the plan's nets, where clocks fall
 keeps_needed : (x : Circuit) (clamps : List (Option Clamp)) (l : Layout) (signals : List NetId) (p : Plan) (wides : List Wide) (old new : Wide) → IsPlan x clamps l signals p → ((lane : ℕ) → lane < 512 → IsLive new lane → Steers p.steer (values_in wides lane)) →
-    KeepsSteady x.flops.items false p.pulsed.items every p.falls.items wides old new → KeepsSteady x.flops.items false p.pulsed.items (needs_of (length x.ops.items) p.marked.items) p.falls.items wides old new
+    KeepsSteady x.flops false p.pulsed.items every p.falls.items wides old new → KeepsSteady x.flops false p.pulsed.items (needs_of (length x.ops) p.marked.items) p.falls.items wides old new
 keeps_needed x clamps l signals p wides old new is steers keeps lane within h =
     let was = keeps lane within h in (
       was.0,
-      λ c up ports. both_sets (needs_of (length x.ops.items) p.marked.items) (shown_at p.falls.items) (flop_at x.flops.items c).domain (nets_of (next_reads (flop_at x.flops.items c) ports (value_from (values_in wides lane))))
+      λ c up ports. both_sets (needs_of (length x.ops) p.marked.items) (shown_at p.falls.items) (flop_at x.flops c).domain (nets_of (next_reads (flop_at x.flops c) ports (value_from (values_in wides lane))))
           (is.reads c (falls_stay x clamps l signals p c is up) ports (values_in wides lane) (steers lane within h)) (was.1 c up ports),
     )
 
 -- the same where lanes were dropped first
 pub keeps_after : (x : Circuit) (clamps : List (Option Clamp)) (l : Layout) (signals : List NetId) (p : Plan) (known : Bool) (wides : List Wide) (old middle new : Wide) → IsPlan x clamps l signals p → (known ≡ true → SteersAll p.steer wides) →
-    ((lane : ℕ) → lane < 512 → IsLive middle lane → (known ≡ true) × IsLive old lane) → KeepsSteady x.flops.items false p.pulsed.items every p.falls.items wides middle new →
-    KeepsSteady x.flops.items false p.pulsed.items (needs_of (length x.ops.items) p.marked.items) p.falls.items wides old new
+    ((lane : ℕ) → lane < 512 → IsLive middle lane → (known ≡ true) × IsLive old lane) → KeepsSteady x.flops false p.pulsed.items every p.falls.items wides middle new →
+    KeepsSteady x.flops false p.pulsed.items (needs_of (length x.ops) p.marked.items) p.falls.items wides old new
 keeps_after x clamps l signals p known wides old middle new is steers fewer keeps lane within h =
     let up : (lane : ℕ) → lane < 512 → IsLive new lane → Steers p.steer (values_in wides lane) = λ lane within h. steers (fewer lane within (keeps lane within h).0).0 lane within in
     let was = keeps_needed x clamps l signals p wides middle new is up keeps lane within h in
@@ -102,10 +101,10 @@ no_items (x ∷ xs) n size is = elim (eqb_tells n 0) [
 
 -- where no cell is listed none falls
 pub no_falls : (x : Circuit) (clamps : List (Option Clamp)) (l : Layout) (signals : List NetId) (p : Plan) → IsPlan x clamps l signals p → p.falling.items ≡ [] → NoneFalls x p.pulsed.items
-no_falls x clamps l signals p is none c = elim (leb_tells (length x.flops.items) c) [
-  | inl far ↦ ap (λ (k : Cell). is_changed k false p.pulsed.items) (cell_past x.flops.items c far.1) ∙ and_false (flag_at p.pulsed.items 0)
-  | inr near ↦ elim (cases_Bool (is_changed (flop_at x.flops.items c) false p.pulsed.items)) [
-    | inl up ↦ (let F : List ℕ → Type 0 = λ l. Has l c in absurd (subst F none (is.falling.0 c near.1 up (left_falls l x.flops.items p.pulsed.items c (none_left l c) up))))
+no_falls x clamps l signals p is none c = elim (leb_tells (length x.flops) c) [
+  | inl far ↦ ap (λ (k : Cell). is_changed k false p.pulsed.items) (cell_past x.flops c far.1) ∙ and_false (flag_at p.pulsed.items 0)
+  | inr near ↦ elim (cases_Bool (is_changed (flop_at x.flops c) false p.pulsed.items)) [
+    | inl up ↦ (let F : List ℕ → Type 0 = λ l. Has l c in absurd (subst F none (is.falling.0 c near.1 up (left_falls l x.flops p.pulsed.items c (none_left l c) up))))
     | inr down ↦ down
   ]
 ]

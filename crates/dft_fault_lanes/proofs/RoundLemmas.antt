@@ -9,9 +9,8 @@ use Rattle.dft_netlist.specs.Logic.{Logic, Meaning, Input, Clock, Gate, Joined, 
 use Rattle.dft_netlist.specs.Settled.{TriSources, is_wire, value_from, IsTriSettled}
 use Rattle.dft_netlist.specs.Runs.{Vector}
 use Rattle.dft_abstract.specs.Cycle.{Pulse, changes, rise_of, strobe_sources, level_before}
-use Rattle.dft_logic.specs.declared.circuit.Circuit.{Circuit}
 use Rattle.dft_logic.specs.declared.shown.Shown.{Shown}
-use Rattle.dft_logic.specs.Circuit.{logic_at, flag_at, next_at, IsCircuit}
+use Rattle.dft_logic.specs.Circuit.{Circuit, logic_at, flag_at, next_at, IsCircuit}
 use Rattle.dft_logic.specs.Needs.{still_from, IsStillFrom, IsStillOn, IsStrobeClosed, next_reads}
 use Rattle.dft_logic.specs.Ranks.{rank_of}
 use Rattle.dft_logic.specs.Shows as shows
@@ -67,7 +66,7 @@ strobe_is l v old values = λ t. record {
 }
 
 -- the cells of a lane once resets and sets acted
-held_is : (x : Circuit) (ports : List Tri) (pulsed : List Bool) (before held : List Wide) (lane stuck : ℕ) (value : Bool) → lane < 512 → AreActedOn x.flops.items ports before held →
+held_is : (x : Circuit) (ports : List Tri) (pulsed : List Bool) (before held : List Wide) (lane stuck : ℕ) (value : Bool) → lane < 512 → AreActedOn x.flops ports before held →
     values_in held lane ≡ (rise_of (with_fault stuck value (logic_at x)) (vector_of ports pulsed) (values_in before lane)).old
 unfolding logic_at
 held_is x ports pulsed before held lane stuck value within acted = λ t c. acted lane c within t
@@ -80,7 +79,7 @@ pub record Risen (x : Circuit) (ports : List Tri) (pulsed : List Bool) (needs : 
   pub falls : falls_of (with_fault stuck value (logic_at x)) (vector_of ports pulsed) (values_in before lane) (values_in strobe lane) ≡ falls_of (with_fault stuck value (logic_at x)) (vector_of ports pulsed) (values_in before lane) all
 
 lane_rise : (x : Circuit) (needs : ℕ → Bool) (ports : List Tri) (pulsed : List Bool) (clamps : List (Option Clamp)) (before held strobe : List Wide) (shown : List Shown) (lane stuck : ℕ) (value : Bool) → IsCircuit x → IsStrobeClosed (logic_at x) needs →
-    lane < 512 → IsStuck clamps lane stuck value → IsStrobeOf x needs ports clamps before held strobe → IsShownOn (logic_at x) (edges_of true (flag_at pulsed)) every (shown_at shown) → AreSteady x.flops.items true pulsed needs shown strobe lane →
+    lane < 512 → IsStuck clamps lane stuck value → IsStrobeOf x needs ports clamps before held strobe → IsShownOn (logic_at x) (edges_of true (flag_at pulsed)) every (shown_at shown) → AreSteady x.flops true pulsed needs shown strobe lane →
     Risen x ports pulsed needs before strobe shown lane stuck value
 unfolding logic_at
 lane_rise x needs ports pulsed clamps before held strobe shown lane stuck value is closed within stuck_is at on steady =
@@ -109,11 +108,11 @@ lane_rise x needs ports pulsed clamps before held strobe shown lane stuck value 
 -- ---- the falls
 
 -- the cells of a lane after the rises
-risen_is : (x : Circuit) (ports : List Tri) (pulsed : List Bool) (before held strobe risen : List Wide) (lane stuck : ℕ) (value : Bool) → lane < 512 → AreActedOn x.flops.items ports before held →
-    AreTaken x.flops.items true pulsed ports strobe held risen → values_in risen lane ≡ (falls_of (with_fault stuck value (logic_at x)) (vector_of ports pulsed) (values_in before lane) (values_in strobe lane)).old
+risen_is : (x : Circuit) (ports : List Tri) (pulsed : List Bool) (before held strobe risen : List Wide) (lane stuck : ℕ) (value : Bool) → lane < 512 → AreActedOn x.flops ports before held →
+    AreTaken x.flops true pulsed ports strobe held risen → values_in risen lane ≡ (falls_of (with_fault stuck value (logic_at x)) (vector_of ports pulsed) (values_in before lane) (values_in strobe lane)).old
 unfolding logic_at
 risen_is x ports pulsed before held strobe risen lane stuck value within acted taken = λ t c.
-    (taken lane c within ∙ ap (λ (m : Tri). if is_changed (flop_at x.flops.items c) true pulsed then next_at (flop_at x.flops.items c) (value_at ports) (values_in strobe lane) else m) (acted lane c within)) t
+    (taken lane c within ∙ ap (λ (m : Tri). if is_changed (flop_at x.flops c) true pulsed then next_at (flop_at x.flops c) (value_at ports) (values_in strobe lane) else m) (acted lane c within)) t
 
 and_true : (b : Bool) → b ≡ b && true
 and_true true = refl
@@ -130,8 +129,8 @@ abbrev pub fall_from : (ports : List Tri) → (pulsed : List Bool) → (old : �
 fall_from ports pulsed old = record { rising = false; ports = value_at ports; pulsed = flag_at pulsed; old = old }
 
 lane_fall : (x : Circuit) (needs : ℕ → Bool) (ports : List Tri) (pulsed : List Bool) (clamps : List (Option Clamp)) (risen later : List Wide) (shown : List Shown) (lane stuck : ℕ) (value : Bool) → IsCircuit x → IsStrobeClosed (logic_at x) needs →
-    lane < 512 → IsStuck clamps lane stuck value → AreSettledOn x.ops.items (at_levels ports pulsed risen clamps) needs later →
-    IsShownOn (logic_at x) (edges_of false (flag_at pulsed)) every (shown_at shown) → AreSteady x.flops.items false pulsed needs shown later lane →
+    lane < 512 → IsStuck clamps lane stuck value → AreSettledOn x.ops (at_levels ports pulsed risen clamps) needs later →
+    IsShownOn (logic_at x) (edges_of false (flag_at pulsed)) every (shown_at shown) → AreSteady x.flops false pulsed needs shown later lane →
     Fallen x (fall_from ports pulsed (values_in risen lane)) (values_in later lane) shown stuck value
 unfolding logic_at
 lane_fall x needs ports pulsed clamps risen later shown lane stuck value is closed within stuck_is at on steady =
@@ -156,9 +155,9 @@ lane_fall x needs ports pulsed clamps risen later shown lane stuck value is clos
 -- ---- the round
 
 with_falls : (x : Circuit) (needs fewer : ℕ → Bool) (ports : List Tri) (pulsed : List Bool) (clamps : List (Option Clamp)) (before held strobe risen later after : List Wide) (first second : List Shown) (lane stuck : ℕ) (value : Bool) → IsCircuit x → IsStrobeClosed (logic_at x) needs → IsStrobeClosed (logic_at x) fewer →
-    lane < 512 → IsStuck clamps lane stuck value → IsStrobeOf x needs ports clamps before held strobe → IsShownOn (logic_at x) (edges_of true (flag_at pulsed)) every (shown_at first) → AreSteady x.flops.items true pulsed needs first strobe lane →
-    AreTaken x.flops.items true pulsed ports strobe held risen → AreSettledOn x.ops.items (at_levels ports pulsed risen clamps) fewer later → IsShownOn (logic_at x) (edges_of false (flag_at pulsed)) every (shown_at second) →
-    AreSteady x.flops.items false pulsed fewer second later lane → AreTaken x.flops.items false pulsed ports later risen after → HasLaneRound x needs ports pulsed before strobe after lane stuck value
+    lane < 512 → IsStuck clamps lane stuck value → IsStrobeOf x needs ports clamps before held strobe → IsShownOn (logic_at x) (edges_of true (flag_at pulsed)) every (shown_at first) → AreSteady x.flops true pulsed needs first strobe lane →
+    AreTaken x.flops true pulsed ports strobe held risen → AreSettledOn x.ops (at_levels ports pulsed risen clamps) fewer later → IsShownOn (logic_at x) (edges_of false (flag_at pulsed)) every (shown_at second) →
+    AreSteady x.flops false pulsed fewer second later lane → AreTaken x.flops false pulsed ports later risen after → HasLaneRound x needs ports pulsed before strobe after lane stuck value
 unfolding logic_at
 with_falls x needs fewer ports pulsed clamps before held strobe risen later after first second lane stuck value is closed closed_fewer within stuck_is at on steady taken settled on_fall steady_fall more =
     let l : Logic = with_fault stuck value (logic_at x) in
@@ -172,7 +171,7 @@ with_falls x needs fewer ports pulsed clamps before held strobe risen later afte
     (lane_fall x fewer ports pulsed clamps risen later second lane stuck value is closed_fewer within stuck_is settled on_fall steady_fall) in
     let found = round_of_passes l (rank_of x) v old (shown_at first) (shown_at second) rise.all fall.all (lane_ranked x stuck value is) rise.is fall.is in
     let last : (c : ℕ) → passed l q (values_in later lane) c ≡ values_in after lane c = λ c.
-    sym (more lane c within ∙ ap (λ (f : ℕ → Tri). if is_changed (flop_at x.flops.items c) false pulsed then next_at (flop_at x.flops.items c) (value_at ports) (values_in later lane) else f c) cells) in
+    sym (more lane c within ∙ ap (λ (f : ℕ → Tri). if is_changed (flop_at x.flops c) false pulsed then next_at (flop_at x.flops c) (value_at ports) (values_in later lane) else f c) cells) in
     (found.0, ((λ net need. rise.same net need ∙ ap (λ (f : ℕ → Tri). f net) (sym found.1.0)), (found.1.1.0, λ c. found.1.1.1 c ∙ sym (fall.passes c) ∙ last c)))
 
 none_changes : (x : Circuit) (ports : List Tri) (pulsed : List Bool) (old values : ℕ → Tri) (stuck : ℕ) (value : Bool) → NoneFalls x pulsed → (c : ℕ) →
@@ -181,8 +180,8 @@ unfolding logic_at
 none_changes x ports pulsed old values stuck value none c = none c
 
 without_falls : (x : Circuit) (needs : ℕ → Bool) (ports : List Tri) (pulsed : List Bool) (clamps : List (Option Clamp)) (before held strobe risen : List Wide) (first : List Shown) (lane stuck : ℕ) (value : Bool) → IsCircuit x → IsStrobeClosed (logic_at x) needs →
-    lane < 512 → IsStuck clamps lane stuck value → IsStrobeOf x needs ports clamps before held strobe → IsShownOn (logic_at x) (edges_of true (flag_at pulsed)) every (shown_at first) → AreSteady x.flops.items true pulsed needs first strobe lane →
-    AreTaken x.flops.items true pulsed ports strobe held risen → NoneFalls x pulsed → HasLaneRound x needs ports pulsed before strobe risen lane stuck value
+    lane < 512 → IsStuck clamps lane stuck value → IsStrobeOf x needs ports clamps before held strobe → IsShownOn (logic_at x) (edges_of true (flag_at pulsed)) every (shown_at first) → AreSteady x.flops true pulsed needs first strobe lane →
+    AreTaken x.flops true pulsed ports strobe held risen → NoneFalls x pulsed → HasLaneRound x needs ports pulsed before strobe risen lane stuck value
 without_falls x needs ports pulsed clamps before held strobe risen first lane stuck value is closed within stuck_is at on steady taken none =
     let l : Logic = with_fault stuck value (logic_at x) in
     let v : Vector = vector_of ports pulsed in
@@ -206,19 +205,19 @@ are_pulsed x needs fewer ports pulsed clamps strobe held risen new live middle l
     )
 
 -- what nets have that show cells need not be settled
-pub seen_pulsed : (x : Circuit) (marked : List Bool) (ports : List Tri) (pulsed : List Bool) (clamps : List (Option Clamp)) (strobe held risen new : List Wide) (live middle last : Wide) → IsCircuit x → IsStrobeClosed (logic_at x) (flag_at marked) → length strobe ≡ length x.ops.items →
-    (AreSettledOn x.ops.items (at_levels ports [] held clamps) (needs_of (length x.ops.items) marked) strobe → IsPhase x (knows x.ops.items clamps marked) true ports pulsed (seen x.ops.items clamps marked held strobe) held risen live middle) →
-    IsFall x (needs_of (length x.ops.items) marked) ports pulsed clamps risen new middle last → ArePulsed x (needs_of (length x.ops.items) marked) ports pulsed clamps strobe held new live last
+pub seen_pulsed : (x : Circuit) (marked : List Bool) (ports : List Tri) (pulsed : List Bool) (clamps : List (Option Clamp)) (strobe held risen new : List Wide) (live middle last : Wide) → IsCircuit x → IsStrobeClosed (logic_at x) (flag_at marked) → length strobe ≡ length x.ops →
+    (AreSettledOn x.ops (at_levels ports [] held clamps) (needs_of (length x.ops) marked) strobe → IsPhase x (knows x.ops clamps marked) true ports pulsed (seen x.ops clamps marked held strobe) held risen live middle) →
+    IsFall x (needs_of (length x.ops) marked) ports pulsed clamps risen new middle last → ArePulsed x (needs_of (length x.ops) marked) ports pulsed clamps strobe held new live last
 seen_pulsed x marked ports pulsed clamps strobe held risen new live middle last is closed size rise fall before lane stuck value at within stuck_is h =
-    let view : List Wide = seen x.ops.items clamps marked held strobe in
-    let more : IsStrobeOf x (knows x.ops.items clamps marked) ports clamps before held view = record { acted = at.acted; settled = knows_settled x ports [] held clamps marked strobe size closed at.settled } in
-    let went = are_pulsed x (knows x.ops.items clamps marked) (needs_of (length x.ops.items) marked) ports pulsed clamps view held risen new live middle last is (knows_closed x clamps marked closed) (needs_closed x marked closed) (rise at.settled) fall
+    let view : List Wide = seen x.ops clamps marked held strobe in
+    let more : IsStrobeOf x (knows x.ops clamps marked) ports clamps before held view = record { acted = at.acted; settled = knows_settled x ports [] held clamps marked strobe size closed at.settled } in
+    let went = are_pulsed x (knows x.ops clamps marked) (needs_of (length x.ops) marked) ports pulsed clamps view held risen new live middle last is (knows_closed x clamps marked closed) (needs_closed x marked closed) (rise at.settled) fall
     before lane stuck value more within stuck_is h in (
       went.0,
       (
         went.1.0,
         (
-          λ net need. sym (ap (λ (w : Wide). value_in w lane) (marked_seen x.ops.items clamps marked held strobe net size need)) ∙ went.1.1.0 net (needs_known x.ops.items clamps marked net need),
+          λ net need. sym (ap (λ (w : Wide). value_in w lane) (marked_seen x.ops clamps marked held strobe net size need)) ∙ went.1.1.0 net (needs_known x.ops clamps marked net need),
           went.1.1.1,
         ),
       ),

@@ -9,10 +9,9 @@ use Rattle.dft_lanes.specs.declared.wide.Wide.{Wide}
 use Rattle.dft_netlist.specs.Logic.{reads}
 use Rattle.dft_netlist.specs.Settled.{inverse, value_given}
 use Rattle.dft_evaluator.specs.Wides.{value_in, values_in, wide_at, unknown_wide}
-use Rattle.dft_logic.specs.declared.circuit.Circuit.{Circuit}
 use Rattle.dft_logic.specs.declared.circuit.Op.{Op}
 use Rattle.dft_logic.specs.declared.circuit.Op.TheVariants.{Input, Clock, Gate, Joined, Flop, Lockup, Free}
-use Rattle.dft_logic.specs.Circuit.{logic_at, flag_at, op_at, meaning}
+use Rattle.dft_logic.specs.Circuit.{Circuit, logic_at, flag_at, op_at, meaning}
 use Rattle.dft_logic.specs.Needs.{HasAll, IsStrobeClosed, still_from}
 use Rattle.dft_logic.specs.Values.{value_at}
 use Rattle.dft_logic.proofs.PlanLemmas.{needs_closed}
@@ -111,20 +110,20 @@ pub all_wider : (fewer more : ℕ → Bool) (nets : List ℕ) → ((k : ℕ) →
 all_wider fewer more [] wider has = tt
 all_wider fewer more (net ∷ nets) wider has = (wider net has.0, all_wider fewer more nets wider has.1)
 
-pub knows_closed : (x : Circuit) (clamps : List (Option Clamp)) (marked : List Bool) → IsStrobeClosed (logic_at x) (flag_at marked) → IsStrobeClosed (logic_at x) (knows x.ops.items clamps marked)
+pub knows_closed : (x : Circuit) (clamps : List (Option Clamp)) (marked : List Bool) → IsStrobeClosed (logic_at x) (flag_at marked) → IsStrobeClosed (logic_at x) (knows x.ops clamps marked)
 unfolding logic_at
-knows_closed x clamps marked closed k know = elim (cases_Bool (needs_of (length x.ops.items) marked k)) [
-  | inl need ↦ all_wider (needs_of (length x.ops.items) marked) (knows x.ops.items clamps marked) (reads (meaning (op_at x.ops.items k))) (needs_known x.ops.items clamps marked) (needs_closed x marked closed k need)
-  | inr out ↦ (let shown = some_is (cell_shown x.ops.items clamps k) (or_only (is_some (cell_shown x.ops.items clamps k)) (needs_of (length x.ops.items) marked k) out know) in
-      no_reads (knows x.ops.items clamps marked) (clamp_at clamps k) (op_at x.ops.items k) shown.0 shown.1)
+knows_closed x clamps marked closed k know = elim (cases_Bool (needs_of (length x.ops) marked k)) [
+  | inl need ↦ all_wider (needs_of (length x.ops) marked) (knows x.ops clamps marked) (reads (meaning (op_at x.ops k))) (needs_known x.ops clamps marked) (needs_closed x marked closed k need)
+  | inr out ↦ (let shown = some_is (cell_shown x.ops clamps k) (or_only (is_some (cell_shown x.ops clamps k)) (needs_of (length x.ops) marked k) out know) in
+      no_reads (knows x.ops clamps marked) (clamp_at clamps k) (op_at x.ops k) shown.0 shown.1)
 ]
 
 -- what is settled of the marked nets is settled of all nets that are known
-pub knows_settled : (x : Circuit) (ports : List Tri) (levels : List Bool) (held : List Wide) (clamps : List (Option Clamp)) (marked : List Bool) (wides : List Wide) → length wides ≡ length x.ops.items → IsStrobeClosed (logic_at x) (flag_at marked) →
-    AreSettledOn x.ops.items (at_levels ports levels held clamps) (needs_of (length x.ops.items) marked) wides → AreSettledOn x.ops.items (at_levels ports levels held clamps) (knows x.ops.items clamps marked) (seen x.ops.items clamps marked held wides)
+pub knows_settled : (x : Circuit) (ports : List Tri) (levels : List Bool) (held : List Wide) (clamps : List (Option Clamp)) (marked : List Bool) (wides : List Wide) → length wides ≡ length x.ops → IsStrobeClosed (logic_at x) (flag_at marked) →
+    AreSettledOn x.ops (at_levels ports levels held clamps) (needs_of (length x.ops) marked) wides → AreSettledOn x.ops (at_levels ports levels held clamps) (knows x.ops clamps marked) (seen x.ops clamps marked held wides)
 unfolding logic_at
 knows_settled x ports levels held clamps marked wides size closed settled lane k within know =
-    let ops : List Op = x.ops.items in
+    let ops : List Op = x.ops in
     let s : Situation = at_levels ports levels held clamps in
     let needs : ℕ → Bool = needs_of (length ops) marked in
     let v : ℕ → Tri = values_in wides lane in
@@ -146,8 +145,8 @@ knows_settled x ports levels held clamps marked wides size closed settled lane k
     ]
 
 -- a net that shows a cell has the cell's value
-pub shows_held : (x : Circuit) (ports : List Tri) (levels : List Bool) (held : List Wide) (clamps : List (Option Clamp)) (marked : List Bool) (wides : List Wide) (lane k c : ℕ) → lane < 512 → cell_shown x.ops.items clamps k ≡ Some c →
-    AreSettledOn x.ops.items (at_levels ports levels held clamps) (knows x.ops.items clamps marked) wides → values_in wides lane k ≡ values_in held lane c
+pub shows_held : (x : Circuit) (ports : List Tri) (levels : List Bool) (held : List Wide) (clamps : List (Option Clamp)) (marked : List Bool) (wides : List Wide) (lane k c : ℕ) → lane < 512 → cell_shown x.ops clamps k ≡ Some c →
+    AreSettledOn x.ops (at_levels ports levels held clamps) (knows x.ops clamps marked) wides → values_in wides lane k ≡ values_in held lane c
 shows_held x ports levels held clamps marked wides lane k c within shown settled =
-    settled lane k within (shown_known x.ops.items clamps marked k c shown)
-    ∙ given_shown (clamp_at clamps k) (op_at x.ops.items k) c lane k (flag_at levels) (value_at ports) (values_in held lane) (values_in wides lane) shown
+    settled lane k within (shown_known x.ops clamps marked k c shown)
+    ∙ given_shown (clamp_at clamps k) (op_at x.ops k) c lane k (flag_at levels) (value_at ports) (values_in held lane) (values_in wides lane) shown

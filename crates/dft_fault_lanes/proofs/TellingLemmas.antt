@@ -5,8 +5,7 @@ use Rattle.std.proofs.lemmas.Bool.{cases_eq}
 use Rattle.std.proofs.lemmas.Option.{same_Some, slice_get_within}
 use Rattle.dft_netlist.specs.Netlist.{Netlist}
 use Rattle.dft_netlist.specs.Logic.{logic_of}
-use Rattle.dft_logic.specs.Circuit.{flag_at, logic_at}
-use Rattle.dft_logic.specs.declared.circuit.Circuit.{Circuit}
+use Rattle.dft_logic.specs.Circuit.{Circuit, flag_at, logic_at}
 use Rattle.dft_patterns.specs.Patterns.{Patterns}
 use Rattle.dft_replay.specs.Rows.{ports_of, rows_of}
 use Rattle.dft_faults.specs.declared.fault.Fault.{Fault}

@@ -5,8 +5,7 @@ use Rattle.dft_base.specs.declared.tri.Tri.TheVariants.{Unknown}
 use Rattle.dft_lanes.specs.declared.wide.Wide.{Wide}
 use Rattle.dft_netlist.specs.Logic.{Logic}
 use Rattle.dft_abstract.specs.Cycle.{Round, IsRound, after_round, all_unknown}
-use Rattle.dft_logic.specs.declared.circuit.Circuit.{Circuit}
-use Rattle.dft_logic.specs.Circuit.{logic_at, flag_at}
+use Rattle.dft_logic.specs.Circuit.{Circuit, logic_at, flag_at}
 use Rattle.dft_logic.specs.Values.{value_at}
 use Rattle.dft_evaluator.specs.Wides.{value_in, values_in}
 use Rattle.dft_replay.specs.declared.verdict.Unknowns.TheVariants.{Skip}

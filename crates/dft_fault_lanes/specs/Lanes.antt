@@ -14,13 +14,12 @@ use Rattle.dft_netlist.specs.Logic.{Cell}
 use Rattle.dft_netlist.specs.Runs.{takes, Vector}
 use Rattle.dft_abstract.specs.Cycle.{tri_forced_by, Round, IsRound, after_round}
 use Rattle.dft_logic.specs.declared.circuit.FlipFlop.{FlipFlop}
-use Rattle.dft_logic.specs.Circuit.{op_at, meaning, flag_at, cell_of, cell_at, next_at, logic_at}
+use Rattle.dft_logic.specs.Circuit.{Circuit, op_at, meaning, flag_at, cell_of, cell_at, next_at, logic_at}
 use Rattle.dft_logic.specs.Values.{value_at}
 use Rattle.dft_logic.specs.Needs.{HasAll, still_from, next_reads}
 use Rattle.dft_logic.specs.Shows.{still_needs}
 use Rattle.dft_logic.specs.ShownTables.{shown_at}
 use Rattle.dft_logic.specs.declared.shown.Shown.{Shown}
-use Rattle.dft_logic.specs.declared.circuit.Circuit.{Circuit}
 use Rattle.dft_fault_laws.specs.Stuck.{with_fault}
 use Rattle.dft_fault_lanes.specs.declared.clamps.Clamp.{Clamp}
 use Rattle.dft_fault_lanes.specs.declared.sweeping.Setting.{Setting}

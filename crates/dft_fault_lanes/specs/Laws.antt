@@ -1,8 +1,7 @@
 -- What the lanes are: each is the design with its fault.
 use Rattle.std.specs.Prelude.{ℕ, Bool, ◌≡◌, ◌<◌, List}
 use Rattle.dft_lanes.specs.declared.wide.Wide.{Wide}
-use Rattle.dft_logic.specs.declared.circuit.Circuit.{Circuit}
-use Rattle.dft_logic.specs.Circuit.{logic_at, flag_at}
+use Rattle.dft_logic.specs.Circuit.{Circuit, logic_at, flag_at}
 use Rattle.dft_logic.specs.Values.{value_at}
 use Rattle.dft_logic.specs.Needs.{IsStillOn}
 use Rattle.dft_evaluator.specs.Wides.{values_in}
@@ -21,7 +20,7 @@ use Rattle.dft_fault_lanes.specs.Groups.{HasRowsGrade}
 -- In a lane in which one net is stuck, nets of a set that are settled are those of the logic in which this net has the constant.
 abbrev pub LaneIsFaulty : Type 0
 LaneIsFaulty =
-    (x : Circuit) (s : Situation) (needs : (net : ℕ) → Bool) (wides : List Wide) (lane stuck : ℕ) (value : Bool) → AreSettledOn x.ops.items s needs wides → lane < 512 → IsStuck s.clamps lane stuck value →
+    (x : Circuit) (s : Situation) (needs : (net : ℕ) → Bool) (wides : List Wide) (lane stuck : ℕ) (value : Bool) → AreSettledOn x.ops s needs wides → lane < 512 → IsStuck s.clamps lane stuck value →
     IsStillOn (with_fault stuck value (logic_at x)) (flag_at s.levels) (value_at s.ports) (values_in s.cells lane) needs (values_in wides lane)
 
 -- Where no clock, reset or set comes by a fault's net, a grade of the logic in which it is stuck is that of the fault.

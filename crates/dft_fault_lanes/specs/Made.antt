@@ -4,8 +4,7 @@ use Rattle.std.specs.Vec.{vec_capacity}
 use Rattle.dft_netlist.specs.declared.ids.NetId.{NetId}
 use Rattle.dft_netlist.specs.Orders.{Has, numbers_of}
 use Rattle.dft_lane_registers.specs.Layout.{Layout}
-use Rattle.dft_logic.specs.declared.circuit.Circuit.{Circuit}
-use Rattle.dft_logic.specs.Circuit.{logic_at, flag_at, AreOrdered}
+use Rattle.dft_logic.specs.Circuit.{Circuit, logic_at, flag_at, AreOrdered}
 use Rattle.dft_logic.specs.Needs.{HasAll, IsStrobeClosed}
 use Rattle.dft_logic.specs.Shows.{IsShownOn, still_needs}
 use Rattle.dft_logic.specs.ShownTables.{shown_at, edges_of}
@@ -24,27 +23,27 @@ pub record IsPlan (x : Circuit) (clamps : List (Option Clamp)) (l : Layout) (sig
   pub rises : IsShownOn (logic_at x) (edges_of true (flag_at p.pulsed.items)) every (shown_at p.rises.items)
   pub falls : IsShownOn (logic_at x) (edges_of false (flag_at p.pulsed.items)) every (shown_at p.falls.items)
   pub closed : IsStrobeClosed (logic_at x) (flag_at p.marked.items)
-  pub ordered : AreOrdered x.ops.items [] (numbers_of (take p.count p.list.items))
+  pub ordered : AreOrdered x.ops [] (numbers_of (take p.count p.list.items))
   pub listed : (k : ℕ) → flag_at p.marked.items k ≡ true → Has (numbers_of (take p.count p.list.items)) k
   pub room : p.count ≤ length p.list.items
-  pub steered : needs_of (length x.ops.items) p.marked.items p.steer.net.0 ≡ true
-  pub enables : (c : ℕ) → HasAll (needs_of (length x.ops.items) p.marked.items) (enable_needs (flop_at x.flops.items c))
-  pub reads : (c : ℕ) → is_carried l p.moves.items c ≡ false → HasReadsOf (needs_of (length x.ops.items) p.marked.items) p.steer (flop_at x.flops.items c)
+  pub steered : needs_of (length x.ops) p.marked.items p.steer.net.0 ≡ true
+  pub enables : (c : ℕ) → HasAll (needs_of (length x.ops) p.marked.items) (enable_needs (flop_at x.flops c))
+  pub reads : (c : ℕ) → is_carried l p.moves.items c ≡ false → HasReadsOf (needs_of (length x.ops) p.marked.items) p.steer (flop_at x.flops c)
   pub rests : flag_at p.moves.items 0 ≡ false
-  pub moving : AreMoves x.ops.items clamps x.flops.items p.steer p.pulsed.items l p.moves.items
-  pub taking : ArePlaces x.flops.items true p.pulsed.items (is_left l p.moves.items x.flops.items) p.taking.items
-  pub falling : ArePlaces x.flops.items false p.pulsed.items (is_left l [] x.flops.items) p.falling.items
-  pub steady : p.steady ≡ true → (c : ℕ) → is_changed (flop_at x.flops.items c) true p.pulsed.items ≡ true →
-      HasReadsOf (still_needs every (shown_at p.rises.items) (flop_at x.flops.items c).domain) p.steer (flop_at x.flops.items c)
+  pub moving : AreMoves x.ops clamps x.flops p.steer p.pulsed.items l p.moves.items
+  pub taking : ArePlaces x.flops true p.pulsed.items (is_left l p.moves.items x.flops) p.taking.items
+  pub falling : ArePlaces x.flops false p.pulsed.items (is_left l [] x.flops) p.falling.items
+  pub steady : p.steady ≡ true → (c : ℕ) → is_changed (flop_at x.flops c) true p.pulsed.items ≡ true →
+      HasReadsOf (still_needs every (shown_at p.rises.items) (flop_at x.flops c).domain) p.steer (flop_at x.flops c)
 
 -- a plan has room for the nets and the cells of a circuit, and for so many signals, and lists the ports of all resets and sets
 pub record HasRoom (x : Circuit) (signals : ℕ) (p : Plan) : Type 0 where
   pub pulses : length p.pulses.items ≡ signals
-  pub pulsed : length p.pulsed.items ≡ length x.ops.items
-  pub rises : length p.rises.items ≡ length x.ops.items
-  pub falls : length p.falls.items ≡ length x.ops.items
-  pub marked : length p.marked.items ≡ length x.ops.items
-  pub list : length p.list.items ≡ length x.ops.items
-  pub taking : length x.flops.items ≤ vec_capacity p.taking
-  pub falling : length x.flops.items ≤ vec_capacity p.falling
-  pub forces : HasForces x.flops.items (numbers_of p.forces.items)
+  pub pulsed : length p.pulsed.items ≡ length x.ops
+  pub rises : length p.rises.items ≡ length x.ops
+  pub falls : length p.falls.items ≡ length x.ops
+  pub marked : length p.marked.items ≡ length x.ops
+  pub list : length p.list.items ≡ length x.ops
+  pub taking : length x.flops ≤ vec_capacity p.taking
+  pub falling : length x.flops ≤ vec_capacity p.falling
+  pub forces : HasForces x.flops (numbers_of p.forces.items)

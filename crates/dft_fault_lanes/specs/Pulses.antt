@@ -2,9 +2,8 @@
 use Rattle.std.specs.Prelude.{ℕ, Bool, false, ◌≡◌, ◌<◌, ◌⊎◌, List, [], Option}
 use Rattle.dft_base.specs.declared.tri.Tri.{Tri}
 use Rattle.dft_lanes.specs.declared.wide.Wide.{Wide}
-use Rattle.dft_logic.specs.declared.circuit.Circuit.{Circuit}
 use Rattle.dft_logic.specs.declared.shown.Shown.{Shown}
-use Rattle.dft_logic.specs.Circuit.{logic_at, flag_at}
+use Rattle.dft_logic.specs.Circuit.{Circuit, logic_at, flag_at}
 use Rattle.dft_logic.specs.Shows.{IsShownOn}
 use Rattle.dft_logic.specs.ShownTables.{shown_at, edges_of}
 use Rattle.dft_fault_laws.specs.Rounds.{every}
@@ -15,12 +14,12 @@ use Rattle.dft_fault_lanes.specs.Lanes.{Situation, AreSettledOn, AreActedOn, Are
 pub record IsPhase (x : Circuit) (needs : (net : ℕ) → Bool) (rising : Bool) (ports : List Tri) (pulsed : List Bool) (wides old new : List Wide) (before after : Wide) : Type 0 where
   pub shown : List Shown
   pub shows : IsShownOn (logic_at x) (edges_of rising (flag_at pulsed)) every (shown_at shown)
-  pub steady : KeepsSteady x.flops.items rising pulsed needs shown wides before after
-  pub taken : AreTaken x.flops.items rising pulsed ports wides old new
+  pub steady : KeepsSteady x.flops rising pulsed needs shown wides before after
+  pub taken : AreTaken x.flops rising pulsed ports wides old new
 
 -- no cell takes a value at the fall of a clock that pulses
 abbrev pub NoneFalls : Circuit → (pulsed : List Bool) → Type 0
-NoneFalls x pulsed = (c : ℕ) → is_changed (flop_at x.flops.items c) false pulsed ≡ false
+NoneFalls x pulsed = (c : ℕ) → is_changed (flop_at x.flops c) false pulsed ≡ false
 
 -- what is settled while clocks have these levels
 abbrev pub at_levels : (ports : List Tri) → (levels : List Bool) → (cells : List Wide) → List (Option Clamp) → Situation
@@ -30,12 +29,12 @@ at_levels ports levels cells clamps = record { ports = ports; levels = levels; c
 abbrev pub IsFall : Circuit → (needs : (net : ℕ) → Bool) → (ports : List Tri) → (pulsed : List Bool) → List (Option Clamp) → (old new : List Wide) → (before after : Wide) → Type 0
 IsFall x needs ports pulsed clamps old new before after =
     (NoneFalls x pulsed × ((new ≡ old) × (after ≡ before)))
-    ⊎ ((wides : List Wide) × (AreSettledOn x.ops.items (at_levels ports pulsed old clamps) needs wides × IsPhase x needs false ports pulsed wides old new before after))
+    ⊎ ((wides : List Wide) × (AreSettledOn x.ops (at_levels ports pulsed old clamps) needs wides × IsPhase x needs false ports pulsed wides old new before after))
 
 -- the nets of a set are settled for a strobe, once resets and sets acted on the cells
 pub record IsStrobeOf (x : Circuit) (needs : (net : ℕ) → Bool) (ports : List Tri) (clamps : List (Option Clamp)) (before held wides : List Wide) : Type 0 where
-  pub acted : AreActedOn x.flops.items ports before held
-  pub settled : AreSettledOn x.ops.items (at_levels ports [] held clamps) needs wides
+  pub acted : AreActedOn x.flops ports before held
+  pub settled : AreSettledOn x.ops (at_levels ports [] held clamps) needs wides
 
 -- From each strobe, a lane that is live after the pulse was live before it, and has a round with the strobe's values and these cells.
 abbrev pub ArePulsed : Circuit → (needs : (net : ℕ) → Bool) → (ports : List Tri) → (pulsed : List Bool) → List (Option Clamp) → (strobe held new : List Wide) → (live still : Wide) → Type 0

@@ -53,14 +53,14 @@ fn settle_by(
     wides: &mut [Wide],
 ) -> bool
     requires circuit { IsCircuit group.circuit.now }
-    requires clamped { length group.clamps.now ≡ length group.circuit.now.ops.items }
+    requires clamped { length group.clamps.now ≡ length group.circuit.now.ops }
     requires clamps { AreClamps group.clamps.now }
     requires plan { IsPlan group.circuit.now group.clamps.now cells.now.layout group.nets.now plan.now }
-    requires wides { length wides.old ≡ length group.circuit.now.ops.items }
+    requires wides { length wides.old ≡ length group.circuit.now.ops }
     requires each_wide { AreWides wides.old }
     requires each_cell { AreWides cells.now.values }
     ensures each_wide { AreWides wides.new }
-    ensures settled { AreSettledOn group.entry.circuit.now.ops.items (at_levels ports.now [] cells.now.values group.entry.clamps.now) (needs_of (length group.entry.circuit.now.ops.items) plan.now.marked.items) wides.new }
+    ensures settled { AreSettledOn group.entry.circuit.now.ops (at_levels ports.now [] cells.now.values group.entry.clamps.now) (needs_of (length group.entry.circuit.now.ops) plan.now.marked.items) wides.new }
     ensures steers { result ≡ true → SteersAll plan.now.steer wides.new }
     ensures unknown { plan.now.steer.value ≡ ATri.Unknown → SteersAll plan.now.steer wides.new }
 {
@@ -76,9 +76,9 @@ fn settle_by(
 // Makes the plan for a vector, unless it is for it.
 fn ready(group: Group<'_>, acts: &[Act], value: Tri, free: bool, cells: &Cells, plan: &mut Plan)
     requires circuit { IsCircuit group.circuit.now }
-    requires nets { AreSignals (length group.circuit.now.ops.items) group.nets.now }
+    requires nets { AreSignals (length group.circuit.now.ops) group.nets.now }
     requires acts { length acts.now ≡ length group.nets.now }
-    requires count { length cells.now.values ≡ length group.circuit.now.flops.items }
+    requires count { length cells.now.values ≡ length group.circuit.now.flops }
     requires room { HasRoom group.circuit.now (length group.nets.now) plan.old }
     requires plan { plan.old.made ≡ true → IsPlan group.circuit.now group.clamps.now cells.now.layout group.nets.now plan.old }
     ensures room { HasRoom group.entry.circuit.now (length group.entry.nets.now) plan.new }
@@ -112,14 +112,14 @@ fn strobe(
     wides: &mut [Wide],
 )
     requires circuit { IsCircuit group.circuit.now }
-    requires clamped { length group.clamps.now ≡ length group.circuit.now.ops.items }
+    requires clamped { length group.clamps.now ≡ length group.circuit.now.ops }
     requires clamps { AreClamps group.clamps.now }
-    requires nets { AreSignals (length group.circuit.now.ops.items) group.nets.now }
+    requires nets { AreSignals (length group.circuit.now.ops) group.nets.now }
     requires acts { length acts.now ≡ length group.nets.now }
-    requires count { length cells.now.values ≡ length group.circuit.now.flops.items }
+    requires count { length cells.now.values ≡ length group.circuit.now.flops }
     requires room { HasRoom group.circuit.now (length group.nets.now) plan.old }
     requires plan { plan.old.made ≡ true → IsPlan group.circuit.now group.clamps.now cells.now.layout group.nets.now plan.old }
-    requires wides { length wides.old ≡ length group.circuit.now.ops.items }
+    requires wides { length wides.old ≡ length group.circuit.now.ops }
     requires each_wide { AreWides wides.old }
     requires each_cell { AreWides cells.now.values }
     ensures each_wide { AreWides wides.new }
@@ -128,7 +128,7 @@ fn strobe(
     ensures pulses { plan.new.pulses.items ≡ map is_pulse acts.now }
     ensures free { plan.new.steer.free ≡ free }
     ensures covered { AreCovered group.entry.nets.now acts.now plan.new.marked.items }
-    ensures settled { AreSettledOn group.entry.circuit.now.ops.items (at_levels ports.now [] cells.now.values group.entry.clamps.now) (needs_of (length group.entry.circuit.now.ops.items) plan.new.marked.items) wides.new }
+    ensures settled { AreSettledOn group.entry.circuit.now.ops (at_levels ports.now [] cells.now.values group.entry.clamps.now) (needs_of (length group.entry.circuit.now.ops) plan.new.marked.items) wides.new }
     ensures steers { SteersAll plan.new.steer wides.new }
 {
     let value = plan.aim(ports);
@@ -161,18 +161,18 @@ fn play(
     found: &mut [Option<Grade>],
 )
     requires circuit { IsCircuit group.circuit.now }
-    requires clamped { length group.clamps.now ≡ length group.circuit.now.ops.items }
+    requires clamped { length group.clamps.now ≡ length group.circuit.now.ops }
     requires clamps { AreClamps group.clamps.now }
-    requires nets { AreSignals (length group.circuit.now.ops.items) group.nets.now }
+    requires nets { AreSignals (length group.circuit.now.ops) group.nets.now }
     requires few { length group.nets.now < 2 ^ 32 }
     requires acts { length acts.now ≡ length group.nets.now }
-    requires ports { length ports.old ≡ length group.circuit.now.ops.items }
+    requires ports { length ports.old ≡ length group.circuit.now.ops }
     requires room { HasRoom group.circuit.now (length group.nets.now) plan.old }
     requires plan { plan.old.made ≡ true → IsPlan group.circuit.now group.clamps.now cells.old.layout group.nets.now plan.old }
-    requires wides { length wides.old ≡ length group.circuit.now.ops.items }
-    requires later { length later.old ≡ length group.circuit.now.ops.items }
-    requires cells { length cells.old.values ≡ length group.circuit.now.flops.items }
-    requires idle { AreIdleUnknown group.circuit.now.flops.items cells.old.values }
+    requires wides { length wides.old ≡ length group.circuit.now.ops }
+    requires later { length later.old ≡ length group.circuit.now.ops }
+    requires cells { length cells.old.values ≡ length group.circuit.now.flops }
+    requires idle { AreIdleUnknown group.circuit.now.flops cells.old.values }
     requires found { length found.old ≡ 512 }
     requires each_wide { AreWides wides.old }
     requires each_later { AreWides later.old }
@@ -182,7 +182,7 @@ fn play(
     ensures each_later { AreWides later.new }
     ensures each_cell { AreWides cells.new.values }
     ensures cells { length cells.new.values ≡ length cells.old.values }
-    ensures idle { AreIdleUnknown group.entry.circuit.now.flops.items cells.new.values }
+    ensures idle { AreIdleUnknown group.entry.circuit.now.flops cells.new.values }
     ensures room { HasRoom group.entry.circuit.now (length group.entry.nets.now) plan.new }
     ensures plan { IsPlan group.entry.circuit.now group.entry.clamps.now cells.new.layout group.entry.nets.now plan.new }
     ensures live { IsWide live.new (value_in live.new) }
@@ -217,19 +217,19 @@ fn run(
     found: &mut [Option<Grade>],
 )
     requires circuit { IsCircuit group.circuit.now }
-    requires clamped { length group.clamps.now ≡ length group.circuit.now.ops.items }
+    requires clamped { length group.clamps.now ≡ length group.circuit.now.ops }
     requires clamps { AreClamps group.clamps.now }
-    requires nets { AreSignals (length group.circuit.now.ops.items) group.nets.now }
+    requires nets { AreSignals (length group.circuit.now.ops) group.nets.now }
     requires few { length group.nets.now < 2 ^ 32 }
     requires vectors { length vectors.now < 2 ^ 32 }
     requires acts { All (λ acts. length acts ≡ length group.nets.now) vectors.now }
-    requires ports { length ports.old ≡ length group.circuit.now.ops.items }
+    requires ports { length ports.old ≡ length group.circuit.now.ops }
     requires room { HasRoom group.circuit.now (length group.nets.now) plan.old }
     requires plan { plan.old.made ≡ true → IsPlan group.circuit.now group.clamps.now cells.old.layout group.nets.now plan.old }
-    requires wides { length wides.old ≡ length group.circuit.now.ops.items }
-    requires later { length later.old ≡ length group.circuit.now.ops.items }
-    requires cells { length cells.old.values ≡ length group.circuit.now.flops.items }
-    requires idle { AreIdleUnknown group.circuit.now.flops.items cells.old.values }
+    requires wides { length wides.old ≡ length group.circuit.now.ops }
+    requires later { length later.old ≡ length group.circuit.now.ops }
+    requires cells { length cells.old.values ≡ length group.circuit.now.flops }
+    requires idle { AreIdleUnknown group.circuit.now.flops cells.old.values }
     requires found { length found.old ≡ 512 }
     requires each_wide { AreWides wides.old }
     requires each_later { AreWides later.old }
@@ -361,12 +361,12 @@ pub fn grade_group(
     faults: &[Fault],
 ) -> Result<Vec<Option<Grade>>, AllocError>
     requires circuit { IsCircuit circuit.now }
-    requires nets { AreSignals (length circuit.now.ops.items) nets.now }
+    requires nets { AreSignals (length circuit.now.ops) nets.now }
     requires few { length nets.now < 2 ^ 32 }
     requires vectors { length vectors.now < 2 ^ 32 }
     requires acts { All (λ acts. length acts ≡ length nets.now) vectors.now }
     requires faults { length faults.now ≤ 512 }
-    requires live { (place : ℕ) (fault : AFault) → slice_get faults.now place ≡ Some fault → fault.net.0 < length circuit.now.ops.items }
+    requires live { (place : ℕ) (fault : AFault) → slice_get faults.now place ≡ Some fault → fault.net.0 < length circuit.now.ops }
     ensures size { IfOk result (λ found. length found.items ≡ 512) }
     ensures found { IfOk result (λ found. AreFound circuit.now (rows_from (numbers_of nets.now) all_unknown vectors.now) faults.now found.items) }
 {

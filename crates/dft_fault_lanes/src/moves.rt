@@ -78,7 +78,7 @@ fn is_driver(ops: &[Op], net: NetId, cell: usize) -> bool
 
 // Whether a net's bit is that of a cell: it has no bounds.
 fn is_cell(wiring: Wiring<'_>, net: NetId, cell: usize) -> bool
-    ensures { result ≡ true → seen.cell_shown wiring.entry.circuit.now.ops.items wiring.entry.clamps.now net.0 ≡ Some cell }
+    ensures { result ≡ true → seen.cell_shown wiring.entry.circuit.now.ops wiring.entry.clamps.now net.0 ≡ Some cell }
 {
     if is_bound(wiring.clamps, net) {
         return false;
@@ -88,7 +88,7 @@ fn is_cell(wiring: Wiring<'_>, net: NetId, cell: usize) -> bool
 
 // Whether what is read at a pin is the bit of a cell.
 fn shows_cell(wiring: Wiring<'_>, source: &Operand, cell: usize) -> bool
-    ensures { result ≡ true → ShowsCell wiring.entry.circuit.now.ops.items wiring.entry.clamps.now (source_at source.now) cell }
+    ensures { result ≡ true → ShowsCell wiring.entry.circuit.now.ops wiring.entry.clamps.now (source_at source.now) cell }
 {
     match source {
         Operand::Net(net) => is_cell(wiring, *net, cell),
@@ -109,7 +109,7 @@ fn is_steered(steer: Steer, enable: &Operand) -> bool
 fn pins_take(wiring: Wiring<'_>, scan: ScanPins, cell: usize) -> bool
     ensures value { result ≡ true → wiring.entry.steer.value ≡ ATri.One }
     ensures net { result ≡ true → source_at scan.enable ≡ Net wiring.entry.steer.net.0 }
-    ensures input { result ≡ true → ShowsCell wiring.entry.circuit.now.ops.items wiring.entry.clamps.now (source_at scan.input) cell }
+    ensures input { result ≡ true → ShowsCell wiring.entry.circuit.now.ops wiring.entry.clamps.now (source_at scan.input) cell }
 {
     if !is_steered(wiring.steer, &scan.enable) {
         return false;
@@ -129,7 +129,7 @@ fn is_loose(steer: Steer, force: Option<Acting>) -> bool
 
 // Whether a cell takes the value of another one.
 fn takes_from(wiring: Wiring<'_>, flop: &FlipFlop, other: usize) -> bool
-    ensures { result ≡ true → TakesFrom wiring.entry.circuit.now.ops.items wiring.entry.clamps.now wiring.entry.steer (cell_of flop.now) other }
+    ensures { result ≡ true → TakesFrom wiring.entry.circuit.now.ops wiring.entry.clamps.now wiring.entry.steer (cell_of flop.now) other }
 {
     if !is_loose(wiring.steer, flop.force) {
         return false;
@@ -152,7 +152,7 @@ fn cell_in(register: &[usize], index: usize) -> usize
 
 // Whether a cell takes the value of the one before it in a register, if it is not the first.
 fn is_moved(wiring: Wiring<'_>, flop: &FlipFlop, register: &[usize], index: usize) -> bool
-    ensures { result ≡ true → IsMoved wiring.entry.circuit.now.ops.items wiring.entry.clamps.now wiring.entry.steer (cell_of flop.now) (course_in register.now index) }
+    ensures { result ≡ true → IsMoved wiring.entry.circuit.now.ops wiring.entry.clamps.now wiring.entry.steer (cell_of flop.now) (course_in register.now index) }
 {
     if index == 0 {
         return true;
@@ -170,7 +170,7 @@ fn may_move(
     cell: usize,
 ) -> bool
     requires { cell < length cells.now.values }
-    ensures { result ≡ true → MovesAt wiring.entry.circuit.now.ops.items wiring.entry.clamps.now wiring.entry.steer pulsed.now cells.now.layout (cell_of flop.now) cell }
+    ensures { result ≡ true → MovesAt wiring.entry.circuit.now.ops wiring.entry.clamps.now wiring.entry.steer pulsed.now cells.now.layout (cell_of flop.now) cell }
 {
     if !flop.changes(true, pulsed) {
         return false;
@@ -214,7 +214,7 @@ fn leave_moving(
     requires cells { length cells.now.values ≡ length flops.now }
     requires rests { is_up moves.old 0 ≡ false }
     ensures rests { is_up moves.new 0 ≡ false }
-    ensures moving { AreMoves wiring.entry.circuit.now.ops.items wiring.entry.clamps.now flops.now wiring.entry.steer pulsed.now cells.now.layout moves.new }
+    ensures moving { AreMoves wiring.entry.circuit.now.ops wiring.entry.clamps.now flops.now wiring.entry.steer pulsed.now cells.now.layout moves.new }
 {
     for (cell, flop) in flops.iter().enumerate() {
         if !may_move(wiring, pulsed, cells, flop, cell) {
@@ -226,9 +226,9 @@ fn leave_moving(
 // Finds the registers that move as these clocks rise: each cell takes a value there, and but for the first it is that of the one before
 // it.
 pub(crate) fn find_moves(wiring: Wiring<'_>, pulsed: &[bool], cells: &Cells, moves: &mut [bool])
-    requires { length cells.now.values ≡ length wiring.circuit.now.flops.items }
+    requires { length cells.now.values ≡ length wiring.circuit.now.flops }
     ensures rests { is_up moves.new 0 ≡ false }
-    ensures moving { AreMoves wiring.entry.circuit.now.ops.items wiring.entry.clamps.now wiring.entry.circuit.now.flops.items wiring.entry.steer pulsed.now cells.now.layout moves.new }
+    ensures moving { AreMoves wiring.entry.circuit.now.ops wiring.entry.clamps.now wiring.entry.circuit.now.flops wiring.entry.steer pulsed.now cells.now.layout moves.new }
 {
     raise(moves);
     leave_moving(wiring, &wiring.circuit.flops, pulsed, cells, moves);

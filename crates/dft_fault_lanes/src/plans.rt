@@ -113,13 +113,13 @@ struct Reading<'a> {
 
 // Marks what is settled for a vector, in addition to what is marked.
 fn mark_reading(circuit: &Circuit, reading: Reading<'_>, marked: &mut [bool])
-    requires cells { length reading.cells.now.values ≡ length circuit.now.flops.items }
-    requires nets { AreSignals (length circuit.now.ops.items) reading.nets.now }
+    requires cells { length reading.cells.now.values ≡ length circuit.now.flops }
+    requires nets { AreSignals (length circuit.now.ops) reading.nets.now }
     requires acts { length reading.acts.now ≡ length reading.nets.now }
-    requires marked { length marked.old ≡ length circuit.now.ops.items }
-    ensures steered { needs_of (length circuit.now.ops.items) marked.new reading.entry.steer.net.0 ≡ true }
-    ensures enables { (c : ℕ) → HasAll (needs_of (length circuit.now.ops.items) marked.new) (enable_needs (flop_at circuit.now.flops.items c)) }
-    ensures reads { (c : ℕ) → spec.is_carried reading.entry.cells.now.layout reading.entry.moves.now c ≡ false → HasReadsOf (needs_of (length circuit.now.ops.items) marked.new) reading.entry.steer (flop_at circuit.now.flops.items c) }
+    requires marked { length marked.old ≡ length circuit.now.ops }
+    ensures steered { needs_of (length circuit.now.ops) marked.new reading.entry.steer.net.0 ≡ true }
+    ensures enables { (c : ℕ) → HasAll (needs_of (length circuit.now.ops) marked.new) (enable_needs (flop_at circuit.now.flops c)) }
+    ensures reads { (c : ℕ) → spec.is_carried reading.entry.cells.now.layout reading.entry.moves.now c ≡ false → HasReadsOf (needs_of (length circuit.now.ops) marked.new) reading.entry.steer (flop_at circuit.now.flops c) }
     ensures covered { AreCovered reading.entry.nets.now reading.entry.acts.now marked.new }
 {
     mark_net(reading.steer.net, marked);
@@ -141,18 +141,18 @@ fn list_needs(
     list: &mut [NetId],
 ) -> usize
     requires circuit { IsCircuit circuit.now }
-    requires cells { length reading.cells.now.values ≡ length circuit.now.flops.items }
-    requires nets { AreSignals (length circuit.now.ops.items) reading.nets.now }
+    requires cells { length reading.cells.now.values ≡ length circuit.now.flops }
+    requires nets { AreSignals (length circuit.now.ops) reading.nets.now }
     requires acts { length reading.acts.now ≡ length reading.nets.now }
-    requires marked { length marked.old ≡ length circuit.now.ops.items }
-    requires list { length list.old ≡ length circuit.now.ops.items }
+    requires marked { length marked.old ≡ length circuit.now.ops }
+    requires list { length list.old ≡ length circuit.now.ops }
     ensures room { result ≤ length list.new }
     ensures closed { IsStrobeClosed (logic_at circuit.now) (is_up marked.new) }
-    ensures ordered { AreOrdered circuit.now.ops.items [] (numbers_of (take result list.new)) }
+    ensures ordered { AreOrdered circuit.now.ops [] (numbers_of (take result list.new)) }
     ensures listed { (k : ℕ) → is_up marked.new k ≡ true → Has (numbers_of (take result list.new)) k }
-    ensures steered { needs_of (length circuit.now.ops.items) marked.new reading.entry.steer.net.0 ≡ true }
-    ensures enables { (c : ℕ) → HasAll (needs_of (length circuit.now.ops.items) marked.new) (enable_needs (flop_at circuit.now.flops.items c)) }
-    ensures reads { (c : ℕ) → spec.is_carried reading.entry.cells.now.layout reading.entry.moves.now c ≡ false → HasReadsOf (needs_of (length circuit.now.ops.items) marked.new) reading.entry.steer (flop_at circuit.now.flops.items c) }
+    ensures steered { needs_of (length circuit.now.ops) marked.new reading.entry.steer.net.0 ≡ true }
+    ensures enables { (c : ℕ) → HasAll (needs_of (length circuit.now.ops) marked.new) (enable_needs (flop_at circuit.now.flops c)) }
+    ensures reads { (c : ℕ) → spec.is_carried reading.entry.cells.now.layout reading.entry.moves.now c ≡ false → HasReadsOf (needs_of (length circuit.now.ops) marked.new) reading.entry.steer (flop_at circuit.now.flops c) }
     ensures covered { AreCovered reading.entry.nets.now reading.entry.acts.now marked.new }
 {
     mark_reading(circuit, reading, marked);
@@ -262,9 +262,9 @@ impl Plan {
         free: bool,
     )
         requires circuit { IsCircuit circuit.now }
-        requires cells { length cells.now.values ≡ length circuit.now.flops.items }
+        requires cells { length cells.now.values ≡ length circuit.now.flops }
         requires room { HasRoom circuit.now (length nets.now) self.old }
-        requires nets { AreSignals (length circuit.now.ops.items) nets.now }
+        requires nets { AreSignals (length circuit.now.ops) nets.now }
         requires acts { length acts.now ≡ length nets.now }
         ensures room { HasRoom circuit.now (length nets.now) self.new }
         ensures plan { IsPlan circuit.now clamps.now cells.now.layout nets.now self.new }

@@ -95,16 +95,16 @@ fn front(list: &[NetId], count: usize) -> &[NetId]
 /// Settles the nets that a plan needs while clocks have these levels. Whether the net of scan enables has its value in each lane.
 pub fn settle_plan(play: Play<'_>, levels: &[bool], cells: &Cells, wides: &mut [Wide]) -> bool
     requires circuit { IsCircuit play.circuit.now }
-    requires clamped { length play.clamps.now ≡ length play.circuit.now.ops.items }
+    requires clamped { length play.clamps.now ≡ length play.circuit.now.ops }
     requires clamps { AreClamps play.clamps.now }
-    requires nets { length wides.old ≡ length play.circuit.now.ops.items }
+    requires nets { length wides.old ≡ length play.circuit.now.ops }
     requires wides { AreWides wides.old }
     requires cells { AreWides cells.now.values }
     requires room { play.plan.now.count ≤ length play.plan.now.list.items }
-    requires ordered { AreOrdered play.circuit.now.ops.items [] (numbers_of (first play.plan.now.count play.plan.now.list.items)) }
+    requires ordered { AreOrdered play.circuit.now.ops [] (numbers_of (first play.plan.now.count play.plan.now.list.items)) }
     requires listed { (k : ℕ) → is_up play.plan.now.marked.items k ≡ true → Has (numbers_of (first play.plan.now.count play.plan.now.list.items)) k }
     ensures wides { AreWides wides.new }
-    ensures settled { AreSettledOn play.entry.circuit.now.ops.items (at_levels play.entry.ports.now levels.now cells.now.values play.entry.clamps.now) (needs_of (length play.entry.circuit.now.ops.items) play.entry.plan.now.marked.items) wides.new }
+    ensures settled { AreSettledOn play.entry.circuit.now.ops (at_levels play.entry.ports.now levels.now cells.now.values play.entry.clamps.now) (needs_of (length play.entry.circuit.now.ops) play.entry.plan.now.marked.items) wides.new }
     ensures steers { result ≡ true → SteersAll play.entry.plan.now.steer wides.new }
 {
     let setting = Setting {
@@ -121,11 +121,11 @@ pub fn settle_plan(play: Play<'_>, levels: &[bool], cells: &Cells, wides: &mut [
 // Leaves those lanes live in which each cell reads what is still as the clocks rise.
 fn keep_rises(play: Play<'_>, held: &Cells, wides: &[Wide], live: &mut Wide)
     requires plan { (signals : List ANetId) × IsPlan play.circuit.now play.clamps.now held.now.layout signals play.plan.now }
-    requires nets { length wides.now ≡ length play.circuit.now.ops.items }
+    requires nets { length wides.now ≡ length play.circuit.now.ops }
     requires wides { AreWides wides.now }
     requires steers { SteersAll play.plan.now.steer wides.now }
     requires live { IsWide live.old (value_in live.old) }
-    ensures steady { KeepsSteady play.entry.circuit.now.flops.items true play.entry.plan.now.pulsed.items (knows play.entry.circuit.now.ops.items play.entry.clamps.now play.entry.plan.now.marked.items) play.entry.plan.now.rises.items (seen play.entry.circuit.now.ops.items play.entry.clamps.now play.entry.plan.now.marked.items held.now.values wides.now) live.old live.new }
+    ensures steady { KeepsSteady play.entry.circuit.now.flops true play.entry.plan.now.pulsed.items (knows play.entry.circuit.now.ops play.entry.clamps.now play.entry.plan.now.marked.items) play.entry.plan.now.rises.items (seen play.entry.circuit.now.ops play.entry.clamps.now play.entry.plan.now.marked.items held.now.values wides.now) live.old live.new }
     ensures wide { IsWide live.new (value_in live.new) }
 {
     let plan = play.plan;
@@ -147,7 +147,7 @@ fn keep_falls(play: Play<'_>, known: bool, held: &Cells, wides: &[Wide], live: &
     requires wides { AreWides wides.now }
     requires steers { known ≡ true → SteersAll play.plan.now.steer wides.now }
     requires live { IsWide live.old (value_in live.old) }
-    ensures steady { KeepsSteady play.entry.circuit.now.flops.items false play.entry.plan.now.pulsed.items (needs_of (length play.entry.circuit.now.ops.items) play.entry.plan.now.marked.items) play.entry.plan.now.falls.items wides.now live.old live.new }
+    ensures steady { KeepsSteady play.entry.circuit.now.flops false play.entry.plan.now.pulsed.items (needs_of (length play.entry.circuit.now.ops) play.entry.plan.now.marked.items) play.entry.plan.now.falls.items wides.now live.old live.new }
     ensures wide { IsWide live.new (value_in live.new) }
 {
     let plan = play.plan;
@@ -165,17 +165,17 @@ fn keep_falls(play: Play<'_>, known: bool, held: &Cells, wides: &[Wide], live: &
 // The cells take their values as the clocks rise: registers move, and the others take theirs.
 fn take_rises(play: Play<'_>, wides: &[Wide], cells: &mut Cells)
     requires plan { (signals : List ANetId) × IsPlan play.circuit.now play.clamps.now cells.old.layout signals play.plan.now }
-    requires nets { length wides.now ≡ length play.circuit.now.ops.items }
-    requires count { length cells.old.values ≡ length play.circuit.now.flops.items }
-    requires free { play.plan.now.steer.free ≡ true → NoneActs play.circuit.now.flops.items play.ports.now }
-    requires idle { AreIdleUnknown play.circuit.now.flops.items cells.old.values }
+    requires nets { length wides.now ≡ length play.circuit.now.ops }
+    requires count { length cells.old.values ≡ length play.circuit.now.flops }
+    requires free { play.plan.now.steer.free ≡ true → NoneActs play.circuit.now.flops play.ports.now }
+    requires idle { AreIdleUnknown play.circuit.now.flops cells.old.values }
     requires steers { SteersAll play.plan.now.steer wides.now }
     requires wides { AreWides wides.now }
     requires cells { AreWides cells.old.values }
     ensures cells { AreWides cells.new.values }
     ensures layout { cells.new.layout ≡ cells.old.layout }
     ensures count { length cells.new.values ≡ length cells.old.values }
-    ensures taken { AreSettledOn play.entry.circuit.now.ops.items (at_levels play.entry.ports.now [] cells.old.values play.entry.clamps.now) (needs_of (length play.entry.circuit.now.ops.items) play.entry.plan.now.marked.items) wides.now → AreTaken play.entry.circuit.now.flops.items true play.entry.plan.now.pulsed.items play.entry.ports.now (seen play.entry.circuit.now.ops.items play.entry.clamps.now play.entry.plan.now.marked.items cells.old.values wides.now) cells.old.values cells.new.values }
+    ensures taken { AreSettledOn play.entry.circuit.now.ops (at_levels play.entry.ports.now [] cells.old.values play.entry.clamps.now) (needs_of (length play.entry.circuit.now.ops) play.entry.plan.now.marked.items) wides.now → AreTaken play.entry.circuit.now.flops true play.entry.plan.now.pulsed.items play.entry.ports.now (seen play.entry.circuit.now.ops play.entry.clamps.now play.entry.plan.now.marked.items cells.old.values wides.now) cells.old.values cells.new.values }
 {
     let plan = play.plan;
     cells.shift(&plan.moves);
@@ -185,10 +185,10 @@ fn take_rises(play: Play<'_>, wides: &[Wide], cells: &mut Cells)
 // The clocks rise, after a strobe with these values of nets.
 fn rise(play: Play<'_>, wides: &[Wide], cells: &mut Cells, live: &mut Wide)
     requires plan { (signals : List ANetId) × IsPlan play.circuit.now play.clamps.now cells.old.layout signals play.plan.now }
-    requires nets { length wides.now ≡ length play.circuit.now.ops.items }
-    requires count { length cells.old.values ≡ length play.circuit.now.flops.items }
-    requires free { play.plan.now.steer.free ≡ true → NoneActs play.circuit.now.flops.items play.ports.now }
-    requires idle { AreIdleUnknown play.circuit.now.flops.items cells.old.values }
+    requires nets { length wides.now ≡ length play.circuit.now.ops }
+    requires count { length cells.old.values ≡ length play.circuit.now.flops }
+    requires free { play.plan.now.steer.free ≡ true → NoneActs play.circuit.now.flops play.ports.now }
+    requires idle { AreIdleUnknown play.circuit.now.flops cells.old.values }
     requires steers { SteersAll play.plan.now.steer wides.now }
     requires wides { AreWides wides.now }
     requires cells { AreWides cells.old.values }
@@ -197,7 +197,7 @@ fn rise(play: Play<'_>, wides: &[Wide], cells: &mut Cells, live: &mut Wide)
     ensures layout { cells.new.layout ≡ cells.old.layout }
     ensures count { length cells.new.values ≡ length cells.old.values }
     ensures live { IsWide live.new (value_in live.new) }
-    ensures phase { AreSettledOn play.entry.circuit.now.ops.items (at_levels play.entry.ports.now [] cells.old.values play.entry.clamps.now) (needs_of (length play.entry.circuit.now.ops.items) play.entry.plan.now.marked.items) wides.now → IsPhase play.entry.circuit.now (knows play.entry.circuit.now.ops.items play.entry.clamps.now play.entry.plan.now.marked.items) true play.entry.ports.now play.entry.plan.now.pulsed.items (seen play.entry.circuit.now.ops.items play.entry.clamps.now play.entry.plan.now.marked.items cells.old.values wides.now) cells.old.values cells.new.values live.old live.new }
+    ensures phase { AreSettledOn play.entry.circuit.now.ops (at_levels play.entry.ports.now [] cells.old.values play.entry.clamps.now) (needs_of (length play.entry.circuit.now.ops) play.entry.plan.now.marked.items) wides.now → IsPhase play.entry.circuit.now (knows play.entry.circuit.now.ops play.entry.clamps.now play.entry.plan.now.marked.items) true play.entry.ports.now play.entry.plan.now.pulsed.items (seen play.entry.circuit.now.ops play.entry.clamps.now play.entry.plan.now.marked.items cells.old.values wides.now) cells.old.values cells.new.values live.old live.new }
 {
     keep_rises(play, cells, wides, live);
     take_rises(play, wides, cells);
@@ -207,7 +207,7 @@ fn rise(play: Play<'_>, wides: &[Wide], cells: &mut Cells, live: &mut Wide)
 fn fall_with(play: Play<'_>, known: bool, wides: &[Wide], cells: &mut Cells, live: &mut Wide)
     requires plan { (signals : List ANetId) × IsPlan play.circuit.now play.clamps.now cells.old.layout signals play.plan.now }
     requires steers { known ≡ true → SteersAll play.plan.now.steer wides.now }
-    requires count { length cells.old.values ≡ length play.circuit.now.flops.items }
+    requires count { length cells.old.values ≡ length play.circuit.now.flops }
     requires wides { AreWides wides.now }
     requires cells { AreWides cells.old.values }
     requires live { IsWide live.old (value_in live.old) }
@@ -215,7 +215,7 @@ fn fall_with(play: Play<'_>, known: bool, wides: &[Wide], cells: &mut Cells, liv
     ensures layout { cells.new.layout ≡ cells.old.layout }
     ensures count { length cells.new.values ≡ length cells.old.values }
     ensures live { IsWide live.new (value_in live.new) }
-    ensures phase { IsPhase play.entry.circuit.now (needs_of (length play.entry.circuit.now.ops.items) play.entry.plan.now.marked.items) false play.entry.ports.now play.entry.plan.now.pulsed.items wides.now cells.old.values cells.new.values live.old live.new }
+    ensures phase { IsPhase play.entry.circuit.now (needs_of (length play.entry.circuit.now.ops) play.entry.plan.now.marked.items) false play.entry.ports.now play.entry.plan.now.pulsed.items wides.now cells.old.values cells.new.values live.old live.new }
 {
     keep_falls(play, known, cells, wides, live);
     take(
@@ -231,10 +231,10 @@ fn fall_with(play: Play<'_>, known: bool, wides: &[Wide], cells: &mut Cells, liv
 fn fall(play: Play<'_>, later: &mut [Wide], cells: &mut Cells, live: &mut Wide)
     requires circuit { IsCircuit play.circuit.now }
     requires plan { (signals : List ANetId) × IsPlan play.circuit.now play.clamps.now cells.old.layout signals play.plan.now }
-    requires clamped { length play.clamps.now ≡ length play.circuit.now.ops.items }
+    requires clamped { length play.clamps.now ≡ length play.circuit.now.ops }
     requires clamps { AreClamps play.clamps.now }
-    requires nets { length later.old ≡ length play.circuit.now.ops.items }
-    requires count { length cells.old.values ≡ length play.circuit.now.flops.items }
+    requires nets { length later.old ≡ length play.circuit.now.ops }
+    requires count { length cells.old.values ≡ length play.circuit.now.flops }
     requires later { AreWides later.old }
     requires cells { AreWides cells.old.values }
     requires live { IsWide live.old (value_in live.old) }
@@ -243,7 +243,7 @@ fn fall(play: Play<'_>, later: &mut [Wide], cells: &mut Cells, live: &mut Wide)
     ensures layout { cells.new.layout ≡ cells.old.layout }
     ensures count { length cells.new.values ≡ length cells.old.values }
     ensures live { IsWide live.new (value_in live.new) }
-    ensures fall { IsFall play.entry.circuit.now (needs_of (length play.entry.circuit.now.ops.items) play.entry.plan.now.marked.items) play.entry.ports.now play.entry.plan.now.pulsed.items play.entry.clamps.now cells.old.values cells.new.values live.old live.new }
+    ensures fall { IsFall play.entry.circuit.now (needs_of (length play.entry.circuit.now.ops) play.entry.plan.now.marked.items) play.entry.ports.now play.entry.plan.now.pulsed.items play.entry.clamps.now cells.old.values cells.new.values live.old live.new }
 {
     if !play.plan.falling.is_empty() {
         let known = settle_plan(play, &play.plan.pulsed, cells, later);
@@ -256,14 +256,14 @@ fn fall(play: Play<'_>, later: &mut [Wide], cells: &mut Cells, live: &mut Wide)
 pub fn pulse(play: Play<'_>, wides: &[Wide], later: &mut [Wide], cells: &mut Cells, live: &mut Wide)
     requires circuit { IsCircuit play.circuit.now }
     requires plan { (signals : List ANetId) × IsPlan play.circuit.now play.clamps.now cells.old.layout signals play.plan.now }
-    requires free { play.plan.now.steer.free ≡ true → NoneActs play.circuit.now.flops.items play.ports.now }
-    requires idle { AreIdleUnknown play.circuit.now.flops.items cells.old.values }
+    requires free { play.plan.now.steer.free ≡ true → NoneActs play.circuit.now.flops play.ports.now }
+    requires idle { AreIdleUnknown play.circuit.now.flops cells.old.values }
     requires steers { SteersAll play.plan.now.steer wides.now }
-    requires clamped { length play.clamps.now ≡ length play.circuit.now.ops.items }
+    requires clamped { length play.clamps.now ≡ length play.circuit.now.ops }
     requires clamps { AreClamps play.clamps.now }
-    requires strobe { length wides.now ≡ length play.circuit.now.ops.items }
-    requires nets { length later.old ≡ length play.circuit.now.ops.items }
-    requires count { length cells.old.values ≡ length play.circuit.now.flops.items }
+    requires strobe { length wides.now ≡ length play.circuit.now.ops }
+    requires nets { length later.old ≡ length play.circuit.now.ops }
+    requires count { length cells.old.values ≡ length play.circuit.now.flops }
     requires wides { AreWides wides.now }
     requires later { AreWides later.old }
     requires cells { AreWides cells.old.values }
@@ -273,8 +273,8 @@ pub fn pulse(play: Play<'_>, wides: &[Wide], later: &mut [Wide], cells: &mut Cel
     ensures layout { cells.new.layout ≡ cells.old.layout }
     ensures count { length cells.new.values ≡ length cells.old.values }
     ensures live { IsWide live.new (value_in live.new) }
-    ensures idle { AreSettledOn play.entry.circuit.now.ops.items (at_levels play.entry.ports.now [] cells.old.values play.entry.clamps.now) (needs_of (length play.entry.circuit.now.ops.items) play.entry.plan.now.marked.items) wides.now → AreIdleUnknown play.entry.circuit.now.flops.items cells.new.values }
-    ensures pulsed { ArePulsed play.entry.circuit.now (needs_of (length play.entry.circuit.now.ops.items) play.entry.plan.now.marked.items) play.entry.ports.now play.entry.plan.now.pulsed.items play.entry.clamps.now wides.now cells.old.values cells.new.values live.old live.new }
+    ensures idle { AreSettledOn play.entry.circuit.now.ops (at_levels play.entry.ports.now [] cells.old.values play.entry.clamps.now) (needs_of (length play.entry.circuit.now.ops) play.entry.plan.now.marked.items) wides.now → AreIdleUnknown play.entry.circuit.now.flops cells.new.values }
+    ensures pulsed { ArePulsed play.entry.circuit.now (needs_of (length play.entry.circuit.now.ops) play.entry.plan.now.marked.items) play.entry.ports.now play.entry.plan.now.pulsed.items play.entry.clamps.now wides.now cells.old.values cells.new.values live.old live.new }
 {
     rise(play, wides, cells, live);
     fall(play, later, cells, live);

@@ -80,14 +80,14 @@ fn given_wide(op: &Op, net: NetId, setting: Setting<'_>, wides: &[Wide]) -> Wide
 /// Settles these nets in each lane, whatever the values before.
 pub fn settle(circuit: &Circuit, setting: Setting<'_>, nets: &[NetId], wides: &mut [Wide])
     requires circuit { IsCircuit circuit.now }
-    requires nets { length wides.old ≡ length circuit.now.ops.items }
-    requires clamped { length setting.clamps.now ≡ length circuit.now.ops.items }
+    requires nets { length wides.old ≡ length circuit.now.ops }
+    requires clamped { length setting.clamps.now ≡ length circuit.now.ops }
     requires wides { AreWides wides.old }
     requires cells { AreWides setting.cells.now.values }
     requires clamps { AreClamps setting.clamps.now }
-    requires ordered { AreOrdered circuit.now.ops.items [] (numbers_of nets.now) }
+    requires ordered { AreOrdered circuit.now.ops [] (numbers_of nets.now) }
     ensures wides { AreWides wides.new }
-    ensures settled { (lane k : ℕ) → lane < 512 → Has (numbers_of nets.now) k → values_in wides.new lane k ≡ lane_given (situation_of setting.entry) lane (values_in wides.new lane) k (meaning (op_at circuit.now.ops.items k)) }
+    ensures settled { (lane k : ℕ) → lane < 512 → Has (numbers_of nets.now) k → values_in wides.new lane k ≡ lane_given (situation_of setting.entry) lane (values_in wides.new lane) k (meaning (op_at circuit.now.ops k)) }
 {
     for net in nets {
         let given = given_wide(&circuit.ops[net.0 as usize], *net, setting, wides);

@@ -50,7 +50,7 @@ pub fn tell_grades(
     requires circuit { IsCircuitOf design.now (ports_of design.now patterns.now) circuit.now }
     requires control { IsControl design.now (circuits.flag_at control.now) }
     requires named { numbers_of nets.now ≡ rows.nets_of design.now patterns.now.signals }
-    requires nets { AreSignals (length circuit.now.ops.items) nets.now }
+    requires nets { AreSignals (length circuit.now.ops) nets.now }
     requires few { length nets.now < 2 ^ 32 }
     requires vectors { length patterns.now.vectors < 2 ^ 32 }
     requires acts { All (λ acts. length acts ≡ length nets.now) patterns.now.vectors }

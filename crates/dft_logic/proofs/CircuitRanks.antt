@@ -10,8 +10,7 @@ use Rattle.dft_netlist.specs.Logic.{reads, IsRanked}
 use Rattle.dft_netlist.specs.Orders.{Has, numbers_of}
 use Rattle.dft_logic.specs.declared.circuit.Op.{Op}
 use Rattle.dft_logic.specs.declared.circuit.Op.TheVariants as op
-use Rattle.dft_logic.specs.declared.circuit.Circuit.{Circuit}
-use Rattle.dft_logic.specs.Circuit.{meaning, op_at, logic_at, AreOrdered, IsCircuit}
+use Rattle.dft_logic.specs.Circuit.{Circuit, meaning, op_at, logic_at, AreOrdered, IsCircuit}
 use Rattle.dft_logic.specs.Ranks.{rank_from, rank_of}
 use Rattle.dft_logic.proofs.Settlings.{all_more}
 
@@ -88,22 +87,22 @@ ranked_from ops (net ∷ nets) before next rank ordered s =
 start : (ops : List Op) → Ranking ops [] 0 (λ k. 0)
 start ops = record { lower = λ k h. absurd h; below = λ k h. absurd h; closed = λ k h. absurd h }
 
-pub rank_lower : (x : Circuit) → IsCircuit x → (k : ℕ) → k < length x.ops.items → rank_of x k < length x.ops.items
+pub rank_lower : (x : Circuit) → IsCircuit x → (k : ℕ) → k < length x.ops → rank_of x k < length x.ops
 unfolding rank_of
 rank_lower x is k less =
-    let s = ranked_from x.ops.items (numbers_of x.order.items) [] 0 (λ n. 0) is.after (start x.ops.items) in
+    let s = ranked_from x.ops (numbers_of x.order) [] 0 (λ n. 0) is.after (start x.ops) in
     let l = s.lower k (inr (is.whole k less)) in
     let e = is.count in
-    let m = length-map x.order.items (λ (n : NetId). n.0) in
+    let m = length-map x.order (λ (n : NetId). n.0) in
     omega arith
 
 circuit_order : (x : Circuit) → IsCircuit x → (k : ℕ) → AreBelow (rank_of x) (rank_of x k) (reads ((logic_at x).net k))
 unfolding logic_at rank_of
 circuit_order x is k =
-    let s = ranked_from x.ops.items (numbers_of x.order.items) [] 0 (λ n. 0) is.after (start x.ops.items) in
-    elim (leb_tells (length x.ops.items) k) [
-      | inl out ↦ (let R : Op → Type 0 = λ o. AreBelow (rank_from 0 (λ n. 0) (numbers_of x.order.items)) (rank_from 0 (λ n. 0) (numbers_of x.order.items) k) (reads (meaning o)) in
-          subst R (sym (get_or_past x.ops.items k op.Free out.1)) tt)
+    let s = ranked_from x.ops (numbers_of x.order) [] 0 (λ n. 0) is.after (start x.ops) in
+    elim (leb_tells (length x.ops) k) [
+      | inl out ↦ (let R : Op → Type 0 = λ o. AreBelow (rank_from 0 (λ n. 0) (numbers_of x.order)) (rank_from 0 (λ n. 0) (numbers_of x.order) k) (reads (meaning o)) in
+          subst R (sym (get_or_past x.ops k op.Free out.1)) tt)
       | inr live ↦ s.below k (inr (is.whole k live.1))
     ]
 

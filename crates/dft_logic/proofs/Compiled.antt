@@ -25,8 +25,8 @@ use Rattle.dft_netlist.proofs.StoredLemmas.{lockup_stored}
 use Rattle.dft_logic.specs.declared.circuit.Op.{Op}
 use Rattle.dft_logic.specs.declared.circuit.Op.TheVariants.{Free}
 use Rattle.dft_logic.specs.declared.circuit.Latch.{Latch}
-use Rattle.dft_logic.specs.declared.circuit.Circuit.{Circuit}
-use Rattle.dft_logic.specs.Circuit.{AreTables, meaning, Fits, op_at, cell_of, cell_at, latch_of, latch_at, logic_at, AreOrdered}
+use Rattle.dft_logic.specs.declared.circuit.FlipFlop.{FlipFlop}
+use Rattle.dft_logic.specs.Circuit.{Circuit, IsCircuit, AreTables, meaning, Fits, op_at, cell_of, cell_at, latch_of, latch_at, logic_at, AreOrdered}
 use Rattle.dft_logic.specs.Compiling.{found_in, wired_by, with_source, latch_in, latch_kept, kept_latch, IsOpOf, AreFlops, AreLatches, IsCircuitOf}
 use Rattle.dft_logic.proofs.Writings.{cell_read, cell_past}
 use Rattle.dft_logic.proofs.Pasts.{past_free}
@@ -149,39 +149,54 @@ sourced ports s (Some clock) e source clocks h = sym (ap (λ (p : ℕ × Source)
 
 -- ---- the circuit
 
-pub circuit_of : (n : Netlist) (ports : Ports) (x : Circuit) → IsNetlist n → IsOrder n (numbers_of x.order.items) → length x.ops.items ≡ length n.nets →
-    ((net : ℕ) → net < length n.nets → IsOpOf n ports net (op_at x.ops.items net)) → AreFlops n ports (length n.instances) x.flops.items → AreLatches n ports (length n.instances) x.latches.items →
-    AreTables x → IsCircuitOf n ports x
+-- what each net and each instance means, by what it became
+means_all : (n : Netlist) (ports : Ports) (ops : List Op) → IsNetlist n → length ops ≡ length n.nets → ((net : ℕ) → net < length n.nets → IsOpOf n ports net (op_at ops net)) →
+    (k : ℕ) → meaning (op_at ops k) ≡ (logic_of n ports).net k
+means_all n ports ops sound size each k = elim (leb_tells (length n.nets) k) [
+  | inl out ↦ (let far : length ops ≤ k = omega (arith, out.1) in ap meaning (get_or_past ops k Free far) ∙ sym (ap (meaning_of n ports k) (past_free n k sound out.1)))
+  | inr live ↦ (each k live.1).means
+]
+
+cells_all : (n : Netlist) (ports : Ports) (flops : List FlipFlop) → AreFlops n ports (length n.instances) flops → (c : ℕ) → cell_at (map cell_of flops) c ≡ (logic_of n ports).cell c
+cells_all n ports flops are c = elim (leb_tells (length n.instances) c) [
+  | inl out ↦ (let s = are.size in let far : length flops ≤ c = omega (arith, out.1) in cell_past flops c far ∙ sym (past_cell n ports c out.1))
+  | inr live ↦ (let s = are.size in let here : c < length flops = omega (arith, live.1) in sym (cell_read flops c _ here) ∙ are.each c live.1)
+]
+
+pub is_circuit : (n : Netlist) (ports : Ports) (x : Circuit) → IsNetlist n → IsOrder n (numbers_of x.order) → length x.ops ≡ length n.nets →
+    ((net : ℕ) → net < length n.nets → IsOpOf n ports net (op_at x.ops net)) → AreFlops n ports (length n.instances) x.flops → AreLatches n ports (length n.instances) x.latches →
+    AreTables x → IsCircuit x
 unfolding logic_at
-circuit_of n ports x sound order size each flops latches tables =
-    let means : (k : ℕ) → meaning (op_at x.ops.items k) ≡ (logic_of n ports).net k = λ k. elim (leb_tells (length n.nets) k) [
-      | inl out ↦ (let far : length x.ops.items ≤ k = omega (arith, out.1) in ap meaning (get_or_past x.ops.items k Free far) ∙ sym (ap (meaning_of n ports k) (past_free n k sound out.1)))
-      | inr live ↦ (each k live.1).means
-    ] in
-    let cells : (c : ℕ) → cell_at (map cell_of x.flops.items) c ≡ (logic_of n ports).cell c = λ c. elim (leb_tells (length n.instances) c) [
-      | inl out ↦ (let s = flops.size in let far : length x.flops.items ≤ c = omega (arith, out.1) in cell_past x.flops.items c far ∙ sym (past_cell n ports c out.1))
-      | inr live ↦ (let s = flops.size in let here : c < length x.flops.items = omega (arith, live.1) in sym (cell_read x.flops.items c _ here) ∙ flops.each c live.1)
-    ] in
+is_circuit n ports x sound order size each flops latches tables =
+    let means = means_all n ports x.ops sound size each in
     record {
-      circuit = record {
-        fits = λ k. elim (leb_tells (length n.nets) k) [
-          | inl out ↦ (let far : length x.ops.items ≤ k = omega (arith, out.1) in subst Fits (sym (get_or_past x.ops.items k Free far)) tt)
-          | inr live ↦ (each k live.1).fits
-        ];
-        whole = λ k live. order.whole k (omega arith);
-        after = ordered_from n ports x.ops.items size means (numbers_of x.order.items) [] order.after;
-        count = sym (length-map x.order.items (λ (net : NetId). net.0)) ∙ order.count ∙ sym size;
-        latched = λ k c e high source h. elim (leb_tells (length n.nets) k) [
-          | inl out ↦ (let far : length x.ops.items ≤ k = omega (arith, out.1) in let f = ap meaning (get_or_past x.ops.items k Free far) in let g : meaning Free ≡ meanings.Lockup c e high source = sym f ∙ h in absurd cc)
-          | inr live ↦ (let found = (each k live.1).latch c e high source h in latches.each c found.0 ∙ found.1)
-        ];
-        stored = λ k c e high source h. cells c ∙ lockup_stored n ports k c e high source (sym (means k) ∙ h);
-        instances = latches.size ∙ sym flops.size;
-        tables = tables;
-      };
+      fits = λ k. elim (leb_tells (length n.nets) k) [
+        | inl out ↦ (let far : length x.ops ≤ k = omega (arith, out.1) in subst Fits (sym (get_or_past x.ops k Free far)) tt)
+        | inr live ↦ (each k live.1).fits
+      ];
+      whole = λ k live. order.whole k (omega arith);
+      after = ordered_from n ports x.ops size means (numbers_of x.order) [] order.after;
+      count = sym (length-map x.order (λ (net : NetId). net.0)) ∙ order.count ∙ sym size;
+      latched = λ k c e high source h. elim (leb_tells (length n.nets) k) [
+        | inl out ↦ (let far : length x.ops ≤ k = omega (arith, out.1) in let f = ap meaning (get_or_past x.ops k Free far) in let g : meaning Free ≡ meanings.Lockup c e high source = sym f ∙ h in absurd cc)
+        | inr live ↦ (let found = (each k live.1).latch c e high source h in latches.each c found.0 ∙ found.1)
+      ];
+      stored = λ k c e high source h. cells_all n ports x.flops flops c ∙ lockup_stored n ports k c e high source (sym (means k) ∙ h);
+      instances = latches.size ∙ sym flops.size;
+      tables = tables;
+    }
+
+pub circuit_of : (n : Netlist) (ports : Ports) (x : Circuit) → IsNetlist n → length x.ops ≡ length n.nets →
+    ((net : ℕ) → net < length n.nets → IsOpOf n ports net (op_at x.ops net)) → AreFlops n ports (length n.instances) x.flops → AreLatches n ports (length n.instances) x.latches →
+    IsCircuitOf n ports x
+unfolding logic_at
+circuit_of n ports x sound size each flops latches =
+    let means = means_all n ports x.ops sound size each in
+    let cells = cells_all n ports x.flops flops in
+    record {
       compiled = λ i. record { net = λ k. sym (means k) i; cell = λ c. sym (cells c) i };
       clocked = λ c e high source h.
-          (let less = latch_live x.latches.items c (e, source) h in
+          (let less = latch_live x.latches c (e, source) h in
           let s = latches.size in
           let live : c < length n.instances = omega arith in
           let kept : kept_latch n ports c ≡ Some (e, source) = sym (latches.each c live) ∙ h in

@@ -10,6 +10,7 @@ pub mod EntryLemmas
 pub mod RiseLemmas
 pub mod Settlings
 pub mod CircuitRanks
+pub mod CircuitReads
 pub mod Writings
 pub mod TableLemmas
 pub mod PackedLemmas

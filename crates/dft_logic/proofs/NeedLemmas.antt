@@ -12,8 +12,7 @@ use Rattle.dft_netlist.proofs.RankLemmas.{has_all}
 use Rattle.dft_logic.specs.Needs.{HasAll, IsStrobeClosed}
 use Rattle.dft_logic.specs.declared.circuit.Op.{Op}
 use Rattle.dft_logic.specs.declared.circuit.Op.TheVariants.{Free}
-use Rattle.dft_logic.specs.declared.circuit.Circuit.{Circuit}
-use Rattle.dft_logic.specs.Circuit.{meaning, op_at, logic_at, AreOrdered, IsCircuit, flag_at}
+use Rattle.dft_logic.specs.Circuit.{Circuit, meaning, op_at, logic_at, AreOrdered, IsCircuit, flag_at}
 
 -- ---- orders
 
@@ -60,23 +59,23 @@ needing_starts ops order start j past = record {
   kept = λ k up. up;
 }
 
-pub needing_more : (x : Circuit) (start marked now : List Bool) (j place : ℕ) (d : NetId) → IsCircuit x → place ≡ suc j → j < length x.order.items →
-    ((k : ℕ) → flag_at marked k ≡ true → Has (reads (meaning (op_at x.ops.items k))) (get_or x.order.items j d).0 → flag_at now (get_or x.order.items j d).0 ≡ true) →
-    ((k : ℕ) → flag_at marked k ≡ true → flag_at now k ≡ true) → ((k : ℕ) → flag_at now k ≡ true → (k ≡ (get_or x.order.items j d).0) ⊎ (flag_at marked k ≡ true)) →
-    Needing x.ops.items x.order.items start marked place → Needing x.ops.items x.order.items start now j
+pub needing_more : (x : Circuit) (start marked now : List Bool) (j place : ℕ) (d : NetId) → IsCircuit x → place ≡ suc j → j < length x.order →
+    ((k : ℕ) → flag_at marked k ≡ true → Has (reads (meaning (op_at x.ops k))) (get_or x.order j d).0 → flag_at now (get_or x.order j d).0 ≡ true) →
+    ((k : ℕ) → flag_at marked k ≡ true → flag_at now k ≡ true) → ((k : ℕ) → flag_at now k ≡ true → (k ≡ (get_or x.order j d).0) ⊎ (flag_at marked k ≡ true)) →
+    Needing x.ops x.order start marked place → Needing x.ops x.order start now j
 needing_more x start marked now j place d is e less read kept only n =
-    let net : ℕ = (get_or x.order.items j d).0 in
-    let ops : List Op = x.ops.items in
-    let rest : List ℕ = numbers_of (drop (suc j) x.order.items) in
-    let at = ordered_at ops [] x.order.items j is.after in
+    let net : ℕ = (get_or x.order j d).0 in
+    let ops : List Op = x.ops in
+    let rest : List ℕ = numbers_of (drop (suc j) x.order) in
+    let at = ordered_at ops [] x.order j is.after in
     let O : List ℕ → Type 0 = λ l. AreOrdered ops at.0 l in
-    let ordered : AreOrdered ops at.0 (net ∷ rest) = subst O (front x.order.items j d less) at.1 in
+    let ordered : AreOrdered ops at.0 (net ∷ rest) = subst O (front x.order j d less) at.1 in
     let later : (m k : ℕ) → Has (net ∷ rest) m → k ≡ net → Has (reads (meaning (op_at ops k))) m → ⊥ = λ m k has q reading.
     reads_earlier ops at.0 net rest ordered m (subst (λ (i : ℕ). Has (reads (meaning (op_at ops i))) m) q reading) has in
-    let older : (m : ℕ) → Has rest m → Has (numbers_of (drop place x.order.items)) m = λ m has. subst (λ (i : ℕ). Has (numbers_of (drop i x.order.items)) m) (sym e) has in
+    let older : (m : ℕ) → Has rest m → Has (numbers_of (drop place x.order)) m = λ m has. subst (λ (i : ℕ). Has (numbers_of (drop i x.order)) m) (sym e) has in
     record {
       closed = λ m k has up reading. (let H : List ℕ → Type 0 = λ l. Has l m in
-          let here : Has (net ∷ rest) m = subst H (front x.order.items j d less) has in
+          let here : Has (net ∷ rest) m = subst H (front x.order j d less) has in
           elim (only k up) [
             | inl q ↦ absurd (later m k here q reading)
             | inr was ↦ elim here [
@@ -91,32 +90,32 @@ all_from : (P : ℕ → Type 0) (xs : List ℕ) → ((k : ℕ) → Has xs k → 
 all_from P [] each = tt
 all_from P (x ∷ xs) each = (each x (inl refl), all_from P xs (λ k h. each k (inr h)))
 
-pub needing_ends : (x : Circuit) (start marked : List Bool) → IsCircuit x → Needing x.ops.items x.order.items start marked 0 → IsStrobeClosed (logic_at x) (flag_at marked)
+pub needing_ends : (x : Circuit) (start marked : List Bool) → IsCircuit x → Needing x.ops x.order start marked 0 → IsStrobeClosed (logic_at x) (flag_at marked)
 unfolding logic_at
-needing_ends x start marked is n k up = elim (leb_tells (length x.ops.items) k) [
-  | inl out ↦ (let P : Op → Type 0 = λ o. HasAll (flag_at marked) (reads (meaning o)) in subst P (sym (get_or_past x.ops.items k Free out.1)) tt)
-  | inr live ↦ all_from (λ m. flag_at marked m ≡ true) (reads (meaning (op_at x.ops.items k))) (λ m reading. elim (reads_within x.ops.items [] (numbers_of x.order.items) is.after k (is.whole k live.1) m reading) [
+needing_ends x start marked is n k up = elim (leb_tells (length x.ops) k) [
+  | inl out ↦ (let P : Op → Type 0 = λ o. HasAll (flag_at marked) (reads (meaning o)) in subst P (sym (get_or_past x.ops k Free out.1)) tt)
+  | inr live ↦ all_from (λ m. flag_at marked m ≡ true) (reads (meaning (op_at x.ops k))) (λ m reading. elim (reads_within x.ops [] (numbers_of x.order) is.after k (is.whole k live.1) m reading) [
     | inl none ↦ absurd none
     | inr has ↦ n.closed m k has up reading
   ])
 ]
 
 -- the same as a loop over the order's places reads it
-pub needing_step : (x : Circuit) (start marked now : List Bool) (place : ℕ) (m : NetId) → IsCircuit x → 0 < place → place ≤ length x.order.items → m ≡ get_or x.order.items (place - 1) m →
-    ((k : ℕ) → flag_at marked k ≡ true → Has (reads (meaning (op_at x.ops.items k))) m.0 → flag_at now m.0 ≡ true) → ((k : ℕ) → flag_at marked k ≡ true → flag_at now k ≡ true) →
-    ((k : ℕ) → flag_at now k ≡ true → (k ≡ m.0) ⊎ (flag_at marked k ≡ true)) → Needing x.ops.items x.order.items start marked place → Needing x.ops.items x.order.items start now (place - 1)
+pub needing_step : (x : Circuit) (start marked now : List Bool) (place : ℕ) (m : NetId) → IsCircuit x → 0 < place → place ≤ length x.order → m ≡ get_or x.order (place - 1) m →
+    ((k : ℕ) → flag_at marked k ≡ true → Has (reads (meaning (op_at x.ops k))) m.0 → flag_at now m.0 ≡ true) → ((k : ℕ) → flag_at marked k ≡ true → flag_at now k ≡ true) →
+    ((k : ℕ) → flag_at now k ≡ true → (k ≡ m.0) ⊎ (flag_at marked k ≡ true)) → Needing x.ops x.order start marked place → Needing x.ops x.order start now (place - 1)
 needing_step x start marked now place m is more within at read kept only n =
-    let P : NetId → Type 0 = λ i. (k : ℕ) → flag_at marked k ≡ true → Has (reads (meaning (op_at x.ops.items k))) i.0 → flag_at now i.0 ≡ true in
+    let P : NetId → Type 0 = λ i. (k : ℕ) → flag_at marked k ≡ true → Has (reads (meaning (op_at x.ops k))) i.0 → flag_at now i.0 ≡ true in
     let Q : NetId → Type 0 = λ i. (k : ℕ) → flag_at now k ≡ true → (k ≡ i.0) ⊎ (flag_at marked k ≡ true) in
     needing_more x start marked now (place - 1) place m is (omega arith) (omega arith) (subst P at read) kept (subst Q at only) n
 
-pub ordered_live : (x : Circuit) (place : ℕ) (m : NetId) → IsCircuit x → 0 < place → place ≤ length x.order.items → m ≡ get_or x.order.items (place - 1) m → m.0 < length x.ops.items
+pub ordered_live : (x : Circuit) (place : ℕ) (m : NetId) → IsCircuit x → 0 < place → place ≤ length x.order → m ≡ get_or x.order (place - 1) m → m.0 < length x.ops
 ordered_live x place m is more within at =
-    let found = ordered_at x.ops.items [] x.order.items (place - 1) is.after in
-    let O : List ℕ → Type 0 = λ l. AreOrdered x.ops.items found.0 l in
-    let less : place - 1 < length x.order.items = omega arith in
-    let L : NetId → Type 0 = λ i. i.0 < length x.ops.items in
-    subst L (sym at) (subst O (front x.order.items (place - 1) m less) found.1).1
+    let found = ordered_at x.ops [] x.order (place - 1) is.after in
+    let O : List ℕ → Type 0 = λ l. AreOrdered x.ops found.0 l in
+    let less : place - 1 < length x.order = omega arith in
+    let L : NetId → Type 0 = λ i. i.0 < length x.ops in
+    subst L (sym at) (subst O (front x.order (place - 1) m less) found.1).1
 
 -- ---- the marked nets, in the order
 
@@ -168,18 +167,18 @@ kept_has flags (net ∷ order) k h f =
       | inr is_not ↦ subst R (sym is_not) (elim h [ inl e ↦ absurd (true≢false (sym f ∙ ap (flag_at flags) e ∙ is_not)) | inr rest ↦ kept_has flags order k rest f ])
     ]
 
-pub list_ordered : (x : Circuit) (flags : List Bool) (list : List NetId) (count j : ℕ) → IsCircuit x → IsStrobeClosed (logic_at x) (flag_at flags) → length x.order.items ≤ j → Listing flags x.order.items list count j →
-    AreOrdered x.ops.items [] (numbers_of (take count list))
+pub list_ordered : (x : Circuit) (flags : List Bool) (list : List NetId) (count j : ℕ) → IsCircuit x → IsStrobeClosed (logic_at x) (flag_at flags) → length x.order ≤ j → Listing flags x.order list count j →
+    AreOrdered x.ops [] (numbers_of (take count list))
 unfolding logic_at
 list_ordered x flags list count j is closed past l =
-    let P : List NetId → Type 0 = λ nets. AreOrdered x.ops.items [] (numbers_of nets) in
-    subst P (sym (listed_all flags x.order.items list count j past l)) (kept_ordered x.ops.items flags [] [] x.order.items is.after (λ k up. closed k up) (λ k none f. absurd none) (λ k none. absurd none))
+    let P : List NetId → Type 0 = λ nets. AreOrdered x.ops [] (numbers_of nets) in
+    subst P (sym (listed_all flags x.order list count j past l)) (kept_ordered x.ops flags [] [] x.order is.after (λ k up. closed k up) (λ k none f. absurd none) (λ k none. absurd none))
 
-pub list_has : (x : Circuit) (flags : List Bool) (list : List NetId) (count j : ℕ) → IsCircuit x → length flags ≡ length x.ops.items → length x.order.items ≤ j → Listing flags x.order.items list count j →
+pub list_has : (x : Circuit) (flags : List Bool) (list : List NetId) (count j : ℕ) → IsCircuit x → length flags ≡ length x.ops → length x.order ≤ j → Listing flags x.order list count j →
     (k : ℕ) → flag_at flags k ≡ true → Has (numbers_of (take count list)) k
 list_has x flags list count j is len past l k up =
     let P : List NetId → Type 0 = λ nets. Has (numbers_of nets) k in
-    elim (leb_tells (length x.ops.items) k) [
+    elim (leb_tells (length x.ops) k) [
       | inl out ↦ (let far : length flags ≤ k = omega (arith, out.1, len) in absurd (true≢false (sym up ∙ get_or_past flags k false far)))
-      | inr live ↦ subst P (sym (listed_all flags x.order.items list count j past l)) (kept_has flags x.order.items k (is.whole k live.1) up)
+      | inr live ↦ subst P (sym (listed_all flags x.order list count j past l)) (kept_has flags x.order k (is.whole k live.1) up)
     ]

@@ -11,8 +11,7 @@ use Rattle.dft_netlist.specs.Settled.{is_wire}
 use Rattle.dft_logic.specs.Takes.{origin_of, origin_given, AreOrigins}
 use Rattle.dft_logic.specs.declared.circuit.Op.{Op}
 use Rattle.dft_logic.specs.declared.circuit.Op.TheVariants as op
-use Rattle.dft_logic.specs.declared.circuit.Circuit.{Circuit}
-use Rattle.dft_logic.specs.Circuit.{meaning, logic_at, IsCircuit}
+use Rattle.dft_logic.specs.Circuit.{Circuit, meaning, logic_at, IsCircuit}
 use Rattle.dft_logic.specs.EntryTables.{number_of, origin_at}
 use Rattle.dft_logic.proofs.Fillings.{Depends, Filling, filling_ends}
 
@@ -33,12 +32,12 @@ origin_depends level P v w net (Flop c inverted) all same = refl
 origin_depends level P v w net (Lockup c e high source) all same = ap (λ (o : Option ℕ). if is_wire high (level e) then o else Some c) (source_depends P v w source all same)
 origin_depends level P v w net Free all same = refl
 
-pub all_origins : (x : Circuit) (level : ℕ → Bool) (origins : List (Option InstanceId)) (j : ℕ) → IsCircuit x → length origins ≡ length x.ops.items → length x.order.items ≤ j →
-    Filling number_of None (given level) x.ops.items x.order.items origins j → AreOrigins (logic_at x) level (origin_at origins)
+pub all_origins : (x : Circuit) (level : ℕ → Bool) (origins : List (Option InstanceId)) (j : ℕ) → IsCircuit x → length origins ≡ length x.ops → length x.order ≤ j →
+    Filling number_of None (given level) x.ops x.order origins j → AreOrigins (logic_at x) level (origin_at origins)
 unfolding logic_at
-all_origins x level origins j is len past s net = elim (leb_tells (length x.ops.items) net) [
+all_origins x level origins j is len past s net = elim (leb_tells (length x.ops) net) [
   | inl out ↦ (let far : length origins ≤ net = omega (arith, out.1) in
       ap number_of (get_or_past origins net None far)
-      ∙ sym (ap (λ (o : Op). origin_given level (origin_at origins) (meaning o)) (get_or_past x.ops.items net op.Free out.1)))
-  | inr live ↦ filling_ends number_of None (given level) x.ops.items x.order.items origins j past s net (is.whole net live.1)
+      ∙ sym (ap (λ (o : Op). origin_given level (origin_at origins) (meaning o)) (get_or_past x.ops net op.Free out.1)))
+  | inr live ↦ filling_ends number_of None (given level) x.ops x.order origins j past s net (is.whole net live.1)
 ]

@@ -19,9 +19,8 @@ use Rattle.dft_logic.specs.Shows.{Shown, IsShownOn}
 use Rattle.dft_logic.specs.Entries.{Entry, Keeps, Takes, Follows, Reads, Computes, entry_value}
 use Rattle.dft_logic.specs.declared.circuit.Op.{Op}
 use Rattle.dft_logic.specs.declared.circuit.Op.TheVariants.{Free}
-use Rattle.dft_logic.specs.declared.circuit.Circuit.{Circuit}
 use Rattle.dft_logic.specs.Values.{value_at}
-use Rattle.dft_logic.specs.Circuit.{meaning, op_at, logic_at, cell_of, cell_at, flag_at, IsCircuit}
+use Rattle.dft_logic.specs.Circuit.{Circuit, meaning, op_at, logic_at, cell_of, cell_at, flag_at, IsCircuit}
 use Rattle.dft_logic.specs.Circuit.{next_at}
 use Rattle.dft_logic.specs.Ranks.{rank_of}
 use Rattle.dft_logic.proofs.EntryLemmas.{pass_of_needed}
@@ -114,21 +113,21 @@ all_needs : (count : ℕ) (marked : List Bool) (nets : List ℕ) → HasAll (fla
 all_needs count marked [] all = tt
 all_needs count marked (n ∷ ns) all = (or_left (flag_at marked n) (leb count n) all.0, all_needs count marked ns all.1)
 
-pub needs_closed : (x : Circuit) (marked : List Bool) → IsStrobeClosed (logic_at x) (flag_at marked) → IsStrobeClosed (logic_at x) (needs_of (length x.ops.items) marked)
+pub needs_closed : (x : Circuit) (marked : List Bool) → IsStrobeClosed (logic_at x) (flag_at marked) → IsStrobeClosed (logic_at x) (needs_of (length x.ops) marked)
 unfolding logic_at
-needs_closed x marked closed k need = elim (leb_tells (length x.ops.items) k) [
-  | inl out ↦ (let P : Op → Type 0 = λ o. HasAll (needs_of (length x.ops.items) marked) (reads (meaning o)) in subst P (sym (get_or_past x.ops.items k Free out.1)) tt)
-  | inr live ↦ all_needs (length x.ops.items) marked (reads (meaning (op_at x.ops.items k))) (closed k (or_only (flag_at marked k) (leb (length x.ops.items) k) live.0 need))
+needs_closed x marked closed k need = elim (leb_tells (length x.ops) k) [
+  | inl out ↦ (let P : Op → Type 0 = λ o. HasAll (needs_of (length x.ops) marked) (reads (meaning o)) in subst P (sym (get_or_past x.ops k Free out.1)) tt)
+  | inr live ↦ all_needs (length x.ops) marked (reads (meaning (op_at x.ops k))) (closed k (or_only (flag_at marked k) (leb (length x.ops) k) live.0 need))
 ]
 
-pub needs_on : (x : Circuit) (level : ℕ → Bool) (ports flops : ℕ → Tri) (marked : List Bool) (values : List Tri) → length values ≡ length x.ops.items → IsStillOn (logic_at x) level ports flops (flag_at marked) (value_at values) →
-    IsStillOn (logic_at x) level ports flops (needs_of (length x.ops.items) marked) (value_at values)
+pub needs_on : (x : Circuit) (level : ℕ → Bool) (ports flops : ℕ → Tri) (marked : List Bool) (values : List Tri) → length values ≡ length x.ops → IsStillOn (logic_at x) level ports flops (flag_at marked) (value_at values) →
+    IsStillOn (logic_at x) level ports flops (needs_of (length x.ops) marked) (value_at values)
 unfolding logic_at
-needs_on x level ports flops marked values len on k need = elim (leb_tells (length x.ops.items) k) [
+needs_on x level ports flops marked values len on k need = elim (leb_tells (length x.ops) k) [
   | inl out ↦ (let far : length values ≤ k = omega (arith, out.1, len) in
       get_or_past values k Unknown far
-      ∙ sym (ap (λ (o : Op). value_given (still_from level ports flops (value_at values)) (value_at values) k (meaning o)) (get_or_past x.ops.items k Free out.1)))
-  | inr live ↦ on k (or_only (flag_at marked k) (leb (length x.ops.items) k) live.0 need)
+      ∙ sym (ap (λ (o : Op). value_given (still_from level ports flops (value_at values)) (value_at values) k (meaning o)) (get_or_past x.ops k Free out.1)))
+  | inr live ↦ on k (or_only (flag_at marked k) (leb (length x.ops) k) live.0 need)
 ]
 
 -- ---- entries of all flip-flops
@@ -158,38 +157,38 @@ past_computes true is = absurd cc
 past_computes false is = absurd cc
 
 -- What the parts give comes to the phase at a least map.
-pub planned : (x : Circuit) (p : Pulse) (origin : ℕ → Option ℕ) (shown : ℕ → Shown) (table : ℕ → Entry) (marked : List Bool) (values next : List Tri) → (is : IsCircuit x) → (len : length values ≡ length x.ops.items) →
+pub planned : (x : Circuit) (p : Pulse) (origin : ℕ → Option ℕ) (shown : ℕ → Shown) (table : ℕ → Entry) (marked : List Bool) (values next : List Tri) → (is : IsCircuit x) → (len : length values ≡ length x.ops) →
     (origins : AreOrigins (logic_at x) (level_before p) origin) → (on : IsShownOn (logic_at x) (edges_of p.rising p.pulsed) (λ net. true) shown) → (closed : IsStrobeClosed (logic_at x) (flag_at marked)) → (settled : IsBeforeOn (logic_at x) p (flag_at marked) (value_at values)) →
-    (has : ((c : ℕ) → c < length x.flops.items → entry_for (cell_at (map cell_of x.flops.items) c) p origin shown (value_at values) ≡ Some (table c))) →
-    (marks : ((c : ℕ) → c < length x.flops.items → (k : ℕ) → k < length x.ops.items → Has (entry_needs (cell_at (map cell_of x.flops.items) c) (table c)) k → flag_at marked k ≡ true)) →
-    (gives : ((c : ℕ) → c < length x.flops.items → value_at next c ≡ entry_value p.old (value_at values) (next_at (cell_at (map cell_of x.flops.items) c) p.ports (value_at values)) c (table c))) →
-    (poss : ℕ → Tri) × ((view : ℕ → ℕ → Tri) × (IsLeast (logic_at x) p poss view × ((c : ℕ) → c < length x.flops.items → value_at next c ≡ after_pulse (logic_at x) p view c)))
+    (has : ((c : ℕ) → c < length x.flops → entry_for (cell_at (map cell_of x.flops) c) p origin shown (value_at values) ≡ Some (table c))) →
+    (marks : ((c : ℕ) → c < length x.flops → (k : ℕ) → k < length x.ops → Has (entry_needs (cell_at (map cell_of x.flops) c) (table c)) k → flag_at marked k ≡ true)) →
+    (gives : ((c : ℕ) → c < length x.flops → value_at next c ≡ entry_value p.old (value_at values) (next_at (cell_at (map cell_of x.flops) c) p.ports (value_at values)) c (table c))) →
+    (poss : ℕ → Tri) × ((view : ℕ → ℕ → Tri) × (IsLeast (logic_at x) p poss view × ((c : ℕ) → c < length x.flops → value_at next c ≡ after_pulse (logic_at x) p view c)))
 unfolding logic_at
 planned x p origin shown table marked values next is len origins on closed settled has marks gives =
     let v : ℕ → Tri = value_at values in
-    let count : ℕ = length x.ops.items in
-    let cells : ℕ → Cell = cell_at (map cell_of x.flops.items) in
+    let count : ℕ = length x.ops in
+    let cells : ℕ → Cell = cell_at (map cell_of x.flops) in
     let found : Cell → Option Entry = λ cell. entry_for cell p origin shown v in
     let entries : ℕ → Entry = λ c. or_keeps (found (cells c)) in
-    let same : (c : ℕ) → c < length x.flops.items → entries c ≡ table c = λ c live. ap or_keeps (has c live) in
-    let given : (c : ℕ) → found (cells c) ≡ Some (entries c) = λ c. elim (leb_tells (length x.flops.items) c) [
-      | inl out ↦ (let P : Cell → Type 0 = λ cell. found cell ≡ Some (or_keeps (found cell)) in subst P (sym (cell_past x.flops.items c out.1)) (past_there (p.pulsed 0 && takes p.rising false)))
+    let same : (c : ℕ) → c < length x.flops → entries c ≡ table c = λ c live. ap or_keeps (has c live) in
+    let given : (c : ℕ) → found (cells c) ≡ Some (entries c) = λ c. elim (leb_tells (length x.flops) c) [
+      | inl out ↦ (let P : Cell → Type 0 = λ cell. found cell ≡ Some (or_keeps (found cell)) in subst P (sym (cell_past x.flops c out.1)) (past_there (p.pulsed 0 && takes p.rising false)))
       | inr live ↦ there (found (cells c)) (table c) (has c live.1)
     ] in
-    let enables : (c : ℕ) (scan : Scan) → (cells c).scan ≡ Some scan → HasAll (needs_of count marked) (nets_of (scan.enable ∷ [])) = λ c scan at. elim (leb_tells (length x.flops.items) c) [
-      | inl out ↦ (let none : (cells c).scan ≡ None = ap (λ (cell : Cell). cell.scan) (cell_past x.flops.items c out.1) in absurd cc)
+    let enables : (c : ℕ) (scan : Scan) → (cells c).scan ≡ Some scan → HasAll (needs_of count marked) (nets_of (scan.enable ∷ [])) = λ c scan at. elim (leb_tells (length x.flops) c) [
+      | inl out ↦ (let none : (cells c).scan ≡ None = ap (λ (cell : Cell). cell.scan) (cell_past x.flops c out.1) in absurd cc)
       | inr live ↦ has_needs count marked (nets_of (scan.enable ∷ [])) (λ k less h. marks c live.1 k less (enable_needed k (cells c) (table c) scan at h))
     ] in
-    let reading : (c net : ℕ) → entries c ≡ Reads net → needs_of count marked net ≡ true = λ c net at. elim (leb_tells (length x.flops.items) c) [
-      | inl out ↦ (let P : Cell → Type 0 = λ cell. or_keeps (found cell) ≡ Reads net in absurd (past_reads (p.pulsed 0 && takes p.rising false) net (subst P (cell_past x.flops.items c out.1) at)))
+    let reading : (c net : ℕ) → entries c ≡ Reads net → needs_of count marked net ≡ true = λ c net at. elim (leb_tells (length x.flops) c) [
+      | inl out ↦ (let P : Cell → Type 0 = λ cell. or_keeps (found cell) ≡ Reads net in absurd (past_reads (p.pulsed 0 && takes p.rising false) net (subst P (cell_past x.flops c out.1) at)))
       | inr live ↦ (let N : Entry → Type 0 = λ e. Has (entry_needs (cells c) e) net in
           (has_needs count marked (net ∷ []) (λ k less h. elim h [
             | inl e ↦ subst (λ (i : ℕ). flag_at marked i ≡ true) (sym e) (marks c live.1 net (subst (λ (i : ℕ). i < count) e less) (subst N (sym at ∙ same c live.1) (inl refl)))
             | inr none ↦ absurd none
           ])).0)
     ] in
-    let computing : (c : ℕ) → entries c ≡ Computes → HasAll (needs_of count marked) (nets_of (next_reads (cells c) p.ports (value_from v))) = λ c at. elim (leb_tells (length x.flops.items) c) [
-      | inl out ↦ (let P : Cell → Type 0 = λ cell. or_keeps (found cell) ≡ Computes in absurd (past_computes (p.pulsed 0 && takes p.rising false) (subst P (cell_past x.flops.items c out.1) at)))
+    let computing : (c : ℕ) → entries c ≡ Computes → HasAll (needs_of count marked) (nets_of (next_reads (cells c) p.ports (value_from v))) = λ c at. elim (leb_tells (length x.flops) c) [
+      | inl out ↦ (let P : Cell → Type 0 = λ cell. or_keeps (found cell) ≡ Computes in absurd (past_computes (p.pulsed 0 && takes p.rising false) (subst P (cell_past x.flops c out.1) at)))
       | inr live ↦ has_needs count marked (nets_of (next_reads (cells c) p.ports (value_from v)))
           (λ k less h. (let N : Entry → Type 0 = λ e. Has (entry_needs (cells c) e) k in marks c live.1 k less (subst N (sym at ∙ same c live.1) (computes_needed k (cells c) p.ports (value_from v) h))))
     ] in

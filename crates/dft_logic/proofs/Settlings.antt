@@ -14,9 +14,8 @@ use Rattle.dft_netlist.specs.Settled.{value_from, value_given}
 use Rattle.dft_netlist.specs.Orders.{Has, numbers_of}
 use Rattle.dft_logic.specs.declared.circuit.Op.{Op}
 use Rattle.dft_logic.specs.declared.circuit.Op.TheVariants as op
-use Rattle.dft_logic.specs.declared.circuit.Circuit.{Circuit}
 use Rattle.dft_logic.specs.Values.{value_at}
-use Rattle.dft_logic.specs.Circuit.{meaning, op_at, Supply, leaves_from, AreOrdered, IsCircuit}
+use Rattle.dft_logic.specs.Circuit.{Circuit, meaning, op_at, Supply, leaves_from, AreOrdered, IsCircuit}
 
 -- ---- lists
 
@@ -61,7 +60,7 @@ pub record Settling (ops : List Op) (base : Supply) (order : List NetId) (values
   pub done : (k : ℕ) → Has before k → IsGiven ops base values k
   pub either : (k : ℕ) → k < length ops → Has before k ⊎ Has (numbers_of (drop j order)) k
 
-pub settling_starts : (x : Circuit) (base : Supply) (values : List Tri) → IsCircuit x → Settling x.ops.items base x.order.items values 0
+pub settling_starts : (x : Circuit) (base : Supply) (values : List Tri) → IsCircuit x → Settling x.ops base x.order values 0
 settling_starts x base values is = record { before = []; rest = is.after; closed = λ k h. absurd h; done = λ k h. absurd h; either = λ k less. inr (is.whole k less) }
 
 front : (ops : List Op) (base : Supply) (order : List NetId) (values : List Tri) (j : ℕ) (net : NetId) → j < length order → net ≡ get_or order j net →
@@ -122,11 +121,11 @@ step ops base order nets values j driver t e less len s read given =
     one_more ops base order values j net t here is len s
     (given ∙ ap (λ (o : Op). value_given (leaves_from base (value_at values)) (value_at values) net.0 (meaning o)) (get_or_read ops net.0 driver live read op.Free))
 
-pub all_settled : (x : Circuit) (base : Supply) (values : List Tri) (j : ℕ) → length x.order.items ≤ j → length values ≡ length x.ops.items →
-    Settling x.ops.items base x.order.items values j → (k : ℕ) → IsGiven x.ops.items base values k
-all_settled x base values j past len s k = elim (leb_tells (length x.ops.items) k) [
+pub all_settled : (x : Circuit) (base : Supply) (values : List Tri) (j : ℕ) → length x.order ≤ j → length values ≡ length x.ops →
+    Settling x.ops base x.order values j → (k : ℕ) → IsGiven x.ops base values k
+all_settled x base values j past len s k = elim (leb_tells (length x.ops) k) [
   | inl out ↦ (let far : length values ≤ k = omega (arith, out.1) in
-      get_or_past values k Unknown far ∙ sym (ap (λ (o : Op). value_given (leaves_from base (value_at values)) (value_at values) k (meaning o)) (get_or_past x.ops.items k op.Free out.1)))
+      get_or_past values k Unknown far ∙ sym (ap (λ (o : Op). value_given (leaves_from base (value_at values)) (value_at values) k (meaning o)) (get_or_past x.ops k op.Free out.1)))
   | inr live ↦ (let Q : List NetId → Type 0 = λ l. Has s.before k ⊎ Has (numbers_of l) k in
-      elim (subst Q (drop_all j x.order.items past) (s.either k live.1)) [ inl older ↦ s.done k older | inr none ↦ absurd none ])
+      elim (subst Q (drop_all j x.order past) (s.either k live.1)) [ inl older ↦ s.done k older | inr none ↦ absurd none ])
 ]

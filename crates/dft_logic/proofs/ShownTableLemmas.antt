@@ -10,10 +10,9 @@ use Rattle.dft_logic.specs.Shows.{with_shown, shown_by, lockup_shown, IsShownOn,
 use Rattle.dft_logic.specs.declared.circuit.Operand.{Operand}
 use Rattle.dft_logic.specs.declared.circuit.Op.{Op}
 use Rattle.dft_logic.specs.declared.circuit.Op.TheVariants as op
-use Rattle.dft_logic.specs.declared.circuit.Circuit.{Circuit}
 use Rattle.dft_logic.specs.declared.shown.Shown.{Shown}
 use Rattle.dft_logic.specs.declared.shown.Shown.TheVariants.{Nothing}
-use Rattle.dft_logic.specs.Circuit.{source_at, meaning, logic_at, cell_of, IsCircuit, op_at}
+use Rattle.dft_logic.specs.Circuit.{Circuit, source_at, meaning, logic_at, cell_of, IsCircuit, op_at}
 use Rattle.dft_logic.specs.ShownTables.{shown_of, shown_at, shown_in, edges_of}
 use Rattle.dft_logic.proofs.Fillings.{Depends, Filling, filling_ends}
 
@@ -58,7 +57,7 @@ shown_depends cells rising pulsed P v w net Free all same = refl
 
 -- ---- the whole table
 
-meaning_shown : (x : Circuit) (rising : Bool) (pulsed : ℕ → Bool) (shown : ℕ → shows.Shown) (net : ℕ) (m : Meaning) → shown_in (map cell_of x.flops.items) rising pulsed shown net m ≡ shown_given (logic_at x) (edges_of rising pulsed) shown net m
+meaning_shown : (x : Circuit) (rising : Bool) (pulsed : ℕ → Bool) (shown : ℕ → shows.Shown) (net : ℕ) (m : Meaning) → shown_in (map cell_of x.flops) rising pulsed shown net m ≡ shown_given (logic_at x) (edges_of rising pulsed) shown net m
 unfolding logic_at
 meaning_shown x rising pulsed shown net Input = refl
 meaning_shown x rising pulsed shown net Clock = refl
@@ -68,13 +67,13 @@ meaning_shown x rising pulsed shown net (Flop c inverted) = refl
 meaning_shown x rising pulsed shown net (Lockup c e high source) = refl
 meaning_shown x rising pulsed shown net Free = refl
 
-pub all_shown : (x : Circuit) (rising : Bool) (pulsed : ℕ → Bool) (shown : List Shown) (j : ℕ) → IsCircuit x → length shown ≡ length x.ops.items → length x.order.items ≤ j →
-    Filling shown_of Nothing (shown_in (map cell_of x.flops.items) rising pulsed) x.ops.items x.order.items shown j → IsShownOn (logic_at x) (edges_of rising pulsed) (λ net. true) (shown_at shown)
+pub all_shown : (x : Circuit) (rising : Bool) (pulsed : ℕ → Bool) (shown : List Shown) (j : ℕ) → IsCircuit x → length shown ≡ length x.ops → length x.order ≤ j →
+    Filling shown_of Nothing (shown_in (map cell_of x.flops) rising pulsed) x.ops x.order shown j → IsShownOn (logic_at x) (edges_of rising pulsed) (λ net. true) (shown_at shown)
 unfolding logic_at
-all_shown x rising pulsed shown j is len past s net need = elim (leb_tells (length x.ops.items) net) [
+all_shown x rising pulsed shown j is len past s net need = elim (leb_tells (length x.ops) net) [
   | inl out ↦ (let far : length shown ≤ net = omega (arith, out.1) in
       ap shown_of (get_or_past shown net Nothing far)
-      ∙ sym (ap (λ (o : Op). shown_given (logic_at x) (edges_of rising pulsed) (shown_at shown) net (meaning o)) (get_or_past x.ops.items net op.Free out.1)))
-  | inr live ↦ filling_ends shown_of Nothing (shown_in (map cell_of x.flops.items) rising pulsed) x.ops.items x.order.items shown j past s net (is.whole net live.1)
-      ∙ meaning_shown x rising pulsed (shown_at shown) net (meaning (op_at x.ops.items net))
+      ∙ sym (ap (λ (o : Op). shown_given (logic_at x) (edges_of rising pulsed) (shown_at shown) net (meaning o)) (get_or_past x.ops net op.Free out.1)))
+  | inr live ↦ filling_ends shown_of Nothing (shown_in (map cell_of x.flops) rising pulsed) x.ops x.order shown j past s net (is.whole net live.1)
+      ∙ meaning_shown x rising pulsed (shown_at shown) net (meaning (op_at x.ops net))
 ]

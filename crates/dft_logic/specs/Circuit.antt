@@ -4,6 +4,7 @@ use Rattle.std.specs.List.{AllByRecursion}
 use Rattle.dft_base.specs.declared.tri.Tri.{Tri}
 use Rattle.dft_base.specs.Tri.{known}
 use Rattle.dft_cells.specs.WellFormed.{TakesInputs}
+use Rattle.dft_netlist.specs.declared.ids.NetId.{NetId}
 use Rattle.dft_netlist.specs.Drivers.{Source}
 use Rattle.dft_netlist.specs.Drivers as drivers
 use Rattle.dft_netlist.specs.Logic.{Logic, Meaning, Cell, Scan, Force, reads, lockup_cell, no_cell}
@@ -17,7 +18,6 @@ use Rattle.dft_logic.specs.declared.circuit.Op.TheVariants.{Input, Clock, Gate, 
 use Rattle.dft_logic.specs.declared.circuit.ScanPins.{ScanPins}
 use Rattle.dft_logic.specs.declared.circuit.Acting.{Acting}
 use Rattle.dft_logic.specs.declared.circuit.FlipFlop.{FlipFlop}
-use Rattle.dft_logic.specs.declared.circuit.Circuit.{Circuit}
 use Rattle.dft_logic.specs.declared.circuit.Latch.{Latch}
 use Rattle.dft_logic.specs.declared.settling.Pulse.{Pulse}
 use Rattle.dft_logic.specs.declared.settling.View.{View}
@@ -54,6 +54,21 @@ force_at (Some acting) = Some (record { port = acting.port.0; value = acting.val
 abbrev pub cell_of : FlipFlop → Cell
 cell_of f = record { domain = f.domain.0; falling = f.falling; input = source_at f.input; scan = scan_at f.scan; force = force_at f.force }
 
+-- ---- a circuit
+
+-- what each net takes its value from, by net, in an order; by instance what it stores a bit in, and the lock-up that it is; and what is found by tables
+pub record Circuit : Type 0 where
+  pub order : List NetId
+  pub ops : List Op
+  pub flops : List FlipFlop
+  pub latches : List (Option Latch)
+  pub readers : List (List ℕ)
+  pub sources : List (List ℕ)
+  pub leaves : List (List ℕ)
+  pub cells : List (List ℕ)
+  pub holders : List (List ℕ)
+  pub followers : List (List ℕ)
+
 -- ---- the circuit's logic
 
 abbrev pub op_at : List Op → ℕ → Op
@@ -72,7 +87,7 @@ abbrev pub latch_at : List (Option Latch) → ℕ → Option (ℕ × Source)
 latch_at latches c = latch_of (slice_index_or latches c None)
 
 unfoldable pub logic_at : Circuit → Logic
-logic_at x = record { net = λ net. meaning (op_at x.ops.items net); cell = λ c. cell_at (map cell_of x.flops.items) c }
+logic_at x = record { net = λ net. meaning (op_at x.ops net); cell = λ c. cell_at (map cell_of x.flops) c }
 
 -- ---- what every circuit keeps
 
@@ -123,23 +138,23 @@ force_nets (Some force) = force.port ∷ []
 
 -- by net, what reads it and what it resets or sets; and for a clock what shows its domain, its flip-flops and its lock-ups
 pub record AreTables (x : Circuit) : Type 0 where
-  pub readers : IsTable (length x.ops.items) (length x.ops.items) (λ net. reads (meaning (op_at x.ops.items net))) x.readers
-  pub sources : IsTable 1 (length x.ops.items) (λ net. source_places (meaning (op_at x.ops.items net))) x.sources
-  pub leaves : IsTable (length x.ops.items) (length x.ops.items) (λ net. leaf_domains (map cell_of x.flops.items) net (meaning (op_at x.ops.items net))) x.leaves
-  pub cells : IsTable (length x.ops.items) (length x.flops.items) (λ c. (cell_at (map cell_of x.flops.items) c).domain ∷ []) x.cells
-  pub holders : IsTable (length x.ops.items) (length x.latches.items) (λ c. latch_domains (latch_at x.latches.items c)) x.holders
-  pub followers : IsTable (length x.ops.items) (length x.flops.items) (λ c. force_nets (cell_at (map cell_of x.flops.items) c).force) x.followers
+  pub readers : IsTable (length x.ops) (length x.ops) (λ net. reads (meaning (op_at x.ops net))) x.readers
+  pub sources : IsTable 1 (length x.ops) (λ net. source_places (meaning (op_at x.ops net))) x.sources
+  pub leaves : IsTable (length x.ops) (length x.ops) (λ net. leaf_domains (map cell_of x.flops) net (meaning (op_at x.ops net))) x.leaves
+  pub cells : IsTable (length x.ops) (length x.flops) (λ c. (cell_at (map cell_of x.flops) c).domain ∷ []) x.cells
+  pub holders : IsTable (length x.ops) (length x.latches) (λ c. latch_domains (latch_at x.latches c)) x.holders
+  pub followers : IsTable (length x.ops) (length x.flops) (λ c. force_nets (cell_at (map cell_of x.flops) c).force) x.followers
 
 pub record IsCircuit (x : Circuit) : Type 0 where
-  pub fits : (net : ℕ) → Fits (op_at x.ops.items net)
-  pub whole : (net : ℕ) → net < length x.ops.items → Has (numbers_of x.order.items) net
-  pub after : AreOrdered x.ops.items [] (numbers_of x.order.items)
-  pub count : length x.order.items ≡ length x.ops.items
+  pub fits : (net : ℕ) → Fits (op_at x.ops net)
+  pub whole : (net : ℕ) → net < length x.ops → Has (numbers_of x.order) net
+  pub after : AreOrdered x.ops [] (numbers_of x.order)
+  pub count : length x.order ≡ length x.ops
   -- a lock-up's instance tells its domain and its input
-  pub latched : (net c e : ℕ) (high : Bool) (source : Source) → meaning (op_at x.ops.items net) ≡ meanings.Lockup c e high source → latch_at x.latches.items c ≡ Some (e, source)
+  pub latched : (net c e : ℕ) (high : Bool) (source : Source) → meaning (op_at x.ops net) ≡ meanings.Lockup c e high source → latch_at x.latches c ≡ Some (e, source)
   -- and stores its bit as its cell says
-  pub stored : (net c e : ℕ) (high : Bool) (source : Source) → meaning (op_at x.ops.items net) ≡ meanings.Lockup c e high source → cell_at (map cell_of x.flops.items) c ≡ lockup_cell e high source
-  pub instances : length x.latches.items ≡ length x.flops.items
+  pub stored : (net c e : ℕ) (high : Bool) (source : Source) → meaning (op_at x.ops net) ≡ meanings.Lockup c e high source → cell_at (map cell_of x.flops) c ≡ lockup_cell e high source
+  pub instances : length x.latches ≡ length x.flops
   pub tables : AreTables x
 
 -- ---- settling
@@ -186,7 +201,7 @@ view_base cells v = base_of cells (pulse_at v.pulse) v.poss.now v.held.now v.dom
 -- the net has its driver's value in the view of a domain
 abbrev pub GivenIn : Circuit → Cycle.Pulse → (poss held : List Tri) → (domain : ℕ) → (values : List Tri) → ℕ → Type 0
 GivenIn x p poss held d values k =
-    value_at values k ≡ value_given (leaves_from (base_of (map cell_of x.flops.items) p poss held d) (value_at values)) (value_at values) k (meaning (op_at x.ops.items k))
+    value_at values k ≡ value_given (leaves_from (base_of (map cell_of x.flops) p poss held d) (value_at values)) (value_at values) k (meaning (op_at x.ops k))
 
 -- the same where the view is that of this domain, and in the view itself
 abbrev pub IsGivenIn : Circuit → View → (domain : ℕ) → (values : List Tri) → ℕ → Type 0
@@ -198,7 +213,7 @@ IsGiven x v values k = IsGivenIn x v v.domain.0 values k
 -- all nets have the values that they have from some sources
 pub record IsReady (x : Circuit) (values : List Tri) : Type 0 where
   pub base : Supply
-  pub given : (k : ℕ) → value_at values k ≡ value_given (leaves_from base (value_at values)) (value_at values) k (meaning (op_at x.ops.items k))
+  pub given : (k : ℕ) → value_at values k ≡ value_given (leaves_from base (value_at values)) (value_at values) k (meaning (op_at x.ops k))
 
 -- ---- a flip-flop, from the values of a view
 

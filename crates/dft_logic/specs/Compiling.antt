@@ -17,9 +17,8 @@ use Rattle.dft_logic.specs.declared.circuit.Operand.TheVariants.{Net}
 use Rattle.dft_logic.specs.declared.circuit.Op.{Op}
 use Rattle.dft_logic.specs.declared.circuit.FlipFlop.{FlipFlop}
 use Rattle.dft_logic.specs.declared.circuit.Latch.{Latch}
-use Rattle.dft_logic.specs.declared.circuit.Circuit.{Circuit}
 use Rattle.dft_logic.specs.declared.wires.Wire.{Wire}
-use Rattle.dft_logic.specs.Circuit.{source_at, flag_at, meaning, Fits, cell_of, latch_of, latch_at, logic_at, IsCircuit}
+use Rattle.dft_logic.specs.Circuit.{Circuit, source_at, flag_at, meaning, Fits, cell_of, latch_of, latch_at, logic_at}
 
 -- the flagged nets are clocks, and every other input may be a reset or a set
 abbrev pub ports_by : List Bool → Ports
@@ -125,10 +124,9 @@ pub record AreLatches (n : Netlist) (ports : Ports) (count : ℕ) (latches : Lis
 -- ---- a design's circuit
 
 pub record IsCircuitOf (n : Netlist) (ports : Ports) (x : Circuit) : Type 0 where
-  pub circuit : IsCircuit x
   -- it means what the design does
   pub compiled : logic_of n ports ≡ logic_at x
   -- its lock-ups' domains are clocks
-  pub clocked : (c e : ℕ) (high : Bool) (source : Source) → latch_at x.latches.items c ≡ Some (e, source) → ports.is_clock e ≡ true
-  pub nets : length x.ops.items ≡ length n.nets
-  pub instances : length x.flops.items ≡ length n.instances
+  pub clocked : (c e : ℕ) (high : Bool) (source : Source) → latch_at x.latches c ≡ Some (e, source) → ports.is_clock e ≡ true
+  pub nets : length x.ops ≡ length n.nets
+  pub instances : length x.flops ≡ length n.instances

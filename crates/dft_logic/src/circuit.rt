@@ -149,10 +149,11 @@ pub struct Latch {
     pub input: Operand,
 }
 
-/// What each net takes its value from, by net, in an order in which each comes after what it reads; and by instance what
-/// it stores a bit in, and the lock-up that it is, if it is one. Then what is found by tables: the sources; by net the
-/// nets that read it and the flip-flops that it resets or sets; and by the net of a clock the nets that show it or its
-/// domain's flip-flops and lock-ups, what stores bits in its domain, and its lock-ups.
+/// A circuit: what each net takes its value from, by net, in an order in which each comes after what it reads; and by
+/// instance what it stores a bit in, and the lock-up that it is, if it is one. Then what is found by tables: the sources; by
+/// net the nets that read it and the flip-flops that it resets or sets; and by the net of a clock the nets that show it or its
+/// domain's flip-flops and lock-ups, what stores bits in its domain, and its lock-ups. That it hangs together so
+/// (`IsCircuit`) holds of every value of the type.
 #[derive(Drop)]
 pub struct Circuit {
     pub order: Vec<NetId>,
@@ -165,4 +166,16 @@ pub struct Circuit {
     pub cells: Table,
     pub holders: Table,
     pub followers: Table,
+}
+
+impl Model for Circuit {
+    ghost use Rattle.dft_logic.specs.Circuit as spec;
+
+    ghost Value = { spec.Circuit };
+
+    ghost use Rattle.dft_logic.specs.CircuitShown.{circuit_of, IsSound};
+
+    ghost view = { circuit_of };
+
+    ghost invariant = { IsSound };
 }

@@ -5,7 +5,7 @@ ghost use Rattle.dft_netlist.specs.Orders.{Has, numbers_of};
 ghost use Rattle.dft_netlist.specs.Settled.{value_given};
 ghost use Rattle.dft_logic.specs.Needs.{before_from};
 ghost use Rattle.dft_logic.specs.Values as spec;
-ghost use Rattle.dft_logic.specs.Circuit.{AreOrdered, IsCircuit, meaning, op_at, pulse_at};
+ghost use Rattle.dft_logic.specs.Circuit.{AreOrdered, meaning, op_at, pulse_at};
 
 use crate::circuit::Circuit;
 use crate::settling::{Pulse, differ, op_before, value_at};
@@ -14,10 +14,9 @@ use dft_netlist::NetId;
 
 /// Settles these nets before the edges of a phase, whatever the values before.
 pub fn settle_list(circuit: &Circuit, pulse: Pulse<'_>, nets: &[NetId], values: &mut [Tri])
-    requires circuit { IsCircuit circuit.now }
-    requires values { length values.old ≡ length circuit.now.ops.items }
-    requires ordered { AreOrdered circuit.now.ops.items [] (numbers_of nets.now) }
-    ensures { (k : ℕ) → Has (numbers_of nets.now) k → spec.value_at values.new k ≡ value_given (before_from (pulse_at pulse.entry) (spec.value_at values.new)) (spec.value_at values.new) k (meaning (op_at circuit.now.ops.items k)) }
+    requires values { length values.old ≡ length circuit.now.ops }
+    requires ordered { AreOrdered circuit.now.ops [] (numbers_of nets.now) }
+    ensures { (k : ℕ) → Has (numbers_of nets.now) k → spec.value_at values.new k ≡ value_given (before_from (pulse_at pulse.entry) (spec.value_at values.new)) (spec.value_at values.new) k (meaning (op_at circuit.now.ops k)) }
 {
     for net in nets {
         let value = op_before(&circuit.ops[net.0 as usize], *net, pulse, values);

@@ -4,7 +4,7 @@ ghost use Rattle.std.specs.Prelude.{◌≡◌, ◌⊎◌, ℕ, ◌<◌, ◌≤�
 ghost use Rattle.dft_netlist.specs.Logic.{reads};
 ghost use Rattle.dft_netlist.specs.Orders.{Has, numbers_of};
 ghost use Rattle.dft_logic.specs.Needs.{IsStrobeClosed};
-ghost use Rattle.dft_logic.specs.Circuit.{meaning, op_at, logic_at, AreOrdered, IsCircuit, flag_at as is_up};
+ghost use Rattle.dft_logic.specs.Circuit.{meaning, op_at, logic_at, AreOrdered, flag_at as is_up};
 
 use crate::circuit::Circuit;
 use crate::settling::flag_at;
@@ -25,10 +25,9 @@ fn any_marked(nets: &[u32], marked: &[bool]) -> bool
 
 // Marks a net if one that is settled from it is marked.
 fn mark_read(circuit: &Circuit, net: NetId, marked: &mut [bool])
-    requires circuit { IsCircuit circuit.now }
-    requires live { net.0 < length circuit.now.ops.items }
-    requires marked { length marked.old ≡ length circuit.now.ops.items }
-    ensures read { (k : ℕ) → is_up marked.old k ≡ true → Has (reads (meaning (op_at circuit.now.ops.items k))) net.0 → is_up marked.new net.0 ≡ true }
+    requires live { net.0 < length circuit.now.ops }
+    requires marked { length marked.old ≡ length circuit.now.ops }
+    ensures read { (k : ℕ) → is_up marked.old k ≡ true → Has (reads (meaning (op_at circuit.now.ops k))) net.0 → is_up marked.new net.0 ≡ true }
     ensures kept { (k : ℕ) → is_up marked.old k ≡ true → is_up marked.new k ≡ true }
     ensures only { (k : ℕ) → is_up marked.new k ≡ true → (k ≡ net.0) ⊎ (is_up marked.old k ≡ true) }
 {
@@ -39,8 +38,7 @@ fn mark_read(circuit: &Circuit, net: NetId, marked: &mut [bool])
 
 /// Marks all that the marked nets are settled from.
 pub fn mark_needed(circuit: &Circuit, marked: &mut [bool])
-    requires circuit { IsCircuit circuit.now }
-    requires marked { length marked.old ≡ length circuit.now.ops.items }
+    requires marked { length marked.old ≡ length circuit.now.ops }
     ensures closed { IsStrobeClosed (logic_at circuit.now) (is_up marked.new) }
     ensures kept { (k : ℕ) → is_up marked.old k ≡ true → is_up marked.new k ≡ true }
 {
@@ -51,11 +49,10 @@ pub fn mark_needed(circuit: &Circuit, marked: &mut [bool])
 
 /// Lists the marked nets in the circuit's order, at the front of a list: how many.
 pub fn list_marked(circuit: &Circuit, marked: &[bool], list: &mut [NetId]) -> usize
-    requires circuit { IsCircuit circuit.now }
-    requires list { length list.old ≡ length circuit.now.ops.items }
-    requires marked { length marked.now ≡ length circuit.now.ops.items }
+    requires list { length list.old ≡ length circuit.now.ops }
+    requires marked { length marked.now ≡ length circuit.now.ops }
     ensures room { result ≤ length list.new }
-    ensures ordered { IsStrobeClosed (logic_at circuit.now) (is_up marked.now) → AreOrdered circuit.now.ops.items [] (numbers_of (take result list.new)) }
+    ensures ordered { IsStrobeClosed (logic_at circuit.now) (is_up marked.now) → AreOrdered circuit.now.ops [] (numbers_of (take result list.new)) }
     ensures listed { (k : ℕ) → is_up marked.now k ≡ true → Has (numbers_of (take result list.new)) k }
 {
     let mut count = 0;

@@ -3,7 +3,7 @@
 ghost use Rattle.std.specs.Prelude.{◌≡◌, length};
 ghost use Rattle.dft_logic.specs.Takes.{origin_of, origin_given, AreOrigins};
 ghost use Rattle.dft_abstract.specs.Cycle.{level_before};
-ghost use Rattle.dft_logic.specs.Circuit.{meaning, source_at, logic_at, pulse_at, IsCircuit};
+ghost use Rattle.dft_logic.specs.Circuit.{meaning, source_at, logic_at, pulse_at};
 ghost use Rattle.dft_logic.specs.EntryTables as tables;
 ghost use Rattle.dft_logic.specs.EntryTables.{number_of};
 
@@ -53,8 +53,7 @@ fn op_origin(op: &Op, pulse: Pulse<'_>, origins: &[Option<InstanceId>]) -> Optio
 
 /// Finds the flip-flop that each net shows before the edges of a phase, in the circuit's order.
 pub fn find_origins(circuit: &Circuit, pulse: Pulse<'_>, origins: &mut [Option<InstanceId>])
-    requires circuit { IsCircuit circuit.now }
-    requires origins { length origins.old ≡ length circuit.now.ops.items }
+    requires origins { length origins.old ≡ length circuit.now.ops }
     ensures { AreOrigins (logic_at circuit.now) (level_before (pulse_at pulse.entry)) (tables.origin_at origins.new) }
 {
     for net in &circuit.order {

@@ -9,7 +9,7 @@ ghost use Rattle.dft_netlist.specs.Runs as runs;
 ghost use Rattle.dft_abstract.specs.Cycle as cycle;
 ghost use Rattle.dft_abstract.specs.Cycle.{clock_value};
 ghost use Rattle.dft_logic.specs.Values as spec;
-ghost use Rattle.dft_logic.specs.Circuit.{source_at, meaning, op_at, logic_at, Fits, IsCircuit, leaves_from, cell_of, cell_at, before_base, view_base};
+ghost use Rattle.dft_logic.specs.Circuit.{source_at, meaning, op_at, logic_at, Fits, leaves_from, cell_of, cell_at, before_base, view_base};
 ghost use Rattle.dft_logic.specs.Circuit as circuits;
 
 use crate::circuit::{Circuit, FlipFlop, Op, Operand, Operands};
@@ -319,9 +319,8 @@ pub fn op_before(op: &Op, net: NetId, pulse: Pulse<'_>, values: &[Tri]) -> Tri
 
 /// Settles all nets in a view, in the circuit's order.
 pub fn settle(circuit: &Circuit, view: &View<'_, '_, '_>, values: &mut [Tri])
-    requires circuit { IsCircuit circuit.now }
-    requires values { length values.old ≡ length circuit.now.ops.items }
-    ensures { IsTriSettled (logic_at circuit.now) (leaves_from (view_base (map cell_of circuit.now.flops.items) view.now) (spec.value_at values.new)) (spec.value_at values.new) }
+    requires values { length values.old ≡ length circuit.now.ops }
+    ensures { IsTriSettled (logic_at circuit.now) (leaves_from (view_base (map cell_of circuit.now.flops) view.now) (spec.value_at values.new)) (spec.value_at values.new) }
 {
     for net in &circuit.order {
         let value = op_value(

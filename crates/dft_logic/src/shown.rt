@@ -4,7 +4,7 @@ ghost use Rattle.std.specs.Prelude.{◌≡◌, ℕ, ◌∷◌, [], length, map, 
 ghost use Rattle.dft_netlist.specs.Drivers.{nets_of};
 ghost use Rattle.dft_logic.specs.Shows as shows;
 ghost use Rattle.dft_logic.specs.Shows.{IsShownOn};
-ghost use Rattle.dft_logic.specs.Circuit.{meaning, source_at, logic_at, cell_of, cell_at, IsCircuit, flag_at as is_up};
+ghost use Rattle.dft_logic.specs.Circuit.{meaning, source_at, logic_at, cell_of, cell_at, flag_at as is_up};
 ghost use Rattle.dft_logic.specs.ShownTables.{shown_of, shown_at, shown_in, edges_of};
 
 use crate::circuit::{Circuit, FlipFlop, Op, Operand};
@@ -161,8 +161,7 @@ fn op_shown(op: &Op, net: NetId, flops: &[FlipFlop], edges: Edges<'_>, shown: &[
 
 /// Tells of every net what it shows where these clocks rise, or fall, in the circuit's order.
 pub fn show_all(circuit: &Circuit, rising: bool, pulsed: &[bool], shown: &mut [Shown])
-    requires circuit { IsCircuit circuit.now }
-    requires shown { length shown.old ≡ length circuit.now.ops.items }
+    requires shown { length shown.old ≡ length circuit.now.ops }
     ensures { IsShownOn (logic_at circuit.now) (edges_of rising (is_up pulsed.now)) (λ net. true) (shown_at shown.new) }
 {
     let edges = Edges { rising, pulsed };

@@ -68,8 +68,8 @@ has_among k [] has = absurd has
 has_among k (x ∷ nets) (inl same) = ap (λ (b : Bool). b || is_among k nets) (eq-eqb x k (sym same))
 has_among k (x ∷ nets) (inr later) = among_right k (x ∷ []) nets (has_among k nets later)
 
-in_order : (r : Rig) (net : ℕ) → IsRig r → net < length r.design.now.nets → is_among net (numbers_of r.circuit.order.items) ≡ true
-in_order r net rig less = has_among net (numbers_of r.circuit.order.items) (rig.circuit.whole net (let e = rig.nets in omega (arith, less, e)))
+in_order : (r : Rig) (net : ℕ) → IsRig r → net < length r.design.now.nets → is_among net (numbers_of r.circuit.order) ≡ true
+in_order r net rig less = has_among net (numbers_of r.circuit.order) (rig.circuit.whole net (let e = rig.nets in omega (arith, less, e)))
 
 any_here : (marked : List Bool) (k : ℕ) (nets : List ℕ) → flag_at marked k ≡ true → is_among k nets ≡ true → list_any (flag_at marked) nets ≡ true
 any_here marked k [] up among = absurd (true≢false (sym among))
@@ -92,7 +92,7 @@ any_at marked (x ∷ nets) is = by (flag_at marked x) refl (any_at marked nets) 
 -- ---- the nets that are reached
 
 behind_whole : (r : Rig) (from k : ℕ) (start marked : List Bool) → IsRig r → length r.steps.items ≡ length r.design.now.nets → length start ≡ length r.design.now.nets → flag_at start from ≡ true →
-    IsSpread (steps_at r.steps.items) (numbers_of r.circuit.order.items) start marked → Path (steps_at r.steps.items) from k → flag_at marked k ≡ true
+    IsSpread (steps_at r.steps.items) (numbers_of r.circuit.order) start marked → Path (steps_at r.steps.items) from k → flag_at marked k ≡ true
 behind_whole r from k start marked rig table size up spread marks.Here = spread.kept from up
 behind_whole r from k start marked rig table size up spread (marks.Onward {by = by} path step) =
     let less : k < length r.steps.items = step_live r by k step in
@@ -100,7 +100,7 @@ behind_whole r from k start marked rig table size up spread (marks.Onward {by = 
 
 -- where only one net is marked first
 pub behind_are : (r : Rig) (f : Fault) (from : ℕ) (none start marked : List Bool) (fresh : Bool) → IsRig r → length r.steps.items ≡ length r.design.now.nets → length none ≡ length r.design.now.nets → ((k : ℕ) → flag_at none k ≡ false) →
-    from < length r.design.now.nets → Raises none start (from ∷ []) fresh → IsSpread (steps_at r.steps.items) (numbers_of r.circuit.order.items) start marked → AreBehind (search_in r f) from marked
+    from < length r.design.now.nets → Raises none start (from ∷ []) fresh → IsSpread (steps_at r.steps.items) (numbers_of r.circuit.order) start marked → AreBehind (search_in r f) from marked
 behind_are r f from none start marked fresh rig table size clear live raised spread =
     let first : flag_at start from ≡ true = raised.done from (among_here from []) (omega (arith, live, size)) in
     let started : length start ≡ length r.design.now.nets = raised.grown.size ∙ size in
@@ -117,14 +117,14 @@ behind_are r f from none start marked fresh rig table size clear live raised spr
 -- ---- the nets that lead to some
 
 before_whole : (r : Rig) (net to : ℕ) (start marked : List Bool) → IsRig r → length r.steps.items ≡ length r.design.now.nets → length start ≡ length r.design.now.nets →
-    IsDrawn (steps_at r.steps.items) (numbers_of r.circuit.order.items) start marked → (to < length r.design.now.nets → flag_at marked to ≡ true) → Path (steps_at r.steps.items) net to → net < length r.design.now.nets → flag_at marked net ≡ true
+    IsDrawn (steps_at r.steps.items) (numbers_of r.circuit.order) start marked → (to < length r.design.now.nets → flag_at marked to ≡ true) → Path (steps_at r.steps.items) net to → net < length r.design.now.nets → flag_at marked net ≡ true
 before_whole r net to start marked rig table size drawn up marks.Here live = up live
 before_whole r net to start marked rig table size drawn up (marks.Onward {by = by} path step) live =
     let less : to < length r.design.now.nets = (let l = step_live r by to step in omega (arith, l, table)) in
     before_whole r net by start marked rig table size drawn (λ here. drawn.closed to (in_order r to rig less) (up less) by step (omega (arith, here, size))) path live
 
 pub before_are : (r : Rig) (f : Fault) (ends : List ℕ) (none start marked : List Bool) (fresh : Bool) → IsRig r → length r.steps.items ≡ length r.design.now.nets → length none ≡ length r.design.now.nets → ((k : ℕ) → flag_at none k ≡ false) →
-    Raises none start ends fresh → IsDrawn (steps_at r.steps.items) (numbers_of r.circuit.order.items) start marked → AreBefore (search_in r f) ends marked
+    Raises none start ends fresh → IsDrawn (steps_at r.steps.items) (numbers_of r.circuit.order) start marked → AreBefore (search_in r f) ends marked
 before_are r f ends none start marked fresh rig table size clear raised drawn =
     let started : length start ≡ length r.design.now.nets = raised.grown.size ∙ size in
     record {

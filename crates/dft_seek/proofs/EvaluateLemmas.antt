@@ -9,10 +9,9 @@ use Rattle.dft_base.specs.declared.tri.Tri.TheVariants.{One, Unknown}
 use Rattle.dft_netlist.specs.Logic.{Meaning, Input, Clock, Gate, Joined, Flop, Lockup, Free}
 use Rattle.dft_netlist.specs.Orders.{Has}
 use Rattle.dft_netlist.specs.Settled.{TriSources, inverse, value_given}
-use Rattle.dft_logic.specs.declared.circuit.Circuit.{Circuit}
 use Rattle.dft_logic.specs.declared.circuit.Op.{Op}
 use Rattle.dft_logic.specs.declared.circuit.Op.TheVariants as op
-use Rattle.dft_logic.specs.Circuit.{flag_at, meaning, op_at}
+use Rattle.dft_logic.specs.Circuit.{Circuit, flag_at, meaning, op_at}
 use Rattle.dft_logic.specs.Tables.{list_at}
 use Rattle.dft_logic.specs.Values.{value_at}
 use Rattle.dft_sweep.specs.declared.field.Stuck.{Stuck}
@@ -31,7 +30,7 @@ use Rattle.dft_seek.specs.declared.rig.Rig.{Rig}
 pub near_other : (r : Rig) (needed : List Bool) (stuck : Option Stuck) (t : Table) (other : TriSources) (k : ℕ) → IsRig r → IsNear r needed stuck t → flag_at t.marks.marked.items k ≡ false →
     Has (list_at r.circuit.sources 0) k ⊎ IsGivenIf needed (means_of r.circuit stuck) other t.values.items k
 near_other r needed stuck t other k rig near down =
-    elim (given_any r.circuit (bit_at stuck k) near.sources other k (value_at t.values.items) (meaning (op_at r.circuit.ops.items k)) rig.circuit refl) [
+    elim (given_any r.circuit (bit_at stuck k) near.sources other k (value_at t.values.items) (meaning (op_at r.circuit.ops k)) rig.circuit refl) [
       | inl own ↦ inl own
       | inr same ↦ inr (λ needs. near.given k down needs ∙ same)
     ]
@@ -53,7 +52,7 @@ stuck_given r f needed sources values old new given marks live k down needs = gi
     means : value_given sources (value_at values) k (means_of r.circuit None k) ≡ value_given sources (value_at values) k (means_of r.circuit (stuck_of f) k)
     means = elim (eqb_tells f.net.0 k) [
       | inl here ↦ absurd (true≢false (sym (up here.1) ∙ down))
-      | inr other ↦ sym (ap (λ (b : Bool). value_given sources (value_at values) k (with_bit (if b then Some f.value else None) (meaning (op_at r.circuit.ops.items k)))) other.0)
+      | inr other ↦ sym (ap (λ (b : Bool). value_given sources (value_at values) k (with_bit (if b then Some f.value else None) (meaning (op_at r.circuit.ops k)))) other.0)
     ]
 
 -- the base is settled for values of ports and cells of which none is known
@@ -78,11 +77,11 @@ none_up n k = elim (leb_tells n k) [
 ]
 
 -- where all nets are marked only what is past the end has its value
-pub base_near : (x : Circuit) (sources : TriSources) (values : List Tri) (marked : List Bool) (k : ℕ) → length values ≡ length x.ops.items → marked ≡ replicate (length x.ops.items) true → flag_at marked k ≡ false → IsGivenBy (means_of x None) sources values k
-base_near x sources values marked k size marks down = elim (leb_tells (length x.ops.items) k) [
+pub base_near : (x : Circuit) (sources : TriSources) (values : List Tri) (marked : List Bool) (k : ℕ) → length values ≡ length x.ops → marked ≡ replicate (length x.ops) true → flag_at marked k ≡ false → IsGivenBy (means_of x None) sources values k
+base_near x sources values marked k size marks down = elim (leb_tells (length x.ops) k) [
   | inl out ↦ (let past = out.1 in
-      get_or_past values k Unknown (omega (arith, past, size)) ∙ sym (ap (λ (o : Op). value_given sources (value_at values) k (meaning o)) (get_or_past x.ops.items k op.Free past)))
-  | inr less ↦ absurd (true≢false (sym (ap (λ (l : List Bool). flag_at l k) marks ∙ get_or-replicate (length x.ops.items) k true false less.1) ∙ down))
+      get_or_past values k Unknown (omega (arith, past, size)) ∙ sym (ap (λ (o : Op). value_given sources (value_at values) k (meaning o)) (get_or_past x.ops k op.Free past)))
+  | inr less ↦ absurd (true≢false (sym (ap (λ (l : List Bool). flag_at l k) marks ∙ get_or-replicate (length x.ops) k true false less.1) ∙ down))
 ]
 
 -- the table with which a search begins

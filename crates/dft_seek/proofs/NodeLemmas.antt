@@ -91,13 +91,13 @@ given_as r ports cells p state v k (Lockup c e high source) of_port same = refl
 given_as r ports cells p state v k Free of_port same = refl
 
 -- an input port's bit is a net of the design
-input_live : (r : Rig) (k : ℕ) → IsRig r → meaning (op_at r.circuit.ops.items k) ≡ Input → k < length r.design.now.nets
-input_live r k rig is = elim (leb_tells (length r.circuit.ops.items) k) [
-  | inl out ↦ absurd (let none : Free ≡ Input = sym (ap meaning (get_or_past r.circuit.ops.items k op.Free out.1)) ∙ is in let f : ⊥ = cc in f)
+input_live : (r : Rig) (k : ℕ) → IsRig r → meaning (op_at r.circuit.ops k) ≡ Input → k < length r.design.now.nets
+input_live r k rig is = elim (leb_tells (length r.circuit.ops) k) [
+  | inl out ↦ absurd (let none : Free ≡ Input = sym (ap meaning (get_or_past r.circuit.ops k op.Free out.1)) ∙ is in let f : ⊥ = cc in f)
   | inr less ↦ (let e = rig.nets in omega (arith, less.1, e))
 ]
 
-port_as : (r : Rig) (f : Fault) (g : Given) (ports : ℕ → Tri) (k : ℕ) → IsRig r → ((net : ℕ) → net < length r.design.now.nets → ports net ≡ g.ports net) → meaning (op_at r.circuit.ops.items k) ≡ Input →
+port_as : (r : Rig) (f : Fault) (g : Given) (ports : ℕ → Tri) (k : ℕ) → IsRig r → ((net : ℕ) → net < length r.design.now.nets → ports net ≡ g.ports net) → meaning (op_at r.circuit.ops k) ≡ Input →
     (if flag_at r.resets.items k then One else ports k) ≡ port_values (search_in r f) g k
 port_as r f g ports k rig same is = λ t. if rig.resets k t then One else same k (input_live r k rig is) t
 
@@ -106,7 +106,7 @@ good_given : (r : Rig) (f : Fault) (g : Given) (ports cells state : ℕ → Tri)
     ((c : ℕ) → flag_at r.holds.items c ≡ true → cells c ≡ state c) → IsGivenBy (means_of r.circuit None) (sources_in r ports cells) v net →
     value_at v net ≡ value_given (sources_at (port_values (search_in r f) g) state) (value_at v) net (meaning_in (moving_of (search_in r f)) net (driver r.design.now net))
 good_given r f g ports cells state v net rig of_ports of_cells given =
-    given ∙ given_as r ports cells (port_values (search_in r f) g) state (value_at v) net (meaning (op_at r.circuit.ops.items net)) (port_as r f g ports net rig of_ports) of_cells
+    given ∙ given_as r ports cells (port_values (search_in r f) g) state (value_at v) net (meaning (op_at r.circuit.ops net)) (port_as r f g ports net rig of_ports) of_cells
     ∙ ap (value_given (sources_at (port_values (search_in r f) g) state) (value_at v) net) (rig.means net)
 
 not_same : (a b : ℕ) → (a ≡ b → ⊥) → (b == a) ≡ false
@@ -118,7 +118,7 @@ bad_given : (r : Rig) (f : Fault) (g : Given) (ports cells state : ℕ → Tri) 
     value_at v net ≡ value_given (sources_at (port_values (search_in r f) g) state) (value_at v) net (meaning_in (moving_of (search_in r f)) net (driver (faulty r.design.now f) net))
 bad_given r f g ports cells state v net rig fault of_ports of_cells its =
     let s : Search = search_in r f in
-    let m : Meaning = meaning (op_at r.circuit.ops.items net) in
+    let m : Meaning = meaning (op_at r.circuit.ops net) in
     let given : Bool → Tri = λ b. value_given (sources_in r ports cells) (value_at v) net (with_bit (if b then Some f.value else None) m) in
     let from : Driver → Tri = λ d. value_given (sources_at (port_values s g) state) (value_at v) net (meaning_in (moving_of s) net d) in
     elim (eqb_tells net f.net.0) [

@@ -52,14 +52,14 @@ moved r nets p q a b v k None Free ports cells = inr refl
 
 -- a table whose marks tell what has changed
 opened : (r : Rig) (needed : List Bool) (stuck : Option Stuck) (ports cells p q : List Tri) (nets : List ℕ) (old new : Table) →
-    ((k : ℕ) → meaning (op_at r.circuit.ops.items k) ≡ Input → Has nets k ⊎ (value_at ports k ≡ value_at p k)) →
-    ((k c : ℕ) (inverted : Bool) → meaning (op_at r.circuit.ops.items k) ≡ Flop c inverted → Has nets k ⊎ (value_at cells c ≡ value_at q c)) →
+    ((k : ℕ) → meaning (op_at r.circuit.ops k) ≡ Input → Has nets k ⊎ (value_at ports k ≡ value_at p k)) →
+    ((k c : ℕ) (inverted : Bool) → meaning (op_at r.circuit.ops k) ≡ Flop c inverted → Has nets k ⊎ (value_at cells c ≡ value_at q c)) →
     IsMarked r needed nets old new → IsOpen r needed stuck ports cells old → IsOpen r needed stuck p q new
 opened r needed stuck ports cells p q nets old new of_ports of_cells marks is = record {
   values = ap (λ (v : Vec Tri). length v.items) marks.values ∙ is.values;
   marked = marks.size ∙ is.marked;
   busy = marks.busy is.busy;
-  given = λ k down needs. elim (moved r nets (value_at ports) (value_at p) (value_at cells) (value_at q) (value_at old.values.items) k (bit_at stuck k) (meaning (op_at r.circuit.ops.items k)) (of_ports k) (of_cells k)) [
+  given = λ k down needs. elim (moved r nets (value_at ports) (value_at p) (value_at cells) (value_at q) (value_at old.values.items) k (bit_at stuck k) (meaning (op_at r.circuit.ops k)) (of_ports k) (of_cells k)) [
     | inl has ↦ absurd ((marks.lowered k down).1 needs has)
     | inr same ↦ subst (λ (v : Vec Tri). value_at v.items k ≡ value_given (sources_in r (value_at p) (value_at q)) (value_at v.items) k (means_of r.circuit stuck k)) (sym marks.values) (is.given k (marks.lowered k down).0 needs ∙ same)
   ];
@@ -74,17 +74,17 @@ pub put_lent : (v : Vec Tri) (ws rs : List Tri) (place : ℕ) (value : Tri) → 
 put_lent v ws rs place value same is = subst (λ (l : List Tri). IsPut v.items l place value) (sym (filled v ws rs is.size same)) (subst (λ (l : List Tri). IsPut l ws place value) same is)
 
 -- a net of the circuit that shows a flip-flop is told
-shows : (r : Rig) (k c : ℕ) (inverted : Bool) → IsRig r → c < length r.design.now.instances → meaning (op_at r.circuit.ops.items k) ≡ Flop c inverted → Has (list_at r.showing.items c) k
+shows : (r : Rig) (k c : ℕ) (inverted : Bool) → IsRig r → c < length r.design.now.instances → meaning (op_at r.circuit.ops k) ≡ Flop c inverted → Has (list_at r.showing.items c) k
 shows r k c inverted rig less is = rig.showing.each c k live less (subst (λ (m : Meaning). Has (cells_shown m) c) (sym is) (inl refl))
   where
-    live : k < length r.circuit.ops.items
-    live = elim (leb_tells (length r.circuit.ops.items) k) [
-      | inl out ↦ absurd (let e : Free ≡ Flop c inverted = sym (ap (λ (o : Op). meaning o) (get_or_past r.circuit.ops.items k op.Free out.1)) ∙ is in let f : ⊥ = cc in f)
+    live : k < length r.circuit.ops
+    live = elim (leb_tells (length r.circuit.ops) k) [
+      | inl out ↦ absurd (let e : Free ≡ Flop c inverted = sym (ap (λ (o : Op). meaning o) (get_or_past r.circuit.ops k op.Free out.1)) ∙ is in let f : ⊥ = cc in f)
       | inr less ↦ less.1
     ]
 
 cell_shows : (r : Rig) (cells q : List Tri) (c : ℕ) (value : Tri) (nets : List ℕ) (k e : ℕ) (inverted : Bool) → IsRig r → length cells ≡ length r.design.now.instances → IsPut cells q c value → nets ≡ list_at r.showing.items c →
-    meaning (op_at r.circuit.ops.items k) ≡ Flop e inverted → Has nets k ⊎ (value_at cells e ≡ value_at q e)
+    meaning (op_at r.circuit.ops k) ≡ Flop e inverted → Has nets k ⊎ (value_at cells e ≡ value_at q e)
 cell_shows r cells q c value nets k e inverted rig size is are shown = elim (eqb_tells e c) [
   | inl same ↦ elim (leb_tells (length cells) c) [
     | inl out ↦ inr (ap (value_at cells) same.1 ∙ put_past cells q c value is out.1 ∙ sym (ap (value_at q) same.1))
@@ -123,7 +123,7 @@ port_open r f needed net value nets old mid new is cells risen good bad good_aft
   bad_after = λ falls. subst (IsSettled r needed (stuck_of f)) (sym (marks.bad_after ∙ bad_after)) (was.bad_after falls);
 }
   where
-    showing : (k : ℕ) → meaning (op_at r.circuit.ops.items k) ≡ Input → Has nets k ⊎ (value_at old.ports.items k ≡ value_at mid.ports.items k)
+    showing : (k : ℕ) → meaning (op_at r.circuit.ops k) ≡ Input → Has nets k ⊎ (value_at old.ports.items k ≡ value_at mid.ports.items k)
     showing k means = elim (eqb_tells k net) [ inl same ↦ inl (subst (Has nets) (sym same.1) here) | inr other ↦ inr (sym (is.other k other.1)) ]
 
     table : (stuck : Option Stuck) (s t u : Table) → t ≡ s → IsMarked r needed nets t u → IsOpen r needed stuck old.ports.items old.cells.items s → IsOpen r needed stuck new.ports.items new.cells.items u

@@ -26,10 +26,9 @@ use Rattle.dft_netlist.proofs.RootTables.{past_free}
 use Rattle.dft_rules.specs.ConfigPorts.{config_ports}
 use Rattle.dft_expect.specs.Capturing.{CanCapture}
 use Rattle.dft_expect.proofs.ScannedCells.{IsModelled}
-use Rattle.dft_logic.specs.declared.circuit.Circuit.{Circuit}
 use Rattle.dft_logic.specs.declared.circuit.Op.{Op}
 use Rattle.dft_logic.specs.declared.circuit.Op.TheVariants as op
-use Rattle.dft_logic.specs.Circuit.{flag_at, logic_at, meaning, op_at}
+use Rattle.dft_logic.specs.Circuit.{Circuit, flag_at, logic_at, meaning, op_at}
 use Rattle.dft_logic.specs.Compiling.{IsCircuitOf, ports_by}
 use Rattle.dft_capture.specs.Captures.{meaning_in}
 use Rattle.dft_seek.specs.Searches.{Search, cells_in, drivable_ports, has_cell, input_bits, is_drivable, moving_of}
@@ -87,7 +86,7 @@ shows_all n shows sound count each net c = elim (leb_tells (length n.nets) net) 
 
 -- ---- what nets mean
 
-op_means : (n : Netlist) (ports : Ports) (x : Circuit) (k : ℕ) → IsCircuitOf n ports x → meaning (op_at x.ops.items k) ≡ meaning_of n ports k (driver n k)
+op_means : (n : Netlist) (ports : Ports) (x : Circuit) (k : ℕ) → IsCircuitOf n ports x → meaning (op_at x.ops k) ≡ meaning_of n ports k (driver n k)
 unfolding logic_at
 op_means n ports x k is = sym (ap (λ (l : Logic). l.net k) is.compiled)
 
@@ -95,7 +94,7 @@ modelled_there : (s : Search) (i : ℕ) → CanCapture s.design s.config → has
 modelled_there s i can held = (let there : IsModelled s.design s.config i = cell_there s.design s.config i can held in (_, there.flop))
 
 pub means_are : (s : Search) (clocks holds : List Bool) (x : Circuit) → CanCapture s.design s.config → IsCircuitOf s.design (ports_by clocks) x → ((net : ℕ) → flag_at clocks net ≡ (config_ports s.design s.config).is_clock net) →
-    ((c : ℕ) → flag_at holds c ≡ has_cell (cells_in s) c) → (k : ℕ) → held_meaning (flag_at holds) (meaning (op_at x.ops.items k)) ≡ meaning_in (moving_of s) k (driver s.design k)
+    ((c : ℕ) → flag_at holds c ≡ has_cell (cells_in s) c) → (k : ℕ) → held_meaning (flag_at holds) (meaning (op_at x.ops k)) ≡ meaning_in (moving_of s) k (driver s.design k)
 means_are s clocks holds x can is same held k =
     (λ t. held_meaning (λ c. held c t) (op_means s.design (ports_by clocks) x k is t))
     ∙ captured_means s.design (ports_by clocks) (moving_of s) k (driver s.design k) same
@@ -104,13 +103,13 @@ means_are s clocks holds x can is same held k =
 -- ---- walks
 
 pub steps_all : (s : Search) (clocks : List Bool) (x : Circuit) (shows : List (Option InstanceId)) (pins : List Pins) (passed : List Bool) (steps : List (List NetId)) → IsNetlist s.design → IsCircuitOf s.design (ports_by clocks) x → ArePins s.design pins →
-    ((c : ℕ) → flag_at passed c ≡ is_passed s c) → ((net c : ℕ) → shows_at shows net c ≡ is_output_of c (driver s.design net)) → length steps ≡ length x.ops.items →
-    ((net : ℕ) → net < length x.ops.items → steps_at steps net ≡ op_steps (op_at x.ops.items net) (shown_at shows net) pins passed) → (net : ℕ) → steps_at steps net ≡ walked_from s (driver s.design net)
-steps_all s clocks x shows pins passed steps sound is are passes shown count each net = elim (leb_tells (length x.ops.items) net) [
+    ((c : ℕ) → flag_at passed c ≡ is_passed s c) → ((net c : ℕ) → shows_at shows net c ≡ is_output_of c (driver s.design net)) → length steps ≡ length x.ops →
+    ((net : ℕ) → net < length x.ops → steps_at steps net ≡ op_steps (op_at x.ops net) (shown_at shows net) pins passed) → (net : ℕ) → steps_at steps net ≡ walked_from s (driver s.design net)
+steps_all s clocks x shows pins passed steps sound is are passes shown count each net = elim (leb_tells (length x.ops) net) [
   | inl out ↦ (let past = out.1 in let nets = is.nets in
       ap (λ (l : List NetId). steps_of l) (get_or_past steps net [] (omega (arith, past, count))) ∙ sym (ap (walked_from s) (past_free s.design sound net (omega (arith, past, nets)))))
   | inr less ↦ each net less.1
-      ∙ steps_walked s (ports_by clocks) (op_at x.ops.items net) (shown_at shows net) pins passed net (driver s.design net) are passes (op_means s.design (ports_by clocks) x net is) (shown net)
+      ∙ steps_walked s (ports_by clocks) (op_at x.ops net) (shown_at shows net) pins passed net (driver s.design net) are passes (op_means s.design (ports_by clocks) x net is) (shown net)
 ]
   where
     steps_of : List NetId → List ℕ
@@ -145,31 +144,31 @@ and_assoc false b c = refl
 
 -- the test by which ports are chosen
 pub drivable_same : (s : Search) (clocks resets : List Bool) (x : Circuit) (net : ℕ) → IsCircuitOf s.design (ports_by clocks) x → ((k : ℕ) → flag_at clocks k ≡ (config_ports s.design s.config).is_clock k) →
-    ((k : ℕ) → flag_at resets k ≡ (config_ports s.design s.config).is_reset k) → (is_input_of (meaning (op_at x.ops.items net)) && not (flag_at resets net)) ≡ is_drivable s net
+    ((k : ℕ) → flag_at resets k ≡ (config_ports s.design s.config).is_reset k) → (is_input_of (meaning (op_at x.ops net)) && not (flag_at resets net)) ≡ is_drivable s net
 drivable_same s clocks resets x net is of_clocks of_resets =
     (λ t. (ap is_input_of (op_means s.design (ports_by clocks) x net is) ∙ input_means s.design (ports_by clocks) net (driver s.design net) ∙ ap (λ (b : Bool). is_input (driver s.design net) && not b) (of_clocks net)) t && not (of_resets net t))
     ∙ and_assoc (is_input (driver s.design net)) (not ((config_ports s.design s.config).is_clock net)) (not ((config_ports s.design s.config).is_reset net))
 
 pub ports_all : (s : Search) (clocks resets : List Bool) (x : Circuit) (nets : List NetId) → IsCircuitOf s.design (ports_by clocks) x → ((k : ℕ) → flag_at clocks k ≡ (config_ports s.design s.config).is_clock k) →
-    ((k : ℕ) → flag_at resets k ≡ (config_ports s.design s.config).is_reset k) → nets ≡ input_bits s.design.ports → filter (λ net. is_input_of (meaning (op_at x.ops.items net.0)) && not (flag_at resets net.0)) nets ≡ drivable_ports s
+    ((k : ℕ) → flag_at resets k ≡ (config_ports s.design s.config).is_reset k) → nets ≡ input_bits s.design.ports → filter (λ net. is_input_of (meaning (op_at x.ops net.0)) && not (flag_at resets net.0)) nets ≡ drivable_ports s
 ports_all s clocks resets x nets is of_clocks of_resets same = λ t. filter (λ (net : NetId). drivable_same s clocks resets x net.0 is of_clocks of_resets t) (same t)
 
 -- a net that means an input is there
-pub ports_live : (x : Circuit) (resets : List Bool) (nets : List NetId) (count : ℕ) → length x.ops.items ≡ count →
-    AllByRecursion (λ net. net.0 < count) (filter (λ net. is_input_of (meaning (op_at x.ops.items net.0)) && not (flag_at resets net.0)) nets)
+pub ports_live : (x : Circuit) (resets : List Bool) (nets : List NetId) (count : ℕ) → length x.ops ≡ count →
+    AllByRecursion (λ net. net.0 < count) (filter (λ net. is_input_of (meaning (op_at x.ops net.0)) && not (flag_at resets net.0)) nets)
 ports_live x resets [] count size = tt
-ports_live x resets (net ∷ nets) count size = by (is_input_of (meaning (op_at x.ops.items net.0))) (not (flag_at resets net.0)) refl (ports_live x resets nets count size)
+ports_live x resets (net ∷ nets) count size = by (is_input_of (meaning (op_at x.ops net.0))) (not (flag_at resets net.0)) refl (ports_live x resets nets count size)
   where
-    live : is_input_of (meaning (op_at x.ops.items net.0)) ≡ true → net.0 < count
-    live is = elim (leb_tells (length x.ops.items) net.0) [
-      | inl out ↦ absurd (true≢false (sym is ∙ ap (λ (o : Op). is_input_of (meaning o)) (get_or_past x.ops.items net.0 op.Free out.1)))
+    live : is_input_of (meaning (op_at x.ops net.0)) ≡ true → net.0 < count
+    live is = elim (leb_tells (length x.ops) net.0) [
+      | inl out ↦ absurd (true≢false (sym is ∙ ap (λ (o : Op). is_input_of (meaning o)) (get_or_past x.ops net.0 op.Free out.1)))
       | inr less ↦ (let l = less.1 in omega (arith, l, size))
     ]
 
     rest : List NetId
-    rest = filter (λ net. is_input_of (meaning (op_at x.ops.items net.0)) && not (flag_at resets net.0)) nets
+    rest = filter (λ net. is_input_of (meaning (op_at x.ops net.0)) && not (flag_at resets net.0)) nets
 
-    by : (a b : Bool) → is_input_of (meaning (op_at x.ops.items net.0)) ≡ a → AllByRecursion (λ net. net.0 < count) rest → AllByRecursion (λ net. net.0 < count) (if a && b then net ∷ rest else rest)
+    by : (a b : Bool) → is_input_of (meaning (op_at x.ops net.0)) ≡ a → AllByRecursion (λ net. net.0 < count) rest → AllByRecursion (λ net. net.0 < count) (if a && b then net ∷ rest else rest)
     by true true is all = (live is, all)
     by true false is all = all
     by false b is all = all

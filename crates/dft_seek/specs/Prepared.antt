@@ -6,8 +6,7 @@ use Rattle.dft_netlist.specs.Drivers.{driver}
 use Rattle.dft_config.specs.Config.{Config}
 use Rattle.dft_rules.specs.ConfigPorts.{config_ports}
 use Rattle.dft_expect.specs.Captures.{output_bits}
-use Rattle.dft_logic.specs.declared.circuit.Circuit.{Circuit}
-use Rattle.dft_logic.specs.Circuit.{flag_at}
+use Rattle.dft_logic.specs.Circuit.{Circuit, flag_at}
 use Rattle.dft_logic.specs.Compiling.{IsCircuitOf, ports_by}
 use Rattle.dft_seek.specs.Searches.{Search, cells_in, drivable_ports, has_cell, has_falling, takes_at}
 use Rattle.dft_seek.specs.Walks.{is_output_of, walked_from}

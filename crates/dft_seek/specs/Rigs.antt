@@ -11,8 +11,7 @@ use Rattle.dft_netlist.specs.Orders.{AreOnce, numbers_of}
 use Rattle.dft_netlist.specs.Settled.{TriSources}
 use Rattle.dft_rules.specs.ConfigPorts.{config_ports}
 use Rattle.dft_expect.specs.Captures.{output_bits}
-use Rattle.dft_logic.specs.declared.circuit.Circuit.{Circuit}
-use Rattle.dft_logic.specs.Circuit.{IsCircuit, flag_at, meaning, op_at}
+use Rattle.dft_logic.specs.Circuit.{Circuit, IsCircuit, flag_at, meaning, op_at}
 use Rattle.dft_logic.specs.Tables.{IsTable}
 use Rattle.dft_sweep.specs.declared.field.Stuck.{Stuck}
 use Rattle.dft_sweep.specs.Places.{ArePlaces}
@@ -45,7 +44,7 @@ held_meaning holds Free = Free
 
 -- what the nets of a circuit mean where one may be stuck
 abbrev pub means_of : Circuit → Option Stuck → ℕ → Meaning
-means_of x stuck net = with_bit (bit_at stuck net) (meaning (op_at x.ops.items net))
+means_of x stuck net = with_bit (bit_at stuck net) (meaning (op_at x.ops net))
 
 -- the flip-flop that a net shows, if it shows one
 abbrev pub cells_shown : Meaning → List ℕ
@@ -81,7 +80,7 @@ sources_by resets holds ports cells = record {
 
 -- the values of all nets, where no cell and no port has one
 pub record IsBase (x : Circuit) (resets holds : List Bool) (values : List Tri) : Type 0 where
-  pub size : length values ≡ length x.ops.items
+  pub size : length values ≡ length x.ops
   pub given : (k : ℕ) → IsGivenBy (means_of x None) (sources_by resets holds (λ net. Unknown) (λ c. Unknown)) values k
 
 -- each table is what its name says
@@ -91,12 +90,12 @@ pub record IsRig (r : Rig) : Type 0 where
   pub library : IsWellFormed r.design.now.library
   pub circuit : IsCircuit r.circuit
   pub places : ArePlaces r.circuit r.places.items
-  pub nets : length r.circuit.ops.items ≡ length r.design.now.nets
-  pub means : (k : ℕ) → held_meaning (flag_at r.holds.items) (meaning (op_at r.circuit.ops.items k)) ≡ meaning_in (moving_of (search_of r)) k (driver r.design.now k)
+  pub nets : length r.circuit.ops ≡ length r.design.now.nets
+  pub means : (k : ℕ) → held_meaning (flag_at r.holds.items) (meaning (op_at r.circuit.ops k)) ≡ meaning_in (moving_of (search_of r)) k (driver r.design.now k)
   pub resets : (net : ℕ) → flag_at r.resets.items net ≡ (config_ports r.design.now r.config.now).is_reset net
   pub shows : (net c : ℕ) → shows_at r.shows.items net c ≡ is_output_of c (driver r.design.now net)
   pub shown : length r.shows.items ≡ length r.design.now.nets
-  pub showing : IsTable (length r.design.now.instances) (length r.circuit.ops.items) (λ net. cells_shown (meaning (op_at r.circuit.ops.items net))) r.showing.items
+  pub showing : IsTable (length r.design.now.instances) (length r.circuit.ops) (λ net. cells_shown (meaning (op_at r.circuit.ops net))) r.showing.items
   pub table : length r.steps.items ≡ length r.design.now.nets
   pub steps : (net : ℕ) → steps_at r.steps.items net ≡ walked_from (search_of r) (driver r.design.now net)
   pub few : length r.design.now.instances < 2 ^ 32

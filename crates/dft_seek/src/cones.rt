@@ -166,7 +166,7 @@ fn flagged(
 impl Rig<'_> {
     // What walks go along.
     fn paths(&self) -> Paths<'_>
-        ensures order { result.order.now ≡ self.now.circuit.order.items }
+        ensures order { result.order.now ≡ self.now.circuit.order }
         ensures steps { result.steps.now ≡ self.now.steps.items }
     {
         Paths {

@@ -279,7 +279,7 @@ impl Rig<'_> {
         table: &mut Table,
     )
         requires rig { IsRig self.now }
-        requires live { (k : ℕ) → Has nets.now k → k < length self.now.circuit.ops.items }
+        requires live { (k : ℕ) → Has nets.now k → k < length self.now.circuit.ops }
         requires values { length table.old.values.items ≡ length self.now.design.now.nets }
         requires marked { length table.old.marks.marked.items ≡ length self.now.design.now.nets }
         requires busy { AreBusy self.now.places.items table.old.marks }

@@ -59,8 +59,8 @@ fn settle_base(
 )
     requires circuit { IsCircuit circuit.now }
     requires places { ArePlaces circuit.now places.now }
-    requires values { length values.old ≡ length circuit.now.ops.items }
-    requires marked { marks.old.marked.items ≡ replicate (length circuit.now.ops.items) true }
+    requires values { length values.old ≡ length circuit.now.ops }
+    requires marked { marks.old.marked.items ≡ replicate (length circuit.now.ops) true }
     requires busy { AreBusy places.now marks.old }
     ensures { IsBase circuit.now resets.now holds.now values.new }
 {

@@ -13,8 +13,7 @@ use Rattle.dft_netlist.specs.Logic.{Meaning}
 use Rattle.dft_netlist.specs.Settled.{TriSources}
 use Rattle.dft_netlist.specs.Orders.{Has, numbers_of}
 use Rattle.dft_logic.specs.declared.circuit.Op.{Op}
-use Rattle.dft_logic.specs.declared.circuit.Circuit.{Circuit}
-use Rattle.dft_logic.specs.Circuit.{AreOrdered, IsCircuit, flag_at}
+use Rattle.dft_logic.specs.Circuit.{Circuit, AreOrdered, IsCircuit, flag_at}
 use Rattle.dft_sweep.specs.Places.{ArePlaces, is_busy, net_at, place_at}
 use Rattle.dft_sweep.specs.Sweepings.{Sweeping}
 use Rattle.dft_sweep.proofs.Sweeps.{sweeping_more}
@@ -27,7 +26,7 @@ pub record Placing (ops : List Op) (order : List NetId) (places : List ℕ) (j :
   pub rest : AreOrdered ops before (numbers_of (drop j order))
   pub placed : (i : ℕ) → i < j → i < length order → (place_at places (net_at order i).0 ≡ i) × Has before (net_at order i).0
 
-pub placing_starts : (x : Circuit) (places : List ℕ) → IsCircuit x → Placing x.ops.items x.order.items places 0
+pub placing_starts : (x : Circuit) (places : List ℕ) → IsCircuit x → Placing x.ops x.order places 0
 placing_starts x places is = record { before = []; rest = is.after; placed = λ i less. absurd (omega arith) }
 
 front : (ops : List Op) (order : List NetId) (places : List ℕ) (j : ℕ) → j < length order → (p : Placing ops order places j) →
@@ -58,7 +57,7 @@ placing_more ops order places j less size p =
       ];
     }
 
-pub placing_ends : (x : Circuit) (places : List ℕ) (j : ℕ) → length x.order.items ≤ j → Placing x.ops.items x.order.items places j → ArePlaces x places
+pub placing_ends : (x : Circuit) (places : List ℕ) (j : ℕ) → length x.order ≤ j → Placing x.ops x.order places j → ArePlaces x places
 placing_ends x places j past p = λ i less. (p.placed i (omega arith) less).0
 
 -- ---- words that are all ones or all zeros
@@ -201,17 +200,17 @@ sweeping_skips ops needed means sources order values marked j (suc d) down s =
 
 -- at a place that is not busy no marked net stands
 pub idle : (x : Circuit) (places : List ℕ) (marked : List Bool) (busy : List ℕ) (i : ℕ) → ArePlaces x places → ((k : ℕ) → flag_at marked k ≡ true → is_busy busy (place_at places k) ≡ true) →
-    is_busy busy i ≡ false → i < length x.order.items → flag_at marked (net_at x.order.items i).0 ≡ false
-idle x places marked busy i are all down less = down_or (flag_at marked (net_at x.order.items i).0) refl where
-  down_or : (b : Bool) → flag_at marked (net_at x.order.items i).0 ≡ b → flag_at marked (net_at x.order.items i).0 ≡ false
+    is_busy busy i ≡ false → i < length x.order → flag_at marked (net_at x.order i).0 ≡ false
+idle x places marked busy i are all down less = down_or (flag_at marked (net_at x.order i).0) refl where
+  down_or : (b : Bool) → flag_at marked (net_at x.order i).0 ≡ b → flag_at marked (net_at x.order i).0 ≡ false
   down_or false is = is
-  down_or true is = absurd (true≢false (sym (all (net_at x.order.items i).0 is) ∙ ap (is_busy busy) (are i less) ∙ down))
+  down_or true is = absurd (true≢false (sym (all (net_at x.order i).0 is) ∙ ap (is_busy busy) (are i less) ∙ down))
 
 -- the places up to the next busy one are passed over
 pub sweeping_goes : (x : Circuit) (places : List ℕ) (needed : List Bool) (means : ℕ → Meaning) (sources : TriSources) (values : List Tri) (marked : List Bool) (busy : List ℕ) (j m : ℕ) → ArePlaces x places →
     ((k : ℕ) → flag_at marked k ≡ true → is_busy busy (place_at places k) ≡ true) → j ≤ m → ((p : ℕ) → j ≤ p → p < m → is_busy busy p ≡ false) →
-    Sweeping x.ops.items needed means sources x.order.items values marked j → Sweeping x.ops.items needed means sources x.order.items values marked m
+    Sweeping x.ops needed means sources x.order values marked j → Sweeping x.ops needed means sources x.order values marked m
 sweeping_goes x places needed means sources values marked busy j m are all up none s =
-    let P : ℕ → Type 0 = λ n. Sweeping x.ops.items needed means sources x.order.items values marked n in
+    let P : ℕ → Type 0 = λ n. Sweeping x.ops needed means sources x.order values marked n in
     let e : j + (m - j) ≡ m = omega arith in
-    subst P e (sweeping_skips x.ops.items needed means sources x.order.items values marked j (m - j) (λ i low high less. idle x places marked busy i are all (none i low (omega arith)) less) s)
+    subst P e (sweeping_skips x.ops needed means sources x.order values marked j (m - j) (λ i low high less. idle x places marked busy i are all (none i low (omega arith)) less) s)

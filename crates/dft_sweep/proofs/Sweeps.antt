@@ -14,9 +14,8 @@ use Rattle.dft_netlist.specs.Orders.{Has, numbers_of}
 use Rattle.dft_netlist.proofs.RankLemmas.{has_all}
 use Rattle.dft_logic.specs.declared.circuit.Op.{Op}
 use Rattle.dft_logic.specs.declared.circuit.Op.TheVariants as op
-use Rattle.dft_logic.specs.declared.circuit.Circuit.{Circuit}
 use Rattle.dft_logic.specs.Values.{value_at}
-use Rattle.dft_logic.specs.Circuit.{meaning, op_at, AreOrdered, IsCircuit, flag_at, source_places}
+use Rattle.dft_logic.specs.Circuit.{Circuit, meaning, op_at, AreOrdered, IsCircuit, flag_at, source_places}
 use Rattle.dft_logic.specs.Tables.{list_at}
 use Rattle.dft_logic.proofs.Settlings.{all_more, inputs_agree, source_agree}
 use Rattle.dft_sweep.specs.Fields.{IsGivenBy, IsGivenIf, is_needed, with_bit}
@@ -120,9 +119,9 @@ pub unneeded : (needed : List Bool) (means : ℕ → Meaning) (sources : TriSour
 unneeded needed means sources values net k idle before needs = elim before [ inl e ↦ absurd (true≢false (sym needs ∙ ap (is_needed needed) e ∙ idle)) | inr is ↦ is needs ]
 
 -- a net that is none of the readers does not read it, nor where it is stuck
-pub blind : (x : Circuit) (net k : ℕ) (readers : List ℕ) → IsCircuit x → net < length x.ops.items → readers ≡ list_at x.readers net → (Has readers k → ⊥) → Has (reads (meaning (op_at x.ops.items k))) net → ⊥
-blind x net k readers is live e none h = elim (leb_tells (length x.ops.items) k) [
-  | inl out ↦ (let P : Op → Type 0 = λ o. Has (reads (meaning o)) net in subst P (get_or_past x.ops.items k op.Free out.1) h)
+pub blind : (x : Circuit) (net k : ℕ) (readers : List ℕ) → IsCircuit x → net < length x.ops → readers ≡ list_at x.readers net → (Has readers k → ⊥) → Has (reads (meaning (op_at x.ops k))) net → ⊥
+blind x net k readers is live e none h = elim (leb_tells (length x.ops) k) [
+  | inl out ↦ (let P : Op → Type 0 = λ o. Has (reads (meaning o)) net in subst P (get_or_past x.ops k op.Free out.1) h)
   | inr less ↦ (let Q : List ℕ → Type 0 = λ l. Has l k in none (subst Q (sym e) (is.tables.readers.each net k less.1 live h)))
 ]
 
@@ -133,7 +132,7 @@ reads_with (Some bit) m net has = absurd has
 -- ---- the order
 
 pub sweeping_starts : (x : Circuit) (needed : List Bool) (means : ℕ → Meaning) (sources : TriSources) (values : List Tri) (marked : List Bool) → IsCircuit x →
-    ((k : ℕ) → flag_at marked k ≡ false → IsGivenIf needed means sources values k) → Sweeping x.ops.items needed means sources x.order.items values marked 0
+    ((k : ℕ) → flag_at marked k ≡ false → IsGivenIf needed means sources values k) → Sweeping x.ops needed means sources x.order values marked 0
 sweeping_starts x needed means sources values marked is given = record { before = []; rest = is.after; closed = λ k h. absurd h; clean = λ k h. absurd h; given = given; either = λ k less. inr (is.whole k less) }
 
 front : (ops : List Op) (needed : List Bool) (means : ℕ → Meaning) (sources : TriSources) (order : List NetId) (values : List Tri) (marked : List Bool) (j : ℕ) (net d : NetId) → j < length order → net ≡ get_or order j d →
@@ -177,12 +176,12 @@ sweeping_more ops needed means sources order values new marked now j net d less 
       down k false is never = is
       down k true is never = absurd (never is)
 
-pub swept : (x : Circuit) (needed : List Bool) (means : ℕ → Meaning) (sources : TriSources) (values : List Tri) (marked : List Bool) (j : ℕ) → length x.order.items ≤ j → length marked ≡ length x.ops.items →
-    Sweeping x.ops.items needed means sources x.order.items values marked j → (k : ℕ) → flag_at marked k ≡ false
-swept x needed means sources values marked j past len s k = elim (leb_tells (length x.ops.items) k) [
+pub swept : (x : Circuit) (needed : List Bool) (means : ℕ → Meaning) (sources : TriSources) (values : List Tri) (marked : List Bool) (j : ℕ) → length x.order ≤ j → length marked ≡ length x.ops →
+    Sweeping x.ops needed means sources x.order values marked j → (k : ℕ) → flag_at marked k ≡ false
+swept x needed means sources values marked j past len s k = elim (leb_tells (length x.ops) k) [
   | inl out ↦ (let far : length marked ≤ k = omega (arith, out.1) in get_or_past marked k false far)
   | inr live ↦ (let Q : List NetId → Type 0 = λ l. Has s.before k ⊎ Has (numbers_of l) k in
-      elim (subst Q (drop_all j x.order.items past) (s.either k live.1)) [ inl older ↦ s.clean k older | inr none ↦ absurd none ])
+      elim (subst Q (drop_all j x.order past) (s.either k live.1)) [ inl older ↦ s.clean k older | inr none ↦ absurd none ])
 ]
 
 -- ---- these nets, one after another
@@ -214,16 +213,16 @@ none_listed [] is empty = absurd cc
 none_listed (place ∷ places) is empty = absurd (omega (arith, empty))
 
 -- a net that means a source is listed as one
-pub source : (x : Circuit) (k : ℕ) (m : Meaning) → IsCircuit x → meaning (op_at x.ops.items k) ≡ m → source_places m ≡ 0 ∷ [] → Has (list_at x.sources 0) k
+pub source : (x : Circuit) (k : ℕ) (m : Meaning) → IsCircuit x → meaning (op_at x.ops k) ≡ m → source_places m ≡ 0 ∷ [] → Has (list_at x.sources 0) k
 source x k m is e places =
-    let own : source_places (meaning (op_at x.ops.items k)) ≡ 0 ∷ [] = ap source_places e ∙ places in
-    elim (leb_tells (length x.ops.items) k) [
-      | inl out ↦ (let P : Op → Type 0 = λ o. source_places (meaning o) ≡ 0 ∷ [] in absurd (none_listed [] (subst P (get_or_past x.ops.items k op.Free out.1) own) refl))
+    let own : source_places (meaning (op_at x.ops k)) ≡ 0 ∷ [] = ap source_places e ∙ places in
+    elim (leb_tells (length x.ops) k) [
+      | inl out ↦ (let P : Op → Type 0 = λ o. source_places (meaning o) ≡ 0 ∷ [] in absurd (none_listed [] (subst P (get_or_past x.ops k op.Free out.1) own) refl))
       | inr less ↦ is.tables.sources.each 0 k less.1 (omega arith) (let Q : List ℕ → Type 0 = λ l. Has l 0 in subst Q (sym own) (inl refl))
     ]
 
 -- what a net means that is no source does not hang on the sources
-pub given_any : (x : Circuit) (o : Option Bool) (a b : TriSources) (k : ℕ) (v : ℕ → Tri) (m : Meaning) → IsCircuit x → meaning (op_at x.ops.items k) ≡ m → Has (list_at x.sources 0) k ⊎ (value_given a v k (with_bit o m) ≡ value_given b v k (with_bit o m))
+pub given_any : (x : Circuit) (o : Option Bool) (a b : TriSources) (k : ℕ) (v : ℕ → Tri) (m : Meaning) → IsCircuit x → meaning (op_at x.ops k) ≡ m → Has (list_at x.sources 0) k ⊎ (value_given a v k (with_bit o m) ≡ value_given b v k (with_bit o m))
 given_any x (Some bit) a b k v m is e = inr refl
 given_any x None a b k v Input is e = inl (source x k Input is e refl)
 given_any x None a b k v Clock is e = inl (source x k Clock is e refl)

@@ -35,7 +35,7 @@ with_bit (Some bit) m = Joined (Tied bit)
 
 -- what a net means
 abbrev pub meaning_at : Field → (net : ℕ) → Meaning
-meaning_at f net = with_bit (bit_at f.stuck net) (meaning (op_at f.circuit.now.ops.items net))
+meaning_at f net = with_bit (bit_at f.stuck net) (meaning (op_at f.circuit.now.ops net))
 
 -- a net has the value that it is given by what it means, from these sources
 abbrev pub IsGivenBy : (means : ℕ → Meaning) → TriSources → (values : List Tri) → (net : ℕ) → Type 0

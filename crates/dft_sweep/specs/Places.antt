@@ -2,8 +2,7 @@
 use Rattle.std.specs.Prelude.{ℕ, Bool, true, ◌≡◌, ◌<◌, ◌/◌, ◌%◌, ◌||◌, ◌==◌, nat_le, List, length, slice_index_or, get_or}
 use Rattle.std.specs.Int.{bit_at}
 use Rattle.dft_netlist.specs.declared.ids.NetId.{NetId}
-use Rattle.dft_logic.specs.declared.circuit.Circuit.{Circuit}
-use Rattle.dft_logic.specs.Circuit.{flag_at}
+use Rattle.dft_logic.specs.Circuit.{Circuit, flag_at}
 use Rattle.dft_sweep.specs.declared.marks.Marks.{Marks}
 
 -- the place of a net in the order, by net
@@ -16,7 +15,7 @@ net_at order place = slice_index_or order place (record { 0 = 0 })
 
 -- each net of the order is told its place
 abbrev pub ArePlaces : Circuit → (places : List ℕ) → Type 0
-ArePlaces x places = (j : ℕ) → j < length x.order.items → place_at places (net_at x.order.items j).0 ≡ j
+ArePlaces x places = (j : ℕ) → j < length x.order → place_at places (net_at x.order j).0 ≡ j
 
 -- whether a marked net may stand at a place, by the bits of words: past the last word one may
 abbrev pub is_busy : (busy : List ℕ) → (place : ℕ) → Bool

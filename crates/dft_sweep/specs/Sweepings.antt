@@ -23,4 +23,4 @@ pub record Sweeping (ops : List Op) (needed : List Bool) (means : ℕ → Meanin
 
 -- the same of the circuit of a field, its values and its marks
 abbrev pub AreSwept : Field → (values : List Tri) → Marks → (j : ℕ) → Type 0
-AreSwept f values m j = Sweeping f.circuit.now.ops.items f.needed.now (meaning_at f) (sources_of f.sources) f.circuit.now.order.items values m.marked.items j
+AreSwept f values m j = Sweeping f.circuit.now.ops f.needed.now (meaning_at f) (sources_of f.sources) f.circuit.now.order values m.marked.items j

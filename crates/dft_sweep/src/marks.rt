@@ -146,7 +146,7 @@ impl Marks {
 /// The place of each net in a circuit's order, by net.
 pub fn places(alloc: Global, circuit: &Circuit) -> Result<Vec<u32>, AllocError>
     requires circuit { IsCircuit circuit.now }
-    requires few { length circuit.now.ops.items < 2 ^ 32 }
+    requires few { length circuit.now.ops < 2 ^ 32 }
     ensures { IfOk result (λ places. ArePlaces circuit.now places.items) }
 {
     let mut places = zeros(alloc, circuit.ops.len())?;

@@ -30,7 +30,7 @@ fn stuck_at(stuck: Option<Stuck>, net: NetId) -> Option<bool>
 // The value that a net has from its driver, or because it is stuck.
 fn value_of(field: &Field<'_>, net: NetId, values: &[Tri]) -> Tri
     requires circuit { IsCircuit field.now.circuit.now }
-    requires live { net.0 < length field.now.circuit.now.ops.items }
+    requires live { net.0 < length field.now.circuit.now.ops }
     ensures { result ≡ value_given (sources_of field.now.sources) (spec.value_at values.now) net.0 (meaning_at field.now net.0) }
 {
     match stuck_at(field.stuck, net) {
@@ -61,13 +61,13 @@ pub fn mark_all(places: &[u32], needed: &[bool], nets: &[u32], marks: &mut Marks
 // Gives a net its value, and marks its needed readers where that is new. Whether it is.
 fn renew(field: &Field<'_>, net: NetId, values: &mut [Tri], marks: &mut Marks) -> bool
     requires circuit { IsCircuit field.now.circuit.now }
-    requires live { net.0 < length field.now.circuit.now.ops.items }
-    requires values { length values.old ≡ length field.now.circuit.now.ops.items }
-    requires marked { length marks.old.marked.items ≡ length field.now.circuit.now.ops.items }
+    requires live { net.0 < length field.now.circuit.now.ops }
+    requires values { length values.old ≡ length field.now.circuit.now.ops }
+    requires marked { length marks.old.marked.items ≡ length field.now.circuit.now.ops }
     ensures size { length marks.new.marked.items ≡ length marks.old.marked.items }
     ensures given { (k : ℕ) → is_up marks.new.marked.items k ≡ false → (k ≡ net.0) ⊎ IsGiven field.now values.old k → IsGiven field.now values.new k }
     ensures lowered { (k : ℕ) → is_up marks.new.marked.items k ≡ false → is_up marks.old.marked.items k ≡ false }
-    ensures raised { (k : ℕ) → is_up marks.new.marked.items k ≡ true → (is_up marks.old.marked.items k ≡ true) ⊎ Has (reads (meaning (op_at field.now.circuit.now.ops.items k))) net.0 }
+    ensures raised { (k : ℕ) → is_up marks.new.marked.items k ≡ true → (is_up marks.old.marked.items k ≡ true) ⊎ Has (reads (meaning (op_at field.now.circuit.now.ops k))) net.0 }
     ensures none { result ≡ false → (k : ℕ) → is_up marks.old.marked.items k ≡ false → is_up marks.new.marked.items k ≡ false }
     ensures busy { AreBusy field.now.places.now marks.old → AreBusy field.now.places.now marks.new }
 {
@@ -84,9 +84,9 @@ fn renew(field: &Field<'_>, net: NetId, values: &mut [Tri], marks: &mut Marks) -
 // Gives a net its value, if it is needed, and marks its needed readers where that is new.
 fn refresh_one(field: &Field<'_>, net: NetId, values: &mut [Tri], marks: &mut Marks)
     requires circuit { IsCircuit field.now.circuit.now }
-    requires live { net.0 < length field.now.circuit.now.ops.items }
-    requires values { length values.old ≡ length field.now.circuit.now.ops.items }
-    requires marked { length marks.old.marked.items ≡ length field.now.circuit.now.ops.items }
+    requires live { net.0 < length field.now.circuit.now.ops }
+    requires values { length values.old ≡ length field.now.circuit.now.ops }
+    requires marked { length marks.old.marked.items ≡ length field.now.circuit.now.ops }
     ensures size { length marks.new.marked.items ≡ length marks.old.marked.items }
     ensures given { (k : ℕ) → is_up marks.new.marked.items k ≡ false → (k ≡ net.0) ⊎ IsGiven field.now values.old k → IsGiven field.now values.new k }
     ensures lowered { (k : ℕ) → is_up marks.new.marked.items k ≡ false → is_up marks.old.marked.items k ≡ false }
@@ -100,9 +100,9 @@ fn refresh_one(field: &Field<'_>, net: NetId, values: &mut [Tri], marks: &mut Ma
 // Gives each of these nets its value, if it is needed, and marks the needed readers of those that change.
 fn refresh(field: &Field<'_>, nets: &[u32], values: &mut [Tri], marks: &mut Marks)
     requires circuit { IsCircuit field.now.circuit.now }
-    requires live { (k : ℕ) → Has nets.now k → k < length field.now.circuit.now.ops.items }
-    requires values { length values.old ≡ length field.now.circuit.now.ops.items }
-    requires marked { length marks.old.marked.items ≡ length field.now.circuit.now.ops.items }
+    requires live { (k : ℕ) → Has nets.now k → k < length field.now.circuit.now.ops }
+    requires values { length values.old ≡ length field.now.circuit.now.ops }
+    requires marked { length marks.old.marked.items ≡ length field.now.circuit.now.ops }
     ensures size { length marks.new.marked.items ≡ length marks.old.marked.items }
     ensures given { ((k : ℕ) → is_up marks.old.marked.items k ≡ false → Has nets.now k ⊎ IsGiven field.now values.old k) → (k : ℕ) → is_up marks.new.marked.items k ≡ false → IsGiven field.now values.new k }
     ensures busy { AreBusy field.now.places.now marks.old → AreBusy field.now.places.now marks.new }
@@ -115,13 +115,13 @@ fn refresh(field: &Field<'_>, nets: &[u32], values: &mut [Tri], marks: &mut Mark
 // Evaluates a net if it is marked, and takes its mark away.
 fn settle_marked(field: &Field<'_>, net: NetId, values: &mut [Tri], marks: &mut Marks)
     requires circuit { IsCircuit field.now.circuit.now }
-    requires live { net.0 < length field.now.circuit.now.ops.items }
-    requires values { length values.old ≡ length field.now.circuit.now.ops.items }
-    requires marked { length marks.old.marked.items ≡ length field.now.circuit.now.ops.items }
+    requires live { net.0 < length field.now.circuit.now.ops }
+    requires values { length values.old ≡ length field.now.circuit.now.ops }
+    requires marked { length marks.old.marked.items ≡ length field.now.circuit.now.ops }
     requires given { (k : ℕ) → is_up marks.old.marked.items k ≡ false → IsGiven field.now values.old k }
     ensures size { length marks.new.marked.items ≡ length marks.old.marked.items }
     ensures given { (k : ℕ) → is_up marks.new.marked.items k ≡ false → IsGiven field.now values.new k }
-    ensures raised { (k : ℕ) → is_up marks.new.marked.items k ≡ true → ((is_up marks.old.marked.items k ≡ true) × (k ≡ net.0 → ⊥)) ⊎ Has (reads (meaning (op_at field.now.circuit.now.ops.items k))) net.0 }
+    ensures raised { (k : ℕ) → is_up marks.new.marked.items k ≡ true → ((is_up marks.old.marked.items k ≡ true) × (k ≡ net.0 → ⊥)) ⊎ Has (reads (meaning (op_at field.now.circuit.now.ops k))) net.0 }
     ensures busy { AreBusy field.now.places.now marks.old → AreBusy field.now.places.now marks.new }
 {
     if marks.marked[net.0 as usize] {
@@ -134,8 +134,8 @@ fn settle_marked(field: &Field<'_>, net: NetId, values: &mut [Tri], marks: &mut 
 fn sweep(field: &Field<'_>, values: &mut [Tri], marks: &mut Marks)
     requires circuit { IsCircuit field.now.circuit.now }
     requires places { ArePlaces field.now.circuit.now field.now.places.now }
-    requires values { length values.old ≡ length field.now.circuit.now.ops.items }
-    requires marked { length marks.old.marked.items ≡ length field.now.circuit.now.ops.items }
+    requires values { length values.old ≡ length field.now.circuit.now.ops }
+    requires marked { length marks.old.marked.items ≡ length field.now.circuit.now.ops }
     requires busy { AreBusy field.now.places.now marks.old }
     requires given { (k : ℕ) → is_up marks.old.marked.items k ≡ false → IsGiven field.now values.old k }
     ensures size { length marks.new.marked.items ≡ length marks.old.marked.items }
@@ -154,9 +154,9 @@ fn sweep(field: &Field<'_>, values: &mut [Tri], marks: &mut Marks)
 pub fn settle(field: &Field<'_>, nets: &[u32], values: &mut [Tri], marks: &mut Marks)
     requires circuit { IsCircuit field.now.circuit.now }
     requires places { ArePlaces field.now.circuit.now field.now.places.now }
-    requires live { (k : ℕ) → Has nets.now k → k < length field.now.circuit.now.ops.items }
-    requires values { length values.old ≡ length field.now.circuit.now.ops.items }
-    requires marked { length marks.old.marked.items ≡ length field.now.circuit.now.ops.items }
+    requires live { (k : ℕ) → Has nets.now k → k < length field.now.circuit.now.ops }
+    requires values { length values.old ≡ length field.now.circuit.now.ops }
+    requires marked { length marks.old.marked.items ≡ length field.now.circuit.now.ops }
     requires busy { AreBusy field.now.places.now marks.old }
     requires near { (k : ℕ) → is_up marks.old.marked.items k ≡ false → Has nets.now k ⊎ IsGiven field.now values.old k }
     ensures size { length marks.new.marked.items ≡ length marks.old.marked.items }

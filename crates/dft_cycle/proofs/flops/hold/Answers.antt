@@ -43,15 +43,15 @@ loop-latch-preserved c =
     let values : ℕ → Tri = value_at c.args.values.now in
     let named : xs ≡ list_at x.holders d = c.list_of-latch-items.ensures in
     let own = holder_listed x d place xs c.requires.circuit named (has_item xs c.loop-latch.latch-index 0 c.loop-latch-test.true) in
-    let less : place < length x.latches.items = own.0 in
+    let less : place < length x.latches = own.0 in
     let live : place < length c.loop-latch.held = (let e = c.loop-latch.auto.held ∙ c.requires.held in omega arith) in
     let old : Tri = c.value_at-old.result in
     let read : old ≡ get_or c.loop-latch.held place Zero = c.value_at-old.ensures ∙ get_or_default c.loop-latch.held place Unknown Zero live in
-    let value : c.held_value-value.result ≡ held_by (latch_at x.latches.items place) d values old =
-    c.held_value-value.ensures ∙ ap (λ (k : Option Latch). held_by (latch_of k) d values old) (get_or_read x.latches.items place c.index.result.now less c.index.ensures None) in
+    let value : c.held_value-value.result ≡ held_by (latch_at x.latches place) d values old =
+    c.held_value-value.ensures ∙ ap (λ (k : Option Latch). held_by (latch_of k) d values old) (get_or_read x.latches place c.index.result.now less c.index.ensures None) in
     record {
-      written = listed_more (length x.latches.items) c.args.held.now c.loop-latch.held (λ k was. held_by (latch_at x.latches.items k) d values was) xs c.loop-latch.latch-index place 0 c.held_value-value.result refl c.loop-latch-test.true live
-          c.loop-latch.invariant.written (value ∙ held_once (latch_at x.latches.items place) d values old (value_at c.args.held.now place) own.1);
+      written = listed_more (length x.latches) c.args.held.now c.loop-latch.held (λ k was. held_by (latch_at x.latches k) d values was) xs c.loop-latch.latch-index place 0 c.held_value-value.result refl c.loop-latch-test.true live
+          c.loop-latch.invariant.written (value ∙ held_once (latch_at x.latches place) d values old (value_at c.args.held.now place) own.1);
       same = λ h. elim c.if-changed.branch [
         | then-changed w ↦ (let p = w.changed-is in let q = w.if-changed.true in absurd (cc))
         | else-changed w ↦ write_same c.loop-latch.held place c.held_value-value.result live (w.differ-changed.ensures.same (sym w.changed-is ∙ h) ∙ read) ∙ c.loop-latch.invariant.same w.if-changed.false

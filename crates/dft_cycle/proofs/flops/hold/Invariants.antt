@@ -8,6 +8,6 @@ use Rattle.dft_cycle.proofs.flops.hold.Given as goal
 
 abbrev pub invariant-loop-latch : goal.invariant-loop-latch
 invariant-loop-latch l = record {
-  written : Listed (length l.circuit.latches.items) l.initial.held l.held (λ c old. held_by (latch_at l.circuit.latches.items c) l.fn.domain.0 (value_at l.values) old) (drop l.latch-index l.latch-items);
+  written : Listed (length l.circuit.latches) l.initial.held l.held (λ c old. held_by (latch_at l.circuit.latches c) l.fn.domain.0 (value_at l.values) old) (drop l.latch-index l.latch-items);
   same : l.changed ≡ false → l.held ≡ l.initial.held;
 }

@@ -43,10 +43,10 @@ loop-cell-preserved c =
     let values : ℕ → Tri = value_at c.args.values.now in
     let named : xs ≡ list_at x.cells d = c.list_of-cell-items.ensures in
     let own = cell_listed x d place xs c.requires.circuit named (has_item xs c.loop-cell.cell-index 0 c.loop-cell-test.true) in
-    let less : place < length x.flops.items = own.0 in
+    let less : place < length x.flops = own.0 in
     let live : place < length c.loop-cell.next = (let e = c.loop-cell.auto.next ∙ c.requires.next in omega arith) in
-    let cell : Cell = cell_at (map cell_of x.flops.items) place in
-    let value : c.next.result ≡ next_at cell ports values = c.next.ensures ∙ ap (λ (f : FlipFlop). next_at (cell_of f) ports values) (get_or_read x.flops.items place c.index.result.now less c.index.ensures c.index.result.now)
-    ∙ ap (λ (k : Cell). next_at k ports values) (cell_read x.flops.items place c.index.result.now less) in
-    listed_more (length x.flops.items) c.args.next.now c.loop-cell.next (λ k old. next_by (cell_at (map cell_of x.flops.items) k) d ports values old) xs c.loop-cell.cell-index place 0 c.next.result refl c.loop-cell-test.true live
+    let cell : Cell = cell_at (map cell_of x.flops) place in
+    let value : c.next.result ≡ next_at cell ports values = c.next.ensures ∙ ap (λ (f : FlipFlop). next_at (cell_of f) ports values) (get_or_read x.flops place c.index.result.now less c.index.ensures c.index.result.now)
+    ∙ ap (λ (k : Cell). next_at k ports values) (cell_read x.flops place c.index.result.now less) in
+    listed_more (length x.flops) c.args.next.now c.loop-cell.next (λ k old. next_by (cell_at (map cell_of x.flops) k) d ports values old) xs c.loop-cell.cell-index place 0 c.next.result refl c.loop-cell-test.true live
     c.loop-cell.invariant (next_listed cell d ports values c.next.result (value_at c.args.next.now place) own.1 value)

@@ -8,4 +8,4 @@ use Rattle.dft_cycle.proofs.flops.take_next.Given as goal
 
 abbrev pub invariant-loop-cell : goal.invariant-loop-cell
 invariant-loop-cell l =
-    Listed (length l.circuit.flops.items) l.initial.next l.next (λ c old. next_by (cell_at (map cell_of l.circuit.flops.items) c) l.fn.domain.0 (value_at l.ports) (value_at l.values) old) (drop l.cell-index l.cell-items)
+    Listed (length l.circuit.flops) l.initial.next l.next (λ c old. next_by (cell_at (map cell_of l.circuit.flops) c) l.fn.domain.0 (value_at l.ports) (value_at l.values) old) (drop l.cell-index l.cell-items)

@@ -37,17 +37,17 @@ loop-cell-preserved c =
     let net : ℕ = c.args.net.0 in
     let old : List Tri = c.loop-cell.cells.values in
     let named : xs ≡ list_at x.followers net = c.list_of-cell-items.ensures in
-    let less : place < length x.flops.items = follower_listed x net place xs c.requires.circuit named (has_item xs c.loop-cell.cell-index 0 c.loop-cell-test.true) in
+    let less : place < length x.flops = follower_listed x net place xs c.requires.circuit named (has_item xs c.loop-cell.cell-index 0 c.loop-cell-test.true) in
     let live : place < length old = omega (arith, c.loop-cell.invariant.1.1, c.requires.cells, less) in
-    let force : ℕ → Option Force = λ k. (cell_at (map cell_of x.flops.items) k).force in
+    let force : ℕ → Option Force = λ k. (cell_at (map cell_of x.flops) k).force in
     let bit : Tri = value_at old place in
     let given : Cell → Tri = λ cell. acted cell.force net c.args.value bit in
-    let value : c.acted_on.result ≡ acted (force place) net c.args.value bit = (rw c.at-bit.ensures at c.acted_on.ensures) ∙ ap (λ (f : FlipFlop). given (cell_of f)) (get_or_read x.flops.items place c.index.result.now less c.index.ensures c.index.result.now)
-    ∙ ap given (cell_read x.flops.items place c.index.result.now less) in
+    let value : c.acted_on.result ≡ acted (force place) net c.args.value bit = (rw c.at-bit.ensures at c.acted_on.ensures) ∙ ap (λ (f : FlipFlop). given (cell_of f)) (get_or_read x.flops place c.index.result.now less c.index.ensures c.index.result.now)
+    ∙ ap given (cell_read x.flops place c.index.result.now less) in
     let start : List Tri = c.args.cells.now.values in
-    let P : List Tri → Type 0 = λ l. Listed (length x.flops.items) start l (λ k old. acted (force k) net c.args.value old) (drop (c.loop-cell.cell-index + 1) xs) in (
+    let P : List Tri → Type 0 = λ l. Listed (length x.flops) start l (λ k old. acted (force k) net c.args.value old) (drop (c.loop-cell.cell-index + 1) xs) in (
       subst P (sym c.set.ensures.values)
-          (listed_more (length x.flops.items) start old (λ k old. acted (force k) net c.args.value old) xs c.loop-cell.cell-index place 0 c.acted_on.result refl c.loop-cell-test.true live c.loop-cell.invariant.0
-          (value ∙ acted_once (length x.flops.items) start old force net place c.args.value (drop c.loop-cell.cell-index xs) less c.loop-cell.invariant.0)),
+          (listed_more (length x.flops) start old (λ k old. acted (force k) net c.args.value old) xs c.loop-cell.cell-index place 0 c.acted_on.result refl c.loop-cell-test.true live c.loop-cell.invariant.0
+          (value ∙ acted_once (length x.flops) start old force net place c.args.value (drop c.loop-cell.cell-index xs) less c.loop-cell.invariant.0)),
       (c.set.ensures.layout ∙ c.loop-cell.invariant.1.0, ap (λ (l : List Tri). length l) c.set.ensures.values ∙ length-set old place c.acted_on.result ∙ c.loop-cell.invariant.1.1),
     )

@@ -6,4 +6,4 @@ use Rattle.dft_logic.specs.Circuit.{AreOrdered}
 use Rattle.dft_cycle.proofs.plans.draw.Goals as goal
 
 pub settle_list-requires-clause-ordered : goal.settle_list-requires-clause-ordered
-settle_list-requires-clause-ordered c = subst (λ (l : List NetId). AreOrdered c.args.phase.circuit.now.ops.items [] (numbers_of l)) (sym c.deref.ensures.value) c.requires.circuit.after
+settle_list-requires-clause-ordered c = subst (λ (l : List NetId). AreOrdered c.args.phase.circuit.now.ops [] (numbers_of l)) (sym c.deref.ensures.value) c.requires.circuit.after

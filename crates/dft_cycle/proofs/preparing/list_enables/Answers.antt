@@ -9,5 +9,5 @@ use Rattle.dft_cycle.proofs.preparing.list_enables.Goals as goal
 pub returns-clause-all : goal.returns-clause-all
 returns-clause-all c = λ place k less live has.
     (let marks = (rw c.deref.ensures.value at c.mark_entries.ensures.each) place less in
-    let N : Entry → Type 0 = λ e. Has (entry_needs (cell_at (map cell_of c.args.circuit.now.flops.items) place) e) k in
+    let N : Entry → Type 0 = λ e. Has (entry_needs (cell_at (map cell_of c.args.circuit.now.flops) place) e) k in
     c.list_marked.ensures.listed k (marks.all k (omega (arith, c.requires.marked, live)) (subst N (sym (c.requires.keep place)) has)))

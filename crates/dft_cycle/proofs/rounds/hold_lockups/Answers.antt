@@ -16,10 +16,10 @@ loop-level-preserved c = record {
 }
 
 pub returns-then-not-round-clause-held : goal.returns-then-not-round-clause-held
-returns-then-not-round-clause-held c = λ view views. all_held c.args.phase.circuit.now view c.loop-level.held c.round.new.held (c.round.ensures.same c.if-not-round.true) (λ r. c.round.ensures.rises view r views) (length c.args.phase.circuit.now.ops.items)
+returns-then-not-round-clause-held c = λ view views. all_held c.args.phase.circuit.now view c.loop-level.held c.round.new.held (c.round.ensures.same c.if-not-round.true) (λ r. c.round.ensures.rises view r views) (length c.args.phase.circuit.now.ops)
 
 pub returns-clause-held : goal.returns-clause-held
 returns-clause-held c = λ view views net k e high source here low. c.loop-level.invariant.held view views net k e high source here (omega (arith, low))
 
 pub returns-then-not-has_latch-clause-held : goal.returns-then-not-has_latch-clause-held
-returns-then-not-has_latch-clause-held c = λ view views. no_latch_held c.args.phase.circuit.now view c.args.held.now (length c.args.phase.circuit.now.ops.items) c.requires.circuit (sym (ap (λ (latches : _). list_any (λ latch. is_some latch) latches) c.deref.ensures.value) ∙ sym c.has_latch.ensures ∙ c.if-not-has_latch.true)
+returns-then-not-has_latch-clause-held c = λ view views. no_latch_held c.args.phase.circuit.now view c.args.held.now (length c.args.phase.circuit.now.ops) c.requires.circuit (sym (ap (λ (latches : _). list_any (λ latch. is_some latch) latches) c.deref.ensures.value) ∙ sym c.has_latch.ensures ∙ c.if-not-has_latch.true)

@@ -17,7 +17,7 @@ loop-clock-preserved c =
     let clocks = c.args.views.phase.clocks.now in
     let j : ℕ = c.loop-clock.clock-index in
     let clock : NetId = get_or clocks j (record { 0 = 0 }) in
-    let live : clock.0 < length x.ops.items = c.requires.live j clock (slice_get-get_or clocks j (record { 0 = 0 }) c.loop-clock-test.true) in
+    let live : clock.0 < length x.ops = c.requires.live j clock (slice_get-get_or clocks j (record { 0 = 0 }) c.loop-clock-test.true) in
     elim c.if-flag_at.branch [
       | then-flag_at w ↦ record {
         next = λ view views right. rw w.next-is (next_more x p (value_at c.args.views.poss.now) view clocks c.args.views.held.now c.loop-clock.next w.take_next.new.next w.enter.new.values j clock.0 _ c.requires.circuit views

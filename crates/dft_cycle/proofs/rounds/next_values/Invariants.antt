@@ -9,9 +9,9 @@ use Rattle.dft_cycle.proofs.rounds.next_values.Given as goal
 
 abbrev pub invariant-loop-clock : goal.invariant-loop-clock
 invariant-loop-clock l = record {
-  next : (view : ℕ → ℕ → Tri) → AreViews (logic_at l.views.phase.circuit.now) (pulse_at l.views.phase.pulse) (value_at l.views.poss.now) view → IsHeld l.views.phase.circuit.now view l.views.held.now (length l.views.phase.circuit.now.ops.items) →
+  next : (view : ℕ → ℕ → Tri) → AreViews (logic_at l.views.phase.circuit.now) (pulse_at l.views.phase.pulse) (value_at l.views.poss.now) view → IsHeld l.views.phase.circuit.now view l.views.held.now (length l.views.phase.circuit.now.ops) →
       HasNext l.views.phase.circuit.now (pulse_at l.views.phase.pulse) view l.views.phase.clocks.now l.clock-index l.next;
   given : (k : ℕ) → GivenIn l.views.phase.circuit.now (pulse_at l.views.phase.pulse) l.views.poss.now l.views.held.now l.last.0 l.values k;
   clear : (k : ℕ) → flag_at l.marked k ≡ false;
-  live : 0 < length l.views.phase.circuit.now.ops.items → l.last.0 < length l.views.phase.circuit.now.ops.items;
+  live : 0 < length l.views.phase.circuit.now.ops → l.last.0 < length l.views.phase.circuit.now.ops;
 }

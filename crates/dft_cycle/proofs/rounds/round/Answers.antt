@@ -13,7 +13,7 @@ pub change_view-requires-clause-near : goal.change_view-requires-clause-near
 change_view-requires-clause-near c = λ k.
     (let x = c.args.phase.circuit.now in
     let clock : NetId = get_or c.args.phase.clocks.now c.loop-clock.clock-index (record { 0 = 0 }) in
-    let live : clock.0 < length x.ops.items = c.requires.live c.loop-clock.clock-index clock (slice_get-get_or c.args.phase.clocks.now c.loop-clock.clock-index (record { 0 = 0 }) c.loop-clock-test.true) in
+    let live : clock.0 < length x.ops = c.requires.live c.loop-clock.clock-index clock (slice_get-get_or c.args.phase.clocks.now c.loop-clock.clock-index (record { 0 = 0 }) c.loop-clock-test.true) in
     moved x (pulse_at c.args.phase.pulse) c.args.poss.now c.loop-clock.held c.loop-clock.values c.loop-clock.last.0 clock.0 k c.requires.circuit (c.loop-clock.invariant.live (omega arith)) live (c.loop-clock.invariant.near k))
 
 pub hold-moved-requires-clause-live : goal.hold-moved-requires-clause-live
@@ -26,7 +26,7 @@ loop-clock-init c = record {
   near = λ k. inr (c.settle_again.ensures.given k);
   ready = ready_in c.args.phase.circuit.now (pulse_at c.args.phase.pulse) c.args.poss.now c.args.held.now c.settle_again.new.values c.first-last.result.0 c.settle_again.ensures.given;
   clear = c.settle_again.ensures.clear;
-  live = λ some. c.first-last.ensures (length c.args.phase.circuit.now.ops.items) c.requires.live some;
+  live = λ some. c.first-last.ensures (length c.args.phase.circuit.now.ops) c.requires.live some;
 }
 
 pub loop-clock-preserved : goal.loop-clock-preserved
@@ -35,7 +35,7 @@ loop-clock-preserved c =
     let x = c.args.phase.circuit.now in
     let p = pulse_at c.args.phase.pulse in
     let clock : NetId = get_or c.args.phase.clocks.now c.loop-clock.clock-index (record { 0 = 0 }) in
-    let live : clock.0 < length x.ops.items = c.requires.live c.loop-clock.clock-index clock (slice_get-get_or c.args.phase.clocks.now c.loop-clock.clock-index (record { 0 = 0 }) c.loop-clock-test.true) in
+    let live : clock.0 < length x.ops = c.requires.live c.loop-clock.clock-index clock (slice_get-get_or c.args.phase.clocks.now c.loop-clock.clock-index (record { 0 = 0 }) c.loop-clock-test.true) in
     record {
       rises = rises_more x p (value_at c.args.poss.now) c.args.phase.clocks.now c.args.held.now c.loop-clock.held c.hold-moved.new.held c.change_view.new.values c.loop-clock.clock-index clock.0 _
           c.requires.circuit (λ view. record { ports = λ k. refl; clocks = λ e. refl; flops = λ k. refl; lockups = λ k e high source. refl }) c.change_view.ensures.given c.hold-moved.ensures.each refl c.loop-clock.invariant.rises;

@@ -14,5 +14,5 @@ invariant-loop-clock l = record {
   near : (k : ℕ) → Has (list_at l.phase.circuit.now.leaves l.last.0) k ⊎ GivenIn l.phase.circuit.now (pulse_at l.phase.pulse) l.poss l.held l.last.0 l.values k;
   ready : IsReady l.phase.circuit.now l.values;
   clear : (k : ℕ) → flag_at l.marked k ≡ false;
-  live : 0 < length l.phase.circuit.now.ops.items → l.last.0 < length l.phase.circuit.now.ops.items;
+  live : 0 < length l.phase.circuit.now.ops → l.last.0 < length l.phase.circuit.now.ops;
 }

@@ -5,4 +5,4 @@ use Rattle.dft_cycle.specs.Steps.{step_nets}
 use Rattle.dft_cycle.proofs.steps.settle_steps.Given as goal
 
 abbrev pub invariant-loop-step : goal.invariant-loop-step
-invariant-loop-step l = Listed l.circuit.ops.items (before_base (pulse_at l.pulse)) (step_nets l.steps) l.values l.step-index
+invariant-loop-step l = Listed l.circuit.ops (before_base (pulse_at l.pulse)) (step_nets l.steps) l.values l.step-index

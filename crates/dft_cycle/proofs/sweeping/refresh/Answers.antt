@@ -9,7 +9,7 @@ renew-moved-requires-clause-live c = c.requires.live _ (has_item c.args.nets.now
 
 pub loop-net-preserved : goal.loop-net-preserved
 loop-net-preserved c = record {
-  given = refreshed_more c.args.circuit.now.ops.items _ c.args.nets.now c.args.values.now c.loop-net.values c.renew-moved.new.values c.args.marked.now c.loop-net.marked c.renew-moved.new.marked c.loop-net.any c.loop-net.net-index
+  given = refreshed_more c.args.circuit.now.ops _ c.args.nets.now c.args.values.now c.loop-net.values c.renew-moved.new.values c.args.marked.now c.loop-net.marked c.renew-moved.new.marked c.loop-net.any c.loop-net.net-index
       (get_or c.args.nets.now c.loop-net.net-index 0) 0 c.loop-net-test.true refl c.loop-net.invariant c.renew-moved.ensures.given c.renew-moved.ensures.lowered;
   none = λ h. elim c.if-any.branch [
     | then-any w ↦ (let p = w.any-is in let q = w.if-any.true in absurd (cc))

@@ -5,4 +5,4 @@ use Rattle.dft_cycle.proofs.Sweepings.{Refreshing}
 use Rattle.dft_cycle.proofs.sweeping.refresh.Given as goal
 
 abbrev pub invariant-loop-net : goal.invariant-loop-net
-invariant-loop-net l = Refreshing l.circuit.ops.items (view_base (map cell_of l.circuit.flops.items) l.view) l.nets l.initial.values l.values l.initial.marked l.marked l.any l.net-index
+invariant-loop-net l = Refreshing l.circuit.ops (view_base (map cell_of l.circuit.flops) l.view) l.nets l.initial.values l.values l.initial.marked l.marked l.any l.net-index

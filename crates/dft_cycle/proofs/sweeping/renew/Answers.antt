@@ -17,8 +17,8 @@ returns-clause-given c = λ k down before.
     let net : ℕ = c.args.net.0 in
     let live : net < length c.args.values.now = (let less = c.requires.live in let e = c.requires.values in omega arith) in
     let readers : c.list_of-readers.result.now ≡ list_at x.readers net = c.list_of-readers.ensures in
-    let base : Supply = view_base (map cell_of x.flops.items) c.args.view.now in
+    let base : Supply = view_base (map cell_of x.flops) c.args.view.now in
     let given : Op → Tri = λ o. value_given (leaves_from base (value_at c.args.values.now)) (value_at c.args.values.now) net (meaning o) in
     let value : c.op_value-value.result ≡ given c.index.result.now = rw c.deref.ensures.value at c.op_value-value.ensures in
-    written x.ops.items base c.args.values.now net k c.op_value-value.result live (value ∙ ap given (get_or_read x.ops.items net c.index.result.now c.requires.live c.index.ensures Free))
+    written x.ops base c.args.values.now net k c.op_value-value.result live (value ∙ ap given (get_or_read x.ops net c.index.result.now c.requires.live c.index.ensures Free))
     (blind x net k c.list_of-readers.result.now c.requires.circuit c.requires.live readers (c.mark_all.ensures.lowered k down).1) before)

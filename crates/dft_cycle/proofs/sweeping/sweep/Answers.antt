@@ -9,9 +9,9 @@ loop-net-init c = sweeping_starts c.args.circuit.now _ _ _ c.requires.circuit c.
 
 pub loop-net-preserved : goal.loop-net-preserved
 loop-net-preserved c =
-    let items : c.deref-net-items.result.now ≡ c.args.circuit.now.order.items = c.deref-net-items.ensures.value in
-    let less : c.loop-net.net-index < length c.args.circuit.now.order.items = (let here = c.loop-net-test.true in omega (arith, ap length items)) in
-    sweeping_more c.args.circuit.now.ops.items _ c.args.circuit.now.order.items c.loop-net.values c.settle_marked.new.values c.loop-net.marked c.settle_marked.new.marked c.loop-net.net-index
+    let items : c.deref-net-items.result.now ≡ c.args.circuit.now.order = c.deref-net-items.ensures.value in
+    let less : c.loop-net.net-index < length c.args.circuit.now.order = (let here = c.loop-net-test.true in omega (arith, ap length items)) in
+    sweeping_more c.args.circuit.now.ops _ c.args.circuit.now.order c.loop-net.values c.settle_marked.new.values c.loop-net.marked c.settle_marked.new.marked c.loop-net.net-index
     (get_or c.deref-net-items.result.now c.loop-net.net-index (record { 0 = 0 })) (record { 0 = 0 }) less (ap (λ (l : List NetId). get_or l c.loop-net.net-index (record { 0 = 0 })) items)
     c.loop-net.invariant c.settle_marked.ensures.given c.settle_marked.ensures.raised
 

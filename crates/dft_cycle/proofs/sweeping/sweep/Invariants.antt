@@ -5,4 +5,4 @@ use Rattle.dft_cycle.proofs.Sweepings.{Sweeping}
 use Rattle.dft_cycle.proofs.sweeping.sweep.Given as goal
 
 abbrev pub invariant-loop-net : goal.invariant-loop-net
-invariant-loop-net l = Sweeping l.circuit.ops.items (view_base (map cell_of l.circuit.flops.items) l.view) l.circuit.order.items l.values l.marked l.net-index
+invariant-loop-net l = Sweeping l.circuit.ops (view_base (map cell_of l.circuit.flops) l.view) l.circuit.order l.values l.marked l.net-index

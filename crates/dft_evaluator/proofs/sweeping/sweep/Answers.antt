@@ -5,7 +5,7 @@ use Rattle.dft_evaluator.proofs.sweeping.sweep.Goals as goal
 
 pub loop-net-preserved : goal.loop-net-preserved
 loop-net-preserved c =
-    step c.args.circuit.now.ops.items c.args.wides.now c.args.circuit.now.order.items c.deref-net-items.result.now c.loop-net.wides c.loop-net.net-index _ _
+    step c.args.circuit.now.ops c.args.wides.now c.args.circuit.now.order c.deref-net-items.result.now c.loop-net.wides c.loop-net.net-index _ _
     c.deref-net-items.ensures.value c.loop-net-test.true (c.loop-net.auto.wides ∙ c.requires.nets) c.loop-net.invariant c.index.ensures c.op_wide-wide.ensures
 
 pub returns-clause-settled : goal.returns-clause-settled

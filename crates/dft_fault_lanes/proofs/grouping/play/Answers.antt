@@ -13,7 +13,7 @@ use Rattle.dft_fault_lanes.proofs.grouping.play.Goals as goal
 
 pub act-requires-clause-free : goal.act-requires-clause-free
 act-requires-clause-free c = λ up. rw c.deref-2.ensures.value
-    (none_acts c.args.group.circuit.now.flops.items c.set_inputs.new.ports c.args.plan.now.forces.items c.requires.room.forces ((rw c.deref.ensures.value at c.are_ones-free.ensures) up))
+    (none_acts c.args.group.circuit.now.flops c.set_inputs.new.ports c.args.plan.now.forces.items c.requires.room.forces ((rw c.deref.ensures.value at c.are_ones-free.ensures) up))
 
 pub act-requires-clause-count : goal.act-requires-clause-count
 act-requires-clause-count c = rw c.deref-2.ensures.value c.requires.cells
@@ -32,10 +32,10 @@ pulse-requires-clause-count c = c.act.ensures.count ∙ c.requires.cells
 
 pub pulse-requires-clause-free : goal.pulse-requires-clause-free
 pulse-requires-clause-free c = λ up.
-    none_acts c.args.group.circuit.now.flops.items c.set_inputs.new.ports c.args.plan.now.forces.items c.requires.room.forces ((rw c.deref.ensures.value at c.are_ones-free.ensures) (sym c.strobe.ensures.free ∙ up))
+    none_acts c.args.group.circuit.now.flops c.set_inputs.new.ports c.args.plan.now.forces.items c.requires.room.forces ((rw c.deref.ensures.value at c.are_ones-free.ensures) (sym c.strobe.ensures.free ∙ up))
 
 pub pulse-requires-clause-idle : goal.pulse-requires-clause-idle
-pulse-requires-clause-idle c = idle_acted c.args.group.circuit.now.flops.items c.set_inputs.new.ports c.args.cells.now.values c.act.new.cells.values (rw c.deref-2.ensures.value at c.act.ensures.acted) c.requires.idle
+pulse-requires-clause-idle c = idle_acted c.args.group.circuit.now.flops c.set_inputs.new.ports c.args.cells.now.values c.act.new.cells.values (rw c.deref-2.ensures.value at c.act.ensures.acted) c.requires.idle
 
 pub returns-clause-idle : goal.returns-clause-idle
 returns-clause-idle c = c.pulse.ensures.idle c.strobe.ensures.settled
@@ -55,8 +55,8 @@ returns-clause-steps c =
     let p = c.strobe.new.plan in
     let nets = numbers_of c.args.group.nets.now in
     let acts = c.args.acts.now in
-    lanes_step x (needs_of (length x.ops.items) p.marked.items) c.args.group.clamps.now (row_of nets (value_at c.args.ports.now) acts) c.args.vector c.set_inputs.new.ports p.pulsed.items
+    lanes_step x (needs_of (length x.ops) p.marked.items) c.args.group.clamps.now (row_of nets (value_at c.args.ports.now) acts) c.args.vector c.set_inputs.new.ports p.pulsed.items
     c.args.cells.now.values c.act.new.cells.values c.strobe.new.wides c.pulse.new.cells.values c.args.live.now c.pulse.new.live c.compare.new.live c.args.found.now c.compare.new.found c.set_inputs.ensures
     (λ net. c.strobe.ensures.plan.pulsing net ∙ ap (λ (ps : List Bool). pulse_on nets ps net) c.strobe.ensures.pulses ∙ pulse_on_acts nets acts net)
-    (λ values all same. covered_decides c.args.group.nets.now acts (length x.ops.items) p.marked.items c.args.vector 0 values all c.strobe.ensures.covered same)
+    (λ values all same. covered_decides c.args.group.nets.now acts (length x.ops) p.marked.items c.args.vector 0 values all c.strobe.ensures.covered same)
     (record { acted = rw c.deref-2.ensures.value at c.act.ensures.acted; settled = c.strobe.ensures.settled }) c.pulse.ensures.pulsed c.compare.ensures.compared

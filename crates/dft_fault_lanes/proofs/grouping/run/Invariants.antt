@@ -11,4 +11,4 @@ abbrev pub invariant-loop-vector : goal.invariant-loop-vector
 invariant-loop-vector l =
     Running l.group.circuit.now l.group.clamps.now (numbers_of l.group.nets.now) l.vectors l.ports l.cells.values l.live l.found l.vector
     × (AreWides l.wides × (AreWides l.later × (AreWides l.cells.values × (IsWide l.live (value_in l.live)
-    × (HasRoom l.group.circuit.now (length l.group.nets.now) l.plan × ((l.plan.made ≡ true → IsPlan l.group.circuit.now l.group.clamps.now l.cells.layout l.group.nets.now l.plan) × ((length l.cells.values ≡ length l.group.circuit.now.flops.items) × AreIdleUnknown l.group.circuit.now.flops.items l.cells.values)))))))
+    × (HasRoom l.group.circuit.now (length l.group.nets.now) l.plan × ((l.plan.made ≡ true → IsPlan l.group.circuit.now l.group.clamps.now l.cells.layout l.group.nets.now l.plan) × ((length l.cells.values ≡ length l.group.circuit.now.flops) × AreIdleUnknown l.group.circuit.now.flops l.cells.values)))))))

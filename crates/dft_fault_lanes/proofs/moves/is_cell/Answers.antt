@@ -7,4 +7,4 @@ use Rattle.dft_fault_lanes.proofs.moves.is_cell.Goals as goal
 
 pub returns : goal.returns
 returns c = λ up.
-    ap (λ (o : Option Clamp). shown_within o (op_at c.args.wiring.circuit.now.ops.items c.args.net.0)) (c.is_bound.ensures c.if-is_bound.false) ∙ (rw c.deref.ensures.value at c.is_driver.ensures) up
+    ap (λ (o : Option Clamp). shown_within o (op_at c.args.wiring.circuit.now.ops c.args.net.0)) (c.is_bound.ensures c.if-is_bound.false) ∙ (rw c.deref.ensures.value at c.is_driver.ensures) up

@@ -9,18 +9,18 @@ use Rattle.dft_fault_lanes.proofs.moves.leave_moving.Goals as goal
 
 pub loop-cell-init : goal.loop-cell-init
 loop-cell-init c =
-    moving_starts c.args.wiring.circuit.now.ops.items c.args.wiring.clamps.now c.args.flops.now c.args.wiring.steer c.args.pulsed.now c.args.cells.now.layout c.args.moves.now c.requires.rests
+    moving_starts c.args.wiring.circuit.now.ops c.args.wiring.clamps.now c.args.flops.now c.args.wiring.steer c.args.pulsed.now c.args.cells.now.layout c.args.moves.now c.requires.rests
 
 pub loop-cell-preserved : goal.loop-cell-preserved
 loop-cell-preserved c =
     let flops = c.args.flops.now in
     let cell : ℕ = c.loop-cell.cell in
     let less : cell < length flops = c.loop-cell-test.true in
-    let P : List Bool → Type 0 = λ m. MovingTo c.args.wiring.circuit.now.ops.items c.args.wiring.clamps.now flops c.args.wiring.steer c.args.pulsed.now c.args.cells.now.layout m (cell + 1) in
+    let P : List Bool → Type 0 = λ m. MovingTo c.args.wiring.circuit.now.ops c.args.wiring.clamps.now flops c.args.wiring.steer c.args.pulsed.now c.args.cells.now.layout m (cell + 1) in
     elim c.if-not-may_move.branch [
-      | then-not-may_move w ↦ subst P (sym w.moves-is) (moving_less c.args.wiring.circuit.now.ops.items c.args.wiring.clamps.now flops c.args.wiring.steer c.args.pulsed.now c.args.cells.now.layout c.loop-cell.moves w.leave_out.new.moves cell w.leave_out.ensures.fewer
+      | then-not-may_move w ↦ subst P (sym w.moves-is) (moving_less c.args.wiring.circuit.now.ops c.args.wiring.clamps.now flops c.args.wiring.steer c.args.pulsed.now c.args.cells.now.layout c.loop-cell.moves w.leave_out.new.moves cell w.leave_out.ensures.fewer
           (ap (λ (p : Place). flag_at w.leave_out.new.moves p.register) (sym w.place.ensures.at) ∙ w.leave_out.ensures.out) c.loop-cell.invariant)
-      | else-not-may_move w ↦ subst P (sym w.moves-is) (moving_more c.args.wiring.circuit.now.ops.items c.args.wiring.clamps.now flops c.args.wiring.steer c.args.pulsed.now c.args.cells.now.layout c.loop-cell.moves c.loop-cell.moves cell _ less
+      | else-not-may_move w ↦ subst P (sym w.moves-is) (moving_more c.args.wiring.circuit.now.ops c.args.wiring.clamps.now flops c.args.wiring.steer c.args.pulsed.now c.args.cells.now.layout c.loop-cell.moves c.loop-cell.moves cell _ less
           (get_or_default flops cell _ _ less) (λ r up. up) (λ up. c.may_move.ensures w.if-not-may_move.false) c.loop-cell.invariant)
     ]
 

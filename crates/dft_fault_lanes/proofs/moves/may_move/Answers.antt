@@ -10,6 +10,6 @@ use Rattle.dft_fault_lanes.proofs.moves.may_move.Goals as goal
 pub returns : goal.returns
 returns c = λ up.
     let l : Layout = c.args.cells.now.layout in
-    let M : Course → Type 0 = IsMoved c.args.wiring.circuit.now.ops.items c.args.wiring.clamps.now c.args.wiring.steer (cell_of c.args.flop.now) in
+    let M : Course → Type 0 = IsMoved c.args.wiring.circuit.now.ops c.args.wiring.clamps.now c.args.wiring.steer (cell_of c.args.flop.now) in
     let found = subst (λ (r : List ℕ). M (course_in r c.place-place.result.index)) c.register.ensures.cells (c.is_moved.ensures up) in
     (sym c.changes.ensures ∙ c.if-not-changes.false, subst (λ (p : Place). M (course_in (cells_at l.registers p.register) p.index)) c.place-place.ensures.at found)

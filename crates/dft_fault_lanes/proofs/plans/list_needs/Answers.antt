@@ -14,20 +14,20 @@ pub returns-clause-ordered : goal.returns-clause-ordered
 returns-clause-ordered c = c.list_marked.ensures.ordered c.mark_needed.ensures.closed
 
 pub returns-clause-steered : goal.returns-clause-steered
-returns-clause-steered c = needs_more (length c.args.circuit.now.ops.items) c.mark_reading.new.marked c.mark_needed.new.marked c.args.reading.steer.net.0 c.mark_needed.ensures.kept c.mark_reading.ensures.steered
+returns-clause-steered c = needs_more (length c.args.circuit.now.ops) c.mark_reading.new.marked c.mark_needed.new.marked c.args.reading.steer.net.0 c.mark_needed.ensures.kept c.mark_reading.ensures.steered
 
 pub returns-clause-enables : goal.returns-clause-enables
 returns-clause-enables c =
     let x = c.args.circuit.now in
-    let count : ℕ = length x.ops.items in
-    λ cell. all_wider (needs_of count c.mark_reading.new.marked) (needs_of count c.mark_needed.new.marked) (enable_needs (flop_at x.flops.items cell))
+    let count : ℕ = length x.ops in
+    λ cell. all_wider (needs_of count c.mark_reading.new.marked) (needs_of count c.mark_needed.new.marked) (enable_needs (flop_at x.flops cell))
     (λ k need. needs_more count c.mark_reading.new.marked c.mark_needed.new.marked k c.mark_needed.ensures.kept need) (c.mark_reading.ensures.enables cell)
 
 pub returns-clause-reads : goal.returns-clause-reads
 returns-clause-reads c =
     let x = c.args.circuit.now in
-    let count : ℕ = length x.ops.items in
-    λ cell stays ports values steers. all_wider (needs_of count c.mark_reading.new.marked) (needs_of count c.mark_needed.new.marked) (nets_of (next_reads (flop_at x.flops.items cell) ports (value_from values)))
+    let count : ℕ = length x.ops in
+    λ cell stays ports values steers. all_wider (needs_of count c.mark_reading.new.marked) (needs_of count c.mark_needed.new.marked) (nets_of (next_reads (flop_at x.flops cell) ports (value_from values)))
     (λ k need. needs_more count c.mark_reading.new.marked c.mark_needed.new.marked k c.mark_needed.ensures.kept need) (c.mark_reading.ensures.reads cell stays ports values steers)
 
 pub returns-clause-covered : goal.returns-clause-covered

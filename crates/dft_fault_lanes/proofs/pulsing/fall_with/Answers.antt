@@ -18,7 +18,7 @@ take-requires-clause-rest c = λ cell none. c.requires.cells cell
 pub returns-clause-phase : goal.returns-clause-phase
 returns-clause-phase c =
     let p = c.args.play.plan.now in
-    let flops = c.args.play.circuit.now.flops.items in
+    let flops = c.args.play.circuit.now.flops in
     record {
       shown = p.falls.items;
       shows = c.requires.plan.1.falls;

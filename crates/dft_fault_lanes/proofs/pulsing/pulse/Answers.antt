@@ -32,5 +32,5 @@ returns-clause-idle c = λ settled.
     (let x = c.args.play.circuit.now in
     let p = c.args.play.plan.now in
     let clamps = c.args.play.clamps.now in
-    idle_pulsed x (needs_of (length x.ops.items) p.marked.items) (knows x.ops.items clamps p.marked.items) c.args.play.ports.now p.pulsed.items clamps (seen x.ops.items clamps p.marked.items c.args.cells.now.values c.args.wides.now)
+    idle_pulsed x (needs_of (length x.ops) p.marked.items) (knows x.ops clamps p.marked.items) c.args.play.ports.now p.pulsed.items clamps (seen x.ops clamps p.marked.items c.args.cells.now.values c.args.wides.now)
     c.args.cells.now.values c.rise.new.cells.values c.fall.new.cells.values c.args.live.now c.rise.new.live c.fall.new.live (c.rise.ensures.phase settled) c.fall.ensures.fall c.requires.idle)

@@ -6,8 +6,8 @@ use Rattle.dft_fault_lanes.proofs.sweeping.settle.Goals as goal
 
 pub loop-net-preserved : goal.loop-net-preserved
 loop-net-preserved c =
-    step c.args.circuit.now.ops.items (situation_of c.args.setting) c.args.nets.now c.args.nets.now c.loop-net.wides c.loop-net.net-index _ _ _
+    step c.args.circuit.now.ops (situation_of c.args.setting) c.args.nets.now c.args.nets.now c.loop-net.wides c.loop-net.net-index _ _ _
     refl c.loop-net-test.true (c.loop-net.auto.wides ∙ c.requires.nets) c.loop-net.invariant c.index.ensures c.given_wide-given.ensures c.within-wide.ensures
 
 pub returns-clause-settled : goal.returns-clause-settled
-returns-clause-settled c = all_settled c.args.circuit.now.ops.items (situation_of c.args.setting) c.args.nets.now c.loop-net.wides c.loop-net.net-index c.loop-net-test.false c.loop-net.invariant
+returns-clause-settled c = all_settled c.args.circuit.now.ops (situation_of c.args.setting) c.args.nets.now c.loop-net.wides c.loop-net.net-index c.loop-net-test.false c.loop-net.invariant

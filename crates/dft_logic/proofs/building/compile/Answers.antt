@@ -9,13 +9,13 @@ use Rattle.dft_logic.specs.declared.circuit.Latch.{Latch}
 use Rattle.dft_logic.specs.Circuit.{meaning, op_at, cell_of, cell_at, source_places, leaf_domains, latch_at, latch_domains, force_nets}
 use Rattle.dft_logic.specs.Tables.{IsTable}
 use Rattle.dft_logic.specs.Compiling.{ports_by}
-use Rattle.dft_logic.proofs.Compiled.{circuit_of}
+use Rattle.dft_logic.proofs.Compiled.{circuit_of, is_circuit}
 use Rattle.dft_logic.proofs.building.compile.Goals as goal
 
-pub returns : goal.returns
-returns c =
+pub invariant_of-result : goal.invariant_of-result
+invariant_of-result c =
     let O : List NetId → Type 0 = λ l. IsOrder c.args.design.now (numbers_of l) in
-    circuit_of c.args.design.now (ports_by c.args.flags.now) (record { order = c.in_ok-order.order; ops = c.in_ok-ops.ops; flops = c.in_ok-flops.flops; latches = c.in_ok-latches.latches; readers = c.in_ok-readers.readers; sources = c.in_ok-sources.sources; leaves = c.in_ok-leaves.leaves; cells = c.in_ok-cells.cells; holders = c.in_ok-holders.holders; followers = c.in_ok-followers.followers })
+    is_circuit c.args.design.now (ports_by c.args.flags.now) (record { order = c.in_ok-order.order.items; ops = c.in_ok-ops.ops.items; flops = c.in_ok-flops.flops.items; latches = c.in_ok-latches.latches.items; readers = c.in_ok-readers.readers; sources = c.in_ok-sources.sources; leaves = c.in_ok-leaves.leaves; cells = c.in_ok-cells.cells; holders = c.in_ok-holders.holders; followers = c.in_ok-followers.followers })
     c.soundness.ensures.netlist (subst O (sym c.in_ok-order.ensures.items) c.order.ensures) c.in_ok-ops.ensures.count c.in_ok-ops.ensures.each c.in_ok-flops.ensures c.in_ok-latches.ensures
     (let o : List Op → Type 0 = λ l. IsTable (length l) (length l) (λ k. reads (meaning (op_at l k))) c.in_ok-readers.readers in
     let s : List Op → Type 0 = λ l. IsTable 1 (length l) (λ k. source_places (meaning (op_at l k))) c.in_ok-sources.sources in
@@ -36,3 +36,8 @@ returns c =
       holders = subst i nets (subst h c.deref-8.ensures.value c.in_ok-holders.ensures);
       followers = subst m nets (subst k c.deref-9.ensures.value c.in_ok-followers.ensures);
     })
+
+pub returns : goal.returns
+returns c =
+    circuit_of c.args.design.now (ports_by c.args.flags.now) (record { order = c.in_ok-order.order.items; ops = c.in_ok-ops.ops.items; flops = c.in_ok-flops.flops.items; latches = c.in_ok-latches.latches.items; readers = c.in_ok-readers.readers; sources = c.in_ok-sources.sources; leaves = c.in_ok-leaves.leaves; cells = c.in_ok-cells.cells; holders = c.in_ok-holders.holders; followers = c.in_ok-followers.followers })
+    c.soundness.ensures.netlist c.in_ok-ops.ensures.count c.in_ok-ops.ensures.each c.in_ok-flops.ensures c.in_ok-latches.ensures

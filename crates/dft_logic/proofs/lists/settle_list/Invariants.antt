@@ -4,4 +4,4 @@ use Rattle.dft_logic.proofs.Listings.{Listed}
 use Rattle.dft_logic.proofs.lists.settle_list.Given as goal
 
 abbrev pub invariant-loop-net : goal.invariant-loop-net
-invariant-loop-net l = Listed l.circuit.ops.items (before_base (pulse_at l.pulse)) l.nets l.values l.net-index
+invariant-loop-net l = Listed l.circuit.ops (before_base (pulse_at l.pulse)) l.nets l.values l.net-index

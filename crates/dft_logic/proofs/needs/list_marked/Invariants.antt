@@ -3,4 +3,4 @@ use Rattle.dft_logic.proofs.NeedLemmas.{Listing}
 use Rattle.dft_logic.proofs.needs.list_marked.Given as goal
 
 abbrev pub invariant-loop-net : goal.invariant-loop-net
-invariant-loop-net l = Listing l.marked l.circuit.order.items l.list l.count l.net-index
+invariant-loop-net l = Listing l.marked l.circuit.order l.list l.count l.net-index

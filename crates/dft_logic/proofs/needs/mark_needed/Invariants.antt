@@ -3,4 +3,4 @@ use Rattle.dft_logic.proofs.NeedLemmas.{Needing}
 use Rattle.dft_logic.proofs.needs.mark_needed.Given as goal
 
 abbrev pub invariant-loop-place : goal.invariant-loop-place
-invariant-loop-place l = Needing l.circuit.ops.items l.circuit.order.items l.initial.marked l.marked l.place
+invariant-loop-place l = Needing l.circuit.ops l.circuit.order l.initial.marked l.marked l.place

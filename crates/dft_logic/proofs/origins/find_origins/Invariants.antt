@@ -8,4 +8,4 @@ use Rattle.dft_logic.proofs.OriginLemmas.{given}
 use Rattle.dft_logic.proofs.origins.find_origins.Given as goal
 
 abbrev pub invariant-loop-net : goal.invariant-loop-net
-invariant-loop-net l = Filling number_of None (given (level_before (pulse_at l.pulse))) l.circuit.ops.items l.circuit.order.items l.origins l.net-index
+invariant-loop-net l = Filling number_of None (given (level_before (pulse_at l.pulse))) l.circuit.ops l.circuit.order l.origins l.net-index

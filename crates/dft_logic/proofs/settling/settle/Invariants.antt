@@ -5,4 +5,4 @@ use Rattle.dft_logic.proofs.Settlings.{Settling}
 use Rattle.dft_logic.proofs.settling.settle.Given as goal
 
 abbrev pub invariant-loop-net : goal.invariant-loop-net
-invariant-loop-net l = Settling l.circuit.ops.items (view_base (map cell_of l.circuit.flops.items) l.view) l.circuit.order.items l.values l.net-index
+invariant-loop-net l = Settling l.circuit.ops (view_base (map cell_of l.circuit.flops) l.view) l.circuit.order l.values l.net-index

@@ -7,4 +7,4 @@ use Rattle.dft_logic.proofs.Fillings.{Filling}
 use Rattle.dft_logic.proofs.shown.show_all.Given as goal
 
 abbrev pub invariant-loop-net : goal.invariant-loop-net
-invariant-loop-net l = Filling shown_of Nothing (shown_in (map cell_of l.circuit.flops.items) l.rising (flag_at l.pulsed)) l.circuit.ops.items l.circuit.order.items l.shown l.net-index
+invariant-loop-net l = Filling shown_of Nothing (shown_in (map cell_of l.circuit.flops) l.rising (flag_at l.pulsed)) l.circuit.ops l.circuit.order l.shown l.net-index

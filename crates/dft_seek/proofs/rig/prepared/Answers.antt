@@ -7,9 +7,8 @@ use Rattle.dft_netlist.specs.declared.ids.InstanceId.{InstanceId}
 use Rattle.dft_netlist.specs.Orders.{AreOnce, numbers_of}
 use Rattle.dft_config.specs.Config.{Config}
 use Rattle.dft_expect.specs.Capturing.{CanCapture}
-use Rattle.dft_logic.specs.declared.circuit.Circuit.{Circuit}
 use Rattle.dft_logic.specs.declared.circuit.Op.{Op}
-use Rattle.dft_logic.specs.Circuit.{meaning, op_at}
+use Rattle.dft_logic.specs.Circuit.{Circuit, meaning, op_at}
 use Rattle.dft_logic.specs.Tables.{IsTable}
 use Rattle.dft_sweep.specs.Places.{ArePlaces}
 use Rattle.dft_seek.specs.Rigs.{IsBase, cells_shown}
@@ -72,7 +71,7 @@ returns-clause-rig c =
       resets = nets.resets;
       shows = ways.shows;
       shown = ways.shown;
-      showing = subst (λ (m : ℕ). IsTable m (length x.ops.items) (λ net. cells_shown (meaning (op_at x.ops.items net))) c.in_ok-showing.showing.items) (c.len.ensures ∙ c.in_ok-moves.moves.holds.ok.0 ∙ moves.instances)
+      showing = subst (λ (m : ℕ). IsTable m (length x.ops) (λ net. cells_shown (meaning (op_at x.ops net))) c.in_ok-showing.showing.items) (c.len.ensures ∙ c.in_ok-moves.moves.holds.ok.0 ∙ moves.instances)
           (subst (λ (l : List Op). IsTable c.len.result (length l) (λ net. cells_shown (meaning (op_at l net))) c.in_ok-showing.showing.items) c.deref-4.ensures.value c.in_ok-showing.ensures);
       table = ways.table;
       steps = ways.steps;

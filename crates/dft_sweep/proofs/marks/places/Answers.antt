@@ -9,10 +9,10 @@ use Rattle.dft_sweep.proofs.marks.places.Goals as goal
 pub index_mut-requires : goal.index_mut-requires
 index_mut-requires c =
     let x = c.args.circuit.now in
-    let less : c.loop-place.place < length x.order.items = (let here = c.loop-place-test.true in let e = c.len-place-end.ensures in omega arith) in
-    let is : c.index.result.now ≡ net_at x.order.items c.loop-place.place = c.index.ensures ∙ get_or_default x.order.items c.loop-place.place c.index.result.now (record { 0 = 0 }) less in
-    let live = placing_live x.ops.items x.order.items c.loop-place.places.items c.loop-place.place less c.loop-place.invariant.placed in
-    let e : c.index.result.now.0 ≡ (net_at x.order.items c.loop-place.place).0 = (let F : NetId → ℕ = λ n. n.0 in ap F is) in
+    let less : c.loop-place.place < length x.order = (let here = c.loop-place-test.true in let e = c.len-place-end.ensures in omega arith) in
+    let is : c.index.result.now ≡ net_at x.order c.loop-place.place = c.index.ensures ∙ get_or_default x.order c.loop-place.place c.index.result.now (record { 0 = 0 }) less in
+    let live = placing_live x.ops x.order c.loop-place.places.items c.loop-place.place less c.loop-place.invariant.placed in
+    let e : c.index.result.now.0 ≡ (net_at x.order c.loop-place.place).0 = (let F : NetId → ℕ = λ n. n.0 in ap F is) in
     let size = c.loop-place.invariant.size in
     omega arith
 
@@ -22,12 +22,12 @@ loop-place-init c = record { size = ap length c.in_ok-places.ensures ∙ length-
 pub loop-place-preserved : goal.loop-place-preserved
 loop-place-preserved c =
     let x = c.args.circuit.now in
-    let less : c.loop-place.place < length x.order.items = (let here = c.loop-place-test.true in let e = c.len-place-end.ensures in omega arith) in
-    let is : c.index.result.now ≡ net_at x.order.items c.loop-place.place = c.index.ensures ∙ get_or_default x.order.items c.loop-place.place c.index.result.now (record { 0 = 0 }) less in
-    let P : NetId → Type 0 = λ n. Placing x.ops.items x.order.items (slice_set c.loop-place.places.items n.0 c.loop-place.place) (c.loop-place.place + 1) in
+    let less : c.loop-place.place < length x.order = (let here = c.loop-place-test.true in let e = c.len-place-end.ensures in omega arith) in
+    let is : c.index.result.now ≡ net_at x.order c.loop-place.place = c.index.ensures ∙ get_or_default x.order c.loop-place.place c.index.result.now (record { 0 = 0 }) less in
+    let P : NetId → Type 0 = λ n. Placing x.ops x.order (slice_set c.loop-place.places.items n.0 c.loop-place.place) (c.loop-place.place + 1) in
     record {
       size = length-set c.loop-place.places.items c.index.result.now.0 c.loop-place.place ∙ c.loop-place.invariant.size;
-      placed = subst P (sym is) (placing_more x.ops.items x.order.items c.loop-place.places.items c.loop-place.place less c.loop-place.invariant.size c.loop-place.invariant.placed);
+      placed = subst P (sym is) (placing_more x.ops x.order c.loop-place.places.items c.loop-place.place less c.loop-place.invariant.size c.loop-place.invariant.placed);
     }
 
 pub returns : goal.returns

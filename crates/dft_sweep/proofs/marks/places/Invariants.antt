@@ -5,6 +5,6 @@ use Rattle.dft_sweep.proofs.marks.places.Given as goal
 
 abbrev pub invariant-loop-place : goal.invariant-loop-place
 invariant-loop-place l = record {
-  size : length l.places.items ≡ length l.circuit.ops.items;
-  placed : Placing l.circuit.ops.items l.circuit.order.items l.places.items l.place;
+  size : length l.places.items ≡ length l.circuit.ops;
+  placed : Placing l.circuit.ops l.circuit.order l.places.items l.place;
 }

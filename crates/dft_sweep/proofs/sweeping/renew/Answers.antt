@@ -12,4 +12,4 @@ returns-clause-given c = λ k down before needs.
     let net : ℕ = c.args.net.0 in
     let live : net < length c.args.values.now = (let less = c.requires.live in let e = c.requires.values in omega arith) in
     written (meaning_at f) (sources_of f.sources) c.args.values.now net k c.value_of-value.result live c.value_of-value.ensures
-    (λ has. blind x net k c.list_of-readers.result.now c.requires.circuit c.requires.live c.list_of-readers.ensures (c.mark_all.ensures.marked k needs down) (reads_with (bit_at f.stuck k) (meaning (op_at x.ops.items k)) net has)) (elim before [ inl e ↦ inl e | inr is ↦ inr (is needs) ]))
+    (λ has. blind x net k c.list_of-readers.result.now c.requires.circuit c.requires.live c.list_of-readers.ensures (c.mark_all.ensures.marked k needs down) (reads_with (bit_at f.stuck k) (meaning (op_at x.ops k)) net has)) (elim before [ inl e ↦ inl e | inr is ↦ inr (is needs) ]))

@@ -25,12 +25,12 @@ loop-place-preserved c =
     let x = f.circuit.now in
     let m = c.settle_marked.new.marks in
     let at = c.loop-place.place in
-    let less : at < length x.order.items = (let here = c.loop-place-test.true in subst (λ (l : List NetId). at < length l) c.as_slice-end.ensures.value here) in
+    let less : at < length x.order = (let here = c.loop-place-test.true in subst (λ (l : List NetId). at < length l) c.as_slice-end.ensures.value here) in
     record {
       size = c.settle_marked.ensures.size ∙ c.loop-place.invariant.size;
       swept = sweeping_goes x f.places.now f.needed.now (meaning_at f) (sources_of f.sources) c.settle_marked.new.values m.marked.items m.busy.items (at + 1) c.next_busy-place-in-loop-place.result c.requires.places
           (c.settle_marked.ensures.busy c.loop-place.invariant.busy) c.next_busy-place-in-loop-place.ensures.low (λ p low high. ap (λ (l : List ℕ). is_busy l p) (sym c.deref-in-loop-place.ensures.value) ∙ c.next_busy-place-in-loop-place.ensures.idle p low high)
-          (sweeping_more x.ops.items _ _ _ x.order.items c.loop-place.values c.settle_marked.new.values c.loop-place.marks.marked.items m.marked.items at
+          (sweeping_more x.ops _ _ _ x.order c.loop-place.values c.settle_marked.new.values c.loop-place.marks.marked.items m.marked.items at
           c.index.result.now c.index.result.now less c.index.ensures c.loop-place.invariant.swept c.settle_marked.ensures.given c.settle_marked.ensures.raised);
       busy = c.settle_marked.ensures.busy c.loop-place.invariant.busy;
     }

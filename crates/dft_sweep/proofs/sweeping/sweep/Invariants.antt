@@ -12,4 +12,4 @@ invariant-loop-place l = record {
 }
 
 abbrev pub decreases-loop-place : goal.decreases-loop-place
-decreases-loop-place l = length l.field.circuit.now.order.items - l.place
+decreases-loop-place l = length l.field.circuit.now.order - l.place

@@ -42,7 +42,7 @@ put_all-requires-clause-live c = λ j less.
     let p : Pulse = record { rising = c.args.rising; ports = value_at c.deref-2.result.now; pulsed = flag_at c.deref-3.result.now; old = value_at d.cells.values } in
     let found : IsFound d.circuit p d.cells c.index-plan.result.now c.find-found.new.row =
     plan_found d.circuit p d.cells c.find-found.new.self.plans.items c.in-Some.place c.index-plan.result.now c.index-plan.result.now c.find-found.new.row c.in-Some.ensures.live c.index-plan.ensures c.in-Some.ensures.found in
-    let T : List Taking → Type 0 = λ l. (j : ℕ) → j < length l → (taking_at l j).place < length d.circuit.flops.items in
+    let T : List Taking → Type 0 = λ l. (j : ℕ) → j < length l → (taking_at l j).place < length d.circuit.flops in
     let was = subst T (sym c.deref-in-Some.ensures.value) found.live j less in
     omega (arith, i.cells, was))
 

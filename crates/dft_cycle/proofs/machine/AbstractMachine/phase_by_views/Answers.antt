@@ -69,7 +69,7 @@ invariant_of-self c =
       plans = subst (λ (l : Layout). ArePlans d.circuit d.clocks.items l d.plans) (sym c.take.ensures.layout) i.plans;
       looks = i.looks;
       loose = pulsed_loose d.circuit p c.find_least.new.search.poss.items c.find_least.new.search.next.items d.cells.values cells.values i.circuit (c.take.ensures.count ∙ i.cells) i.loose c.find_least.ensures.next
-          (taken_read c.args.rising d.circuit.flops.items c.deref-5.result.now c.deref-3.result.now c.deref-6.result.now c.find_least.new.search.next.items c.deref-7.result.now d.cells.values d.cells.values cells.values cells.values
+          (taken_read c.args.rising d.circuit.flops c.deref-5.result.now c.deref-3.result.now c.deref-6.result.now c.find_least.new.search.next.items c.deref-7.result.now d.cells.values d.cells.values cells.values cells.values
           c.deref-5.ensures.value (c.deref-6.ensures.value ∙ sym c.deref-3.ensures.value) c.deref-7.ensures.value refl refl c.take.ensures.each);
       flags = flags_one d.clocks.items c.args.pulsed.now d.pulsed c.mark.new.flags c.deref.result.now c.deref_mut.result.now c.mark.auto.flags c.deref_mut.ensures.value c.deref.ensures.value c.mark.ensures;
     }
@@ -89,7 +89,7 @@ returns c =
     let marked : c.deref-3.result.now ≡ c.mark.new.flags = read ∙ filled d.pulsed c.mark.new.flags c.deref_mut.result.now c.mark.auto.flags flags in
     let ports : c.deref-2.result.now ≡ d.inputs.items = c.deref-2.ensures.value in
     let size = c.find_least.ensures.search.next in
-    let flops : c.deref-5.result.now ≡ d.circuit.flops.items = c.deref-5.ensures.value in
+    let flops : c.deref-5.result.now ≡ d.circuit.flops = c.deref-5.ensures.value in
     let p : Pulse = record { rising = c.args.rising; ports = value_at c.deref-2.result.now; pulsed = flag_at c.deref-3.result.now; old = value_at d.cells.values } in
     subst P c.self.view_is
     (phase_done (machine_of d) after d.circuit c.args.rising c.args.pulsed.now p c.find_least.new.search.poss.items c.find_least.new.search.next.items i.circuit i.compiled refl refl refl refl refl
@@ -97,5 +97,5 @@ returns c =
     (λ e. ap (λ (l : List Bool). flag_at l e) marked ∙ c.mark.ensures e ∙ ap (λ (l : List NetId). pulses l c.args.pulsed.now e) clocks)
     (λ k. refl)
     i.cells c.take.ensures.count size c.find_least.ensures.least c.find_least.ensures.next
-    (taken_read c.args.rising d.circuit.flops.items c.deref-5.result.now c.deref-3.result.now c.deref-6.result.now c.find_least.new.search.next.items c.deref-7.result.now d.cells.values d.cells.values cells.values cells.values
+    (taken_read c.args.rising d.circuit.flops c.deref-5.result.now c.deref-3.result.now c.deref-6.result.now c.find_least.new.search.next.items c.deref-7.result.now d.cells.values d.cells.values cells.values cells.values
     flops (again ∙ sym read) c.deref-7.ensures.value refl refl c.take.ensures.each))

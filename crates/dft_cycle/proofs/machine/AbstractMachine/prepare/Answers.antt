@@ -29,7 +29,7 @@ invariant_of-result c =
     let same : (e : ℕ) → flag_at c.deref.result.now e ≡ is_one_of clocks e =
     λ e. ap (λ (l : List Bool). flag_at l e) flags ∙ c.flag_clocks.ensures e ∙ ap (λ (l : List NetId). is_one_of l e) (sym named) in
     let L : Ports → Logic = logic_of n in
-    let nets : length x.ops.items ≡ length n.nets = is.nets in
+    let nets : length x.ops ≡ length n.nets = is.nets in
     let count = c.net_count-nets.ensures.count in
     let cells = c.len-count.ensures ∙ x.flops.ok.0 in
     let down : length pulsed.items ≡ length n.nets = ap length c.in_ok-pulsed.ensures ∙ length-replicate _ _ ∙ count in

@@ -73,7 +73,7 @@ returns-clause-covered c =
 pub returns-clause-plan : goal.returns-clause-plan
 returns-clause-plan c =
     let x = c.args.circuit.now in
-    let count : ℕ = length x.ops.items in
+    let count : ℕ = length x.ops in
     let l : Layout = c.args.cells.now.layout in
     let old = c.args.self.now in
     let signals : List ℕ = numbers_of c.args.nets.now in
@@ -89,7 +89,7 @@ returns-clause-plan c =
     let moves = filled old.moves c.find_moves.new.moves c.deref_mut-6.result.now c.find_moves.auto.moves c.deref_mut-6.ensures.value in
     let marked = filled (with_items old.marked c.lower_unless.new.marked) c.list_needs-self.new.marked c.deref_mut-7.result.now c.list_needs-self.auto.marked c.deref_mut-7.ensures.value in
     let list = filled old.list c.list_needs-self.new.list c.deref_mut-8.result.now c.list_needs-self.auto.list c.deref_mut-8.ensures.value in
-    let front : List NetId → Type 0 = λ l. AreOrdered x.ops.items [] (numbers_of (take c.list_needs-self.result l)) in
+    let front : List NetId → Type 0 = λ l. AreOrdered x.ops [] (numbers_of (take c.list_needs-self.result l)) in
     let reads = rw c.deref-4.ensures.value at c.list_needs-self.ensures.reads in
     record {
       pulsing = λ net. ap (λ (l : List Bool). flag_at l net) pulsed ∙ c.flag_pulses.ensures net ∙ sym (pulse_on_acts signals acts net) ∙ ap (λ (l : List Bool). pulse_on signals l net) (sym pulses);
@@ -101,11 +101,11 @@ returns-clause-plan c =
           (subst (λ (l : List Bool). (k : ℕ) → flag_at l k ≡ true → Has (numbers_of (take c.list_needs-self.result c.list_needs-self.new.list)) k) (sym marked) c.list_needs-self.ensures.listed);
       room = subst (λ (l : List NetId). c.list_needs-self.result ≤ length l) (sym list) c.list_needs-self.ensures.room;
       steered = subst (λ (l : List Bool). needs_of count l steer.net.0 ≡ true) (sym marked) c.list_needs-self.ensures.steered;
-      enables = subst (λ (l : List Bool). (k : ℕ) → HasAll (needs_of count l) (enable_needs (flop_at x.flops.items k))) (sym marked) c.list_needs-self.ensures.enables;
-      reads = subst (λ (b : List Bool). (k : ℕ) → is_carried l moving.items k ≡ false → HasReadsOf (needs_of count b) steer (flop_at x.flops.items k)) (sym marked) reads;
+      enables = subst (λ (l : List Bool). (k : ℕ) → HasAll (needs_of count l) (enable_needs (flop_at x.flops k))) (sym marked) c.list_needs-self.ensures.enables;
+      reads = subst (λ (b : List Bool). (k : ℕ) → is_carried l moving.items k ≡ false → HasReadsOf (needs_of count b) steer (flop_at x.flops k)) (sym marked) reads;
       rests = ap (λ (l : List Bool). flag_at l 0) moves ∙ c.find_moves.ensures.rests;
-      moving = subst (λ (b : List Bool). AreMoves x.ops.items c.args.clamps.now x.flops.items steer p.items l b) (sym moves) (rw c.deref-3.ensures.value at c.find_moves.ensures.moving);
+      moving = subst (λ (b : List Bool). AreMoves x.ops c.args.clamps.now x.flops steer p.items l b) (sym moves) (rw c.deref-3.ensures.value at c.find_moves.ensures.moving);
       taking = rw (c.deref-5.ensures.value, c.deref-6.ensures.value, c.deref-7.ensures.value) at c.list_places.ensures.places;
       falling = rw (c.deref-8.ensures.value, c.deref-9.ensures.value) at c.list_places-2.ensures.places;
-      steady = λ up. steady_reads x.flops.items steer p.items (with_items old.rises c.show_all.new.shown).items ((rw (c.deref-10.ensures.value, c.deref-11.ensures.value, c.deref-12.ensures.value) at c.are_steady-self.ensures) up);
+      steady = λ up. steady_reads x.flops steer p.items (with_items old.rises c.show_all.new.shown).items ((rw (c.deref-10.ensures.value, c.deref-11.ensures.value, c.deref-12.ensures.value) at c.are_steady-self.ensures) up);
     }

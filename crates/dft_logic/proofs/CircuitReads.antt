@@ -1,0 +1,11 @@
+-- What is read of a circuit's fields is what it shows.
+use Rattle.std.proofs.Common.{ℕ, ◌≡◌, subst, get_or}
+use Rattle.dft_netlist.specs.declared.ids.NetId.{NetId}
+use Rattle.dft_logic.specs.declared.circuit.Op.{Op}
+use Rattle.dft_logic.specs.Circuit.{Circuit}
+
+pub net_read : (x y : Circuit) (k : ℕ) (net : NetId) → x ≡ y → net ≡ get_or x.order k net → net ≡ get_or y.order k net
+net_read x y k net same is = subst (λ (m : Circuit). net ≡ get_or m.order k net) same is
+
+pub op_read : (x y : Circuit) (k : ℕ) (op : Op) → x ≡ y → op ≡ get_or x.ops k op → op ≡ get_or y.ops k op
+op_read x y k op same is = subst (λ (m : Circuit). op ≡ get_or m.ops k op) same is
