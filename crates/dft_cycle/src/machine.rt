@@ -186,7 +186,7 @@ impl<'a> AbstractMachine<'a> {
             old: &self.cells,
         };
         let circuit = &self.circuit;
-        let _ = &circuit.order;
+        circuit.soundness();
         settle_again(
             circuit,
             &strobe_view(pulse),
@@ -249,7 +249,7 @@ impl<'a> AbstractMachine<'a> {
         ensures { IsPhase (logic self.old) self.old false pulsed.now self.new }
     {
         let circuit = &self.circuit;
-        let _ = &circuit.order;
+        circuit.soundness();
         if self.falls {
             self.phase(false, pulsed);
         }
