@@ -4,7 +4,7 @@ use Rattle.dft_netlist.specs.declared.ids.NetId.{NetId}
 use Rattle.dft_netlist.specs.Logic.{IsRising}
 use Rattle.dft_cycle.specs.declared.machine.AbstractMachine.TheInside.{Inside}
 use Rattle.dft_cycle.specs.Machine.{Machine, logic, is_one_of, value_at}
-use Rattle.dft_logic.specs.Circuit.{logic_at, flag_at, IsCircuit, IsReady}
+use Rattle.dft_logic.specs.Circuit.{logic_at, flag_at, IsReady}
 use Rattle.dft_cycle.specs.Views.{OwnsLatches, IsSearch}
 use Rattle.dft_cycle.specs.Plans.{ArePlans, LooseAreUnknown}
 use Rattle.dft_cycle.specs.Looks.{AreLooks}
@@ -14,7 +14,6 @@ machine_of d = record { netlist = d.design.now; clocks = d.clocks.items; inputs 
 
 -- the circuit is the design's, and each list has a place for each net or instance
 pub record IsMachine (d : Inside) : Type 0 where
-  pub circuit : IsCircuit d.circuit
   pub compiled : logic (machine_of d) ≡ logic_at d.circuit
   -- where no flip-flop falls they all take their bits at rises
   pub rests : d.falls ≡ false → IsRising (logic_at d.circuit)

@@ -7,7 +7,7 @@ ghost use Rattle.dft_netlist.specs.Settled.{value_from};
 ghost use Rattle.dft_abstract.specs.Cycle.{tri_forced_by};
 ghost use Rattle.dft_cycle.specs.Machine as spec;
 ghost use Rattle.dft_logic.specs.Circuit as circuits;
-ghost use Rattle.dft_logic.specs.Circuit.{cell_of, cell_at, latch_at, IsCircuit};
+ghost use Rattle.dft_logic.specs.Circuit.{cell_of, cell_at, latch_at};
 ghost use Rattle.dft_cycle.specs.Views.{taken_at, next_at, next_by, held_by};
 
 use dft_base::Tri;
@@ -22,7 +22,6 @@ pub(crate) fn take_next(
     values: &[Tri],
     next: &mut [Tri],
 )
-    requires circuit { IsCircuit circuit.now }
     requires live { domain.0 < length circuit.now.ops }
     requires next { length next.old ≡ length circuit.now.flops }
     ensures { (c : ℕ) → c < length circuit.now.flops → spec.value_at next.new c ≡ next_by (cell_at (map cell_of circuit.now.flops) c) domain.0 (spec.value_at ports.now) (spec.value_at values.now) (spec.value_at next.old c) }
@@ -49,7 +48,6 @@ fn held_value(latch: Option<Latch>, domain: NetId, values: &[Tri], old: Tri) -> 
 
 // Each lock-up of a domain is held at its input's value in the domain's view. Whether one changed.
 pub(crate) fn hold(circuit: &Circuit, domain: NetId, values: &[Tri], held: &mut [Tri]) -> bool
-    requires circuit { IsCircuit circuit.now }
     requires live { domain.0 < length circuit.now.ops }
     requires held { length held.old ≡ length circuit.now.latches }
     ensures each { (c : ℕ) → c < length circuit.now.latches → spec.value_at held.new c ≡ held_by (latch_at circuit.now.latches c) domain.0 (spec.value_at values.now) (spec.value_at held.old c) }

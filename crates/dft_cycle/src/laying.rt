@@ -1,7 +1,6 @@
 //! Where the flip-flops of a circuit lie: those of a chain one behind the other.
 
 ghost use Rattle.std.specs.Prelude.{◌≡◌, length, replicate, IfOk};
-ghost use Rattle.dft_logic.specs.Circuit.{IsCircuit};
 
 use dft_base::Tri;
 use dft_logic::{Circuit, FlipFlop, Operand, Pulse, find_origins};
@@ -62,7 +61,6 @@ fn flop_before(flops: &[FlipFlop], flop: &FlipFlop, origins: &[Option<InstanceId
 
 // The flip-flops of a circuit, whose values nobody knows, laid one behind the other where they shift so.
 pub(crate) fn lay_out(alloc: Global, circuit: &Circuit) -> Result<Cells, AllocError>
-    requires { IsCircuit circuit.now }
     ensures { IfOk result (λ cells. cells.values ≡ replicate (length circuit.now.flops) Tri.Unknown) }
 {
     let nothing = Cells::new(alloc, &[])?;

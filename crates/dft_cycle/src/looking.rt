@@ -2,7 +2,7 @@
 
 ghost use Rattle.std.specs.Prelude.{◌≡◌, ℕ, ◌<◌, length, true, false};
 ghost use Rattle.dft_logic.specs.Values as spec;
-ghost use Rattle.dft_logic.specs.Circuit.{IsCircuit, logic_at, flag_at as is_up};
+ghost use Rattle.dft_logic.specs.Circuit.{logic_at, flag_at as is_up};
 ghost use Rattle.dft_logic.specs.Needs.{AreSeen};
 ghost use Rattle.dft_cycle.specs.Looks.{AreLooks};
 
@@ -43,7 +43,6 @@ impl Looks {
         marked: &mut [bool],
         row: &mut [Tri],
     ) -> bool
-        requires circuit { IsCircuit strobe.circuit.now }
         requires looks { AreLooks strobe.circuit.now self.old }
         requires values { length values.old ≡ length strobe.circuit.now.ops }
         requires marked { length marked.old ≡ length strobe.circuit.now.ops }

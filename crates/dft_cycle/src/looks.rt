@@ -4,7 +4,7 @@ ghost use Rattle.std.specs.Prelude.{◌≡◌, ℕ, ◌<◌, ◌≤◌, length, 
 ghost use Rattle.std.specs.Vec.{vec_capacity};
 ghost use Rattle.dft_netlist.specs.Orders.{Has, numbers_of};
 ghost use Rattle.dft_logic.specs.Values as spec;
-ghost use Rattle.dft_logic.specs.Circuit.{IsCircuit, logic_at, flag_at as is_up};
+ghost use Rattle.dft_logic.specs.Circuit.{logic_at, flag_at as is_up};
 ghost use Rattle.dft_logic.specs.Needs.{AreSeen};
 ghost use Rattle.dft_cycle.specs.Plans.{IsNeedList};
 ghost use Rattle.dft_cycle.specs.Looks.{IsLook, IsListed, IsAt};
@@ -64,7 +64,6 @@ pub(crate) fn find_look(looks: &[Look], nets: &[NetId]) -> Option<usize>
 
 // Lists what nets are settled from, at the front of a list: how many.
 fn list_sources(circuit: &Circuit, nets: &[NetId], marked: &mut [bool], list: &mut [NetId]) -> usize
-    requires circuit { IsCircuit circuit.now }
     requires marked { length marked.old ≡ length circuit.now.ops }
     requires list { length list.old ≡ length circuit.now.ops }
     ensures room { result ≤ length list.new }
@@ -90,7 +89,6 @@ impl Look {
 
     // Lists what its nets are settled from.
     fn make(&mut self, circuit: &Circuit, marked: &mut [bool], list: &mut [NetId])
-        requires circuit { IsCircuit circuit.now }
         requires marked { length marked.old ≡ length circuit.now.ops }
         requires look { IsLook circuit.now self.old }
         requires list { length list.old ≡ length circuit.now.ops }
@@ -107,15 +105,16 @@ impl Look {
 
     // Reads the values of its nets at a strobe.
     fn read(&self, strobe: Strobe<'_>, values: &mut [Tri], row: &mut [Tri])
-        requires circuit { IsCircuit strobe.circuit.now }
         requires values { length values.old ≡ length strobe.circuit.now.ops }
         requires look { IsLook strobe.circuit.now self.now }
         requires listed { IsListed strobe.circuit.now self.now }
         requires row { length row.old ≡ length self.now.nets.items }
         ensures { AreSeen (logic_at strobe.entry.circuit.now) (spec.value_at strobe.entry.ports.now) (spec.value_at strobe.entry.cells.now.values) self.now.nets.items row.new }
     {
+        let circuit = strobe.circuit;
+        let _ = &circuit.order;
         strobe_steps(
-            strobe.circuit,
+            circuit,
             strobe.ports,
             strobe.cells,
             &self.steps,
@@ -133,7 +132,6 @@ impl Look {
         list: &mut [NetId],
         row: &mut [Tri],
     )
-        requires circuit { IsCircuit strobe.circuit.now }
         requires look { IsLook strobe.circuit.now self.old }
         requires list { length list.old ≡ length strobe.circuit.now.ops }
         requires values { length values.old ≡ length strobe.circuit.now.ops }

@@ -6,7 +6,7 @@ ghost use Rattle.dft_cycle.specs.Machine as spec;
 ghost use Rattle.std.specs.List.{list_any};
 ghost use Rattle.dft_netlist.specs.Runs.{takes};
 ghost use Rattle.dft_logic.specs.Needs.{AreSeen};
-ghost use Rattle.dft_logic.specs.Circuit.{cell_of, cell_at, force_at, IsCircuit, flag_at as is_up};
+ghost use Rattle.dft_logic.specs.Circuit.{cell_of, cell_at, force_at, flag_at as is_up};
 
 use crate::laying::lay_out;
 use crate::looking::Looks;
@@ -185,8 +185,10 @@ impl<'a> AbstractMachine<'a> {
             pulsed: &[],
             old: &self.cells,
         };
+        let circuit = &self.circuit;
+        let _ = &circuit.order;
         settle_again(
-            &self.circuit,
+            circuit,
             &strobe_view(pulse),
             &mut self.values,
             &mut self.marked,
@@ -246,6 +248,8 @@ impl<'a> AbstractMachine<'a> {
         requires { length pulsed.now ≡ length self.old.clocks }
         ensures { IsPhase (logic self.old) self.old false pulsed.now self.new }
     {
+        let circuit = &self.circuit;
+        let _ = &circuit.order;
         if self.falls {
             self.phase(false, pulsed);
         }
@@ -264,14 +268,15 @@ impl<'a> AbstractMachine<'a> {
             pulsed: &self.pulsed,
             old: &self.cells,
         };
+        let circuit = &self.circuit;
         let phase = Phase {
-            circuit: &self.circuit,
+            circuit,
             clocks: &self.clocks,
             pulse,
         };
         find_least(phase, &mut self.search, &mut self.values, &mut self.marked);
         take(
-            &self.circuit.flops,
+            &circuit.flops,
             rising,
             &self.pulsed,
             &self.search.next,
@@ -296,7 +301,6 @@ fn acted_on(force: Option<Acting>, net: NetId, value: Tri, bit: Tri) -> Tri
 
 // An input that gets a value acts on the flip-flops that have it as their reset or set.
 fn act(circuit: &Circuit, net: NetId, value: Tri, cells: &mut Cells)
-    requires circuit { IsCircuit circuit.now }
     requires live { net.0 < length circuit.now.ops }
     requires cells { length cells.old.values ≡ length circuit.now.flops }
     ensures layout { cells.new.layout ≡ cells.old.layout }

@@ -2,7 +2,7 @@
 
 ghost use Rattle.std.specs.Prelude.{◌≡◌, ℕ, ◌<◌, length, true, false, IfSome};
 ghost use Rattle.dft_logic.specs.Values as spec;
-ghost use Rattle.dft_logic.specs.Circuit.{IsCircuit, pulse_at, flag_at as is_up};
+ghost use Rattle.dft_logic.specs.Circuit.{pulse_at, flag_at as is_up};
 ghost use Rattle.dft_cycle.specs.Views.{PulsesAmong};
 ghost use Rattle.dft_cycle.specs.Plans.{ArePlans, LooseAreUnknown, IsFoundAt};
 
@@ -76,7 +76,6 @@ impl Plans {
 
     // Makes the plan at a place for a phase, if all flip-flops take what is still.
     fn make(&mut self, phase: Phase<'_>, place: usize, values: &mut [Tri], marked: &mut [bool])
-        requires circuit { IsCircuit phase.circuit.now }
         requires plans { ArePlans phase.circuit.now phase.clocks.now phase.pulse.old.now.layout self.old }
         requires live { place < length self.old.plans.items }
         requires among { PulsesAmong phase.pulse.pulsed.now phase.clocks.now }
@@ -106,7 +105,6 @@ impl Plans {
 
     // The place of the plan for a phase, which is made if the phase came before. Where there is none, one is noted.
     fn choose(&mut self, phase: Phase<'_>, values: &mut [Tri], marked: &mut [bool]) -> Option<usize>
-        requires circuit { IsCircuit phase.circuit.now }
         requires plans { ArePlans phase.circuit.now phase.clocks.now phase.pulse.old.now.layout self.old }
         requires among { PulsesAmong phase.pulse.pulsed.now phase.clocks.now }
         requires ports { length phase.pulse.ports.now ≡ length phase.circuit.now.ops }
@@ -143,7 +141,6 @@ impl Plans {
         marked: &mut [bool],
         row: &mut [Tri],
     ) -> Option<usize>
-        requires circuit { IsCircuit phase.circuit.now }
         requires plans { ArePlans phase.circuit.now phase.clocks.now phase.pulse.old.now.layout self.old }
         requires among { PulsesAmong phase.pulse.pulsed.now phase.clocks.now }
         requires ports { length phase.pulse.ports.now ≡ length phase.circuit.now.ops }

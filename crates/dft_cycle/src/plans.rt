@@ -4,7 +4,7 @@ ghost use Rattle.std.specs.Prelude.{◌≡◌, ℕ, ◌<◌, ◌≤◌, [], leng
 ghost use Rattle.std.specs.Vec.{vec_capacity};
 ghost use Rattle.dft_netlist.specs.Orders.{Has, numbers_of};
 ghost use Rattle.dft_logic.specs.Values as spec;
-ghost use Rattle.dft_logic.specs.Circuit.{IsCircuit, logic_at, cell_of, cell_at, flag_at as is_up, pulse_at};
+ghost use Rattle.dft_logic.specs.Circuit.{logic_at, cell_of, cell_at, flag_at as is_up, pulse_at};
 ghost use Rattle.dft_logic.specs.Shows.{IsShownOn};
 ghost use Rattle.dft_abstract.specs.Cycle.{level_before};
 ghost use Rattle.dft_logic.specs.Takes.{AreOrigins};
@@ -148,7 +148,6 @@ pub(crate) struct Sketch {
 
 // Settles all nets before the edges of a phase, and finds what flip-flops take. Whether all take what is still.
 pub(crate) fn draw(phase: Phase<'_>, sketch: &mut Sketch, values: &mut [Tri]) -> bool
-    requires circuit { IsCircuit phase.circuit.now }
     requires sketch { IsSketch phase.circuit.now sketch.old }
     requires values { length values.old ≡ length phase.circuit.now.ops }
     ensures sketch { IsSketch phase.entry.circuit.now sketch.new }
@@ -156,16 +155,22 @@ pub(crate) fn draw(phase: Phase<'_>, sketch: &mut Sketch, values: &mut [Tri]) ->
     ensures shows { IsShownOn (logic_at phase.entry.circuit.now) (edges_of phase.entry.pulse.rising (is_up phase.entry.pulse.pulsed.now)) (λ net. true) (shown_at sketch.new.shown.items) }
     ensures entries { result ≡ true → (c : ℕ) → c < length phase.entry.circuit.now.flops → entry_for (cell_at (map cell_of phase.entry.circuit.now.flops) c) (pulse_at phase.entry.pulse) (origin_at sketch.new.origins.items) (shown_at sketch.new.shown.items) (spec.value_at values.new) ≡ Some (entry_at sketch.new.entries.items c) }
 {
+    let circuit = phase.circuit;
     let pulse = phase.pulse;
-    settle_list(phase.circuit, pulse, &phase.circuit.order, values);
-    find_origins(phase.circuit, pulse, &mut sketch.origins);
-    show_all(phase.circuit, pulse.rising, pulse.pulsed, &mut sketch.shown);
+    settle_list(circuit, pulse, &circuit.order, values);
+    find_origins(circuit, pulse, &mut sketch.origins);
+    show_all(circuit, pulse.rising, pulse.pulsed, &mut sketch.shown);
     let sights = Sights {
         origins: &sketch.origins,
         shown: &sketch.shown,
     };
-    let flops = &phase.circuit.flops;
-    find_entries(flops, pulse, &sights, values, &mut sketch.entries)
+    find_entries(
+        &circuit.flops,
+        pulse,
+        &sights,
+        values,
+        &mut sketch.entries,
+    )
 }
 
 // Lists the nets that are settled for flip-flops to take what they take, at the front of a list: how many.
@@ -175,7 +180,6 @@ fn list_needs(
     marked: &mut [bool],
     list: &mut [NetId],
 ) -> usize
-    requires circuit { IsCircuit circuit.now }
     requires entries { length entries.now ≡ length circuit.now.flops }
     requires marked { length marked.old ≡ length circuit.now.ops }
     requires list { length list.old ≡ length circuit.now.ops }
@@ -213,7 +217,6 @@ impl Plan {
         marked: &mut [bool],
         list: &mut [NetId],
     )
-        requires circuit { IsCircuit circuit.now }
         requires cells { length cells.now.values ≡ length circuit.now.flops }
         requires entries { length entries.now ≡ length circuit.now.flops }
         requires marked { length marked.old ≡ length circuit.now.ops }
@@ -245,7 +248,6 @@ impl Plan {
         values: &mut [Tri],
         row: &mut [Tri],
     ) -> bool
-        requires circuit { IsCircuit phase.circuit.now }
         requires pins { IsPins phase.circuit.now pins.now }
         requires plan { IsPlan phase.circuit.now phase.clocks.now phase.pulse.old.now.layout pins.now self.now }
         requires among { PulsesAmong phase.pulse.pulsed.now phase.clocks.now }
@@ -259,12 +261,12 @@ impl Plan {
         if !self.is_made() {
             return false;
         }
-        settle_steps(phase.circuit, phase.pulse, &self.steps, values);
+        let circuit = phase.circuit;
+        settle_steps(circuit, phase.pulse, &self.steps, values);
         if !self.fits(phase.clocks, pins, phase.pulse, values) {
             return false;
         }
-        let flops = &phase.circuit.flops;
-        find_values(flops, &self.takings, phase.pulse, values, row);
+        find_values(&circuit.flops, &self.takings, phase.pulse, values, row);
         true
     }
 }

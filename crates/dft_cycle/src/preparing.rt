@@ -2,7 +2,7 @@
 
 ghost use Rattle.std.specs.Prelude.{◌≡◌, ℕ, ◌<◌, ◌≤◌, All, length, map, replicate, take, true, false, IfOk};
 ghost use Rattle.dft_netlist.specs.Orders.{Has, numbers_of};
-ghost use Rattle.dft_logic.specs.Circuit.{IsCircuit, force_nets, cell_of, cell_at, flag_at as is_up};
+ghost use Rattle.dft_logic.specs.Circuit.{force_nets, cell_of, cell_at, flag_at as is_up};
 ghost use Rattle.dft_logic.specs.EntryTables.{scan_needs, entry_at};
 ghost use Rattle.dft_logic.specs.Entries.{Keeps};
 ghost use Rattle.dft_registers.specs.Layout.{Layout};
@@ -29,7 +29,6 @@ const LOOKS: usize = 4;
 
 // Lists the ports of resets and sets, at the front of a list: how many. All marks are lowered after it.
 fn list_forces(circuit: &Circuit, marked: &mut [bool], list: &mut [NetId]) -> usize
-    requires circuit { IsCircuit circuit.now }
     requires marked { length marked.old ≡ length circuit.now.ops }
     requires list { length list.old ≡ length circuit.now.ops }
     ensures room { result ≤ length list.new }
@@ -49,7 +48,6 @@ fn list_enables(
     marked: &mut [bool],
     list: &mut [NetId],
 ) -> usize
-    requires circuit { IsCircuit circuit.now }
     requires entries { length entries.now ≡ length circuit.now.flops }
     requires keep { (c : ℕ) → entry_at entries.now c ≡ Keeps }
     requires marked { length marked.old ≡ length circuit.now.ops }
@@ -68,7 +66,6 @@ fn pins(
     entries: &[Entry],
     marked: &mut [bool],
 ) -> Result<Pins, AllocError>
-    requires circuit { IsCircuit circuit.now }
     requires entries { length entries.now ≡ length circuit.now.flops }
     requires keep { (c : ℕ) → entry_at entries.now c ≡ Keeps }
     requires marked { length marked.old ≡ length circuit.now.ops }
@@ -146,7 +143,6 @@ impl Plans {
         registers: usize,
         marked: &mut [bool],
     ) -> Result<Plans, AllocError>
-        requires circuit { IsCircuit circuit.now }
         requires marked { length marked.old ≡ length circuit.now.ops }
         ensures plans { IfOk result (λ plans. (l : Layout) → ArePlans circuit.now clocks.now l plans) }
         ensures clear { IfOk result (λ _. (k : ℕ) → is_up marked.new k ≡ false) }

@@ -7,7 +7,7 @@ ghost use Rattle.dft_netlist.specs.Runs.{takes};
 ghost use Rattle.dft_abstract.specs.Cycle.{AreViews, IsLeast};
 ghost use Rattle.dft_cycle.specs.Machine.{AreNets};
 ghost use Rattle.dft_cycle.specs.Machine as spec;
-ghost use Rattle.dft_logic.specs.Circuit.{IsCircuit, IsReady, logic_at, cell_of, cell_at, flag_at as is_up, pulse_at};
+ghost use Rattle.dft_logic.specs.Circuit.{IsReady, logic_at, cell_of, cell_at, flag_at as is_up, pulse_at};
 ghost use Rattle.dft_cycle.specs.Views.{IsHeld, OwnsLatches, PulsesAmong, HasNext, raised_by, is_known, StaysBelow, AreNext, IsAlone, IsSearch};
 
 use crate::flops::{hold, take_next};
@@ -35,7 +35,6 @@ fn round(
     values: &mut [Tri],
     marked: &mut [bool],
 ) -> bool
-    requires circuit { IsCircuit phase.circuit.now }
     requires held { length held.old ≡ length phase.circuit.now.flops }
     requires values { length values.old ≡ length phase.circuit.now.ops }
     requires marked { length marked.old ≡ length phase.circuit.now.ops }
@@ -48,6 +47,8 @@ fn round(
     ensures clear { (k : ℕ) → is_up marked.new k ≡ false }
     ensures ready { IsReady phase.entry.circuit.now values.new }
 {
+    let circuit = phase.circuit;
+    let _ = &circuit.order;
     let mut last = first(phase.clocks);
     let view = View {
         pulse: phase.pulse,
@@ -55,7 +56,7 @@ fn round(
         poss,
         held,
     };
-    settle_again(phase.circuit, &view, values, marked);
+    settle_again(circuit, &view, values, marked);
     let mut changed = false;
     for clock in phase.clocks {
         let view = View {
@@ -64,9 +65,9 @@ fn round(
             poss,
             held,
         };
-        change_view(phase.circuit, &view, last, values, marked);
+        change_view(circuit, &view, last, values, marked);
         last = *clock;
-        let moved = hold(phase.circuit, *clock, values, held);
+        let moved = hold(circuit, *clock, values, held);
         changed = changed || moved;
     }
     changed
@@ -88,7 +89,6 @@ fn hold_lockups(
     values: &mut [Tri],
     marked: &mut [bool],
 )
-    requires circuit { IsCircuit phase.circuit.now }
     requires held { length held.old ≡ length phase.circuit.now.flops }
     requires values { length values.old ≡ length phase.circuit.now.ops }
     requires marked { length marked.old ≡ length phase.circuit.now.ops }
@@ -100,7 +100,8 @@ fn hold_lockups(
     ensures clear { (k : ℕ) → is_up marked.new k ≡ false }
     ensures ready { IsReady phase.entry.circuit.now values.new }
 {
-    if !has_latch(&phase.circuit.latches) {
+    let circuit = phase.circuit;
+    if !has_latch(&circuit.latches) {
         return;
     }
     for _level in 0..values.len() {
@@ -112,7 +113,6 @@ fn hold_lockups(
 
 // The next values of the flip-flops of the pulsed domains, each in the view of its domain.
 fn next_values(views: Views<'_>, values: &mut [Tri], marked: &mut [bool], next: &mut [Tri])
-    requires circuit { IsCircuit views.phase.circuit.now }
     requires values { length values.old ≡ length views.phase.circuit.now.ops }
     requires marked { length marked.old ≡ length views.phase.circuit.now.ops }
     requires live { AreNets (length views.phase.circuit.now.ops) views.phase.clocks.now }
@@ -185,7 +185,6 @@ fn pulsing(pulsed: &[bool], clocks: &[NetId]) -> usize
 
 // Whether one domain pulses at most, and there is no lock-up: then its next values do not depend on the map.
 fn is_alone(circuit: &Circuit, pulsed: &[bool], clocks: &[NetId]) -> bool
-    requires circuit { IsCircuit circuit.now }
     requires pulsing { PulsesAmong pulsed.now clocks.now }
     ensures { result ≡ true → IsAlone (logic_at circuit.now) (is_up pulsed.now) }
 {
@@ -210,7 +209,6 @@ fn turn(
     values: &mut [Tri],
     marked: &mut [bool],
 ) -> bool
-    requires circuit { IsCircuit phase.circuit.now }
     requires owned { OwnsLatches phase.circuit.now phase.clocks.now }
     requires pulsing { PulsesAmong phase.pulse.pulsed.now phase.clocks.now }
     requires alone { alone ≡ true → IsAlone (logic_at phase.circuit.now) (is_up phase.pulse.pulsed.now) }
@@ -228,6 +226,7 @@ fn turn(
     ensures clear { (k : ℕ) → is_up marked.new k ≡ false }
     ensures ready { IsReady phase.entry.circuit.now values.new }
 {
+    let circuit = phase.circuit;
     hold_lockups(phase, &search.poss, &mut search.held, values, marked);
     let views = Views {
         phase,
@@ -236,7 +235,7 @@ fn turn(
     };
     next_values(views, values, marked, &mut search.next);
     let changed = raise(
-        &phase.circuit.flops,
+        &circuit.flops,
         phase.pulse.rising,
         phase.pulse.pulsed,
         &search.next,
@@ -253,7 +252,6 @@ pub(crate) fn find_least(
     values: &mut [Tri],
     marked: &mut [bool],
 )
-    requires circuit { IsCircuit phase.circuit.now }
     requires owned { OwnsLatches phase.circuit.now phase.clocks.now }
     requires pulsing { PulsesAmong phase.pulse.pulsed.now phase.clocks.now }
     requires search { IsSearch phase.circuit.now search.old }

@@ -9,7 +9,7 @@ ghost use Rattle.dft_netlist.specs.Settled.{value_given};
 ghost use Rattle.dft_abstract.specs.Cycle.{level_before};
 ghost use Rattle.dft_logic.specs.Needs.{before_from, strobe_from};
 ghost use Rattle.dft_logic.specs.Values as spec;
-ghost use Rattle.dft_logic.specs.Circuit.{AreOrdered, Fits, IsCircuit, meaning, op_at, pulse_at, source_at};
+ghost use Rattle.dft_logic.specs.Circuit.{AreOrdered, Fits, meaning, op_at, pulse_at, source_at};
 ghost use Rattle.dft_cycle.specs.Steps.{told, told_by, step_nets, IsWithin, IsStep};
 
 use dft_base::Tri;
@@ -224,7 +224,6 @@ fn level(pulse: Pulse<'_>, clock: u32) -> bool
 // The value that the circuit gives a net before the edges of a phase.
 #[inline(never)]
 fn net_before(circuit: &Circuit, net: NetId, pulse: Pulse<'_>, values: &[Tri]) -> Tri
-    requires { IsCircuit circuit.now }
     ensures { result ≡ value_given (before_from (pulse_at pulse.entry) (spec.value_at values.now)) (spec.value_at values.now) net.0 (meaning (op_at circuit.now.ops net.0)) }
 {
     match circuit.ops.get(net.0 as usize) {
@@ -256,7 +255,6 @@ impl Step {
 
     // The value that it gives its net before the edges of a phase.
     fn value(&self, circuit: &Circuit, pulse: Pulse<'_>, values: &[Tri]) -> Tri
-        requires circuit { IsCircuit circuit.now }
         requires within { IsWithin self.now.what self.now.first self.now.second self.now.third (length values.now) }
         ensures { result ≡ value_given (before_from (pulse_at pulse.entry) (spec.value_at values.now)) (spec.value_at values.now) self.now.net.0 (told_by self.now (meaning (op_at circuit.now.ops self.now.net.0))) }
     {
@@ -286,7 +284,6 @@ impl Step {
 
 // Settles the nets of steps before the edges of a phase, whatever the values before.
 pub(crate) fn settle_steps(circuit: &Circuit, pulse: Pulse<'_>, steps: &[Step], values: &mut [Tri])
-    requires circuit { IsCircuit circuit.now }
     requires values { length values.old ≡ length circuit.now.ops }
     requires steps { All (IsStep circuit.now) steps.now }
     requires ordered { AreOrdered circuit.now.ops [] (numbers_of (step_nets steps.now)) }
@@ -306,7 +303,6 @@ pub(crate) fn strobe_steps(
     steps: &[Step],
     values: &mut [Tri],
 )
-    requires circuit { IsCircuit circuit.now }
     requires values { length values.old ≡ length circuit.now.ops }
     requires steps { All (IsStep circuit.now) steps.now }
     requires ordered { AreOrdered circuit.now.ops [] (numbers_of (step_nets steps.now)) }

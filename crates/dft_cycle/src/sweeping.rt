@@ -3,7 +3,7 @@
 ghost use Rattle.std.specs.Prelude.{◌≡◌, ◌⊎◌, ℕ, List, ◌<◌, length, true, false};
 ghost use Rattle.dft_netlist.specs.Logic.{reads};
 ghost use Rattle.dft_netlist.specs.Orders.{Has};
-ghost use Rattle.dft_logic.specs.Circuit.{meaning, op_at, IsCircuit, IsGivenIn, IsGiven, IsReady, flag_at as is_up};
+ghost use Rattle.dft_logic.specs.Circuit.{meaning, op_at, IsGivenIn, IsGiven, IsReady, flag_at as is_up};
 ghost use Rattle.dft_logic.specs.Tables.{list_at};
 
 use dft_base::Tri;
@@ -29,7 +29,6 @@ fn renew(
     values: &mut [Tri],
     marked: &mut [bool],
 ) -> bool
-    requires circuit { IsCircuit circuit.now }
     requires live { net.0 < length circuit.now.ops }
     requires values { length values.old ≡ length circuit.now.ops }
     requires marked { length marked.old ≡ length circuit.now.ops }
@@ -62,7 +61,6 @@ fn refresh(
     values: &mut [Tri],
     marked: &mut [bool],
 ) -> bool
-    requires circuit { IsCircuit circuit.now }
     requires live { (k : ℕ) → Has nets.now k → k < length circuit.now.ops }
     requires values { length values.old ≡ length circuit.now.ops }
     requires marked { length marked.old ≡ length circuit.now.ops }
@@ -85,7 +83,6 @@ fn settle_marked(
     values: &mut [Tri],
     marked: &mut [bool],
 )
-    requires circuit { IsCircuit circuit.now }
     requires live { net.0 < length circuit.now.ops }
     requires values { length values.old ≡ length circuit.now.ops }
     requires marked { length marked.old ≡ length circuit.now.ops }
@@ -101,7 +98,6 @@ fn settle_marked(
 
 // Evaluates the marked nets, in the circuit's order, and the readers of those that change.
 fn sweep(circuit: &Circuit, view: &View<'_, '_, '_>, values: &mut [Tri], marked: &mut [bool])
-    requires circuit { IsCircuit circuit.now }
     requires values { length values.old ≡ length circuit.now.ops }
     requires marked { length marked.old ≡ length circuit.now.ops }
     requires given { (k : ℕ) → is_up marked.old k ≡ false → IsGiven circuit.now view.now values.old k }
@@ -121,7 +117,6 @@ pub(crate) fn change_view(
     values: &mut [Tri],
     marked: &mut [bool],
 )
-    requires circuit { IsCircuit circuit.now }
     requires values { length values.old ≡ length circuit.now.ops }
     requires marked { length marked.old ≡ length circuit.now.ops }
     requires clear { (k : ℕ) → is_up marked.old k ≡ false }
@@ -155,7 +150,6 @@ pub(crate) fn settle_again(
     values: &mut [Tri],
     marked: &mut [bool],
 )
-    requires circuit { IsCircuit circuit.now }
     requires values { length values.old ≡ length circuit.now.ops }
     requires marked { length marked.old ≡ length circuit.now.ops }
     requires clear { (k : ℕ) → is_up marked.old k ≡ false }
@@ -177,7 +171,6 @@ pub(crate) fn enter(
     values: &mut [Tri],
     marked: &mut [bool],
 )
-    requires circuit { IsCircuit circuit.now }
     requires values { length values.old ≡ length circuit.now.ops }
     requires marked { length marked.old ≡ length circuit.now.ops }
     requires live { (last.0 < length circuit.now.ops) × (view.now.domain.0 < length circuit.now.ops) }

@@ -1,11 +1,11 @@
 -- One lock-up more has its value.
-use Rattle.std.proofs.Common.{ℕ, Option, None, ◌≡◌, ◌<◌, ◌∙◌, refl, ap, sym, length, get_or, arith}
+use Rattle.std.proofs.Common.{ℕ, Option, None, ◌≡◌, ◌<◌, ◌∙◌, refl, ap, sym, length, get_or, arith, subst}
 use Rattle.std.proofs.lemmas.List.{get_or_read, get_or_default}
 use Rattle.dft_base.specs.declared.tri.Tri.{Tri}
 use Rattle.dft_base.specs.declared.tri.Tri.TheVariants.{Zero, Unknown}
 use Rattle.dft_logic.specs.declared.circuit.Latch.{Latch}
 use Rattle.dft_cycle.specs.Machine.{value_at}
-use Rattle.dft_logic.specs.Circuit.{latch_of, latch_at}
+use Rattle.dft_logic.specs.Circuit.{IsCircuit, latch_of, latch_at}
 use Rattle.dft_cycle.specs.Views.{held_by}
 use Rattle.dft_logic.specs.Tables.{list_at}
 use Rattle.dft_logic.proofs.Writings.{write_same}
@@ -19,7 +19,7 @@ index-requires c =
     let x = c.args.circuit.now in
     let xs = c.list_of-latch-items.result.now in
     let named : xs ≡ list_at x.holders c.args.domain.0 = c.list_of-latch-items.ensures in
-    let own = holder_listed x c.args.domain.0 (get_or xs c.loop-latch.latch-index 0) xs c.requires.circuit named (has_item xs c.loop-latch.latch-index 0 c.loop-latch-test.true) in
+    let own = holder_listed x c.args.domain.0 (get_or xs c.loop-latch.latch-index 0) xs (subst IsCircuit c.circuit.view_is c.circuit.invariant) named (has_item xs c.loop-latch.latch-index 0 c.loop-latch-test.true) in
     let less = own.0 in
     let e = x.latches.ok.0 in
     omega arith
@@ -29,7 +29,7 @@ bounds-held-place c =
     let x = c.args.circuit.now in
     let xs = c.list_of-latch-items.result.now in
     let named : xs ≡ list_at x.holders c.args.domain.0 = c.list_of-latch-items.ensures in
-    let own = holder_listed x c.args.domain.0 (get_or xs c.loop-latch.latch-index 0) xs c.requires.circuit named (has_item xs c.loop-latch.latch-index 0 c.loop-latch-test.true) in
+    let own = holder_listed x c.args.domain.0 (get_or xs c.loop-latch.latch-index 0) xs (subst IsCircuit c.circuit.view_is c.circuit.invariant) named (has_item xs c.loop-latch.latch-index 0 c.loop-latch-test.true) in
     let less = own.0 in
     let e = c.loop-latch.auto.held ∙ c.requires.held in
     omega arith
@@ -42,7 +42,7 @@ loop-latch-preserved c =
     let d : ℕ = c.args.domain.0 in
     let values : ℕ → Tri = value_at c.args.values.now in
     let named : xs ≡ list_at x.holders d = c.list_of-latch-items.ensures in
-    let own = holder_listed x d place xs c.requires.circuit named (has_item xs c.loop-latch.latch-index 0 c.loop-latch-test.true) in
+    let own = holder_listed x d place xs (subst IsCircuit c.circuit.view_is c.circuit.invariant) named (has_item xs c.loop-latch.latch-index 0 c.loop-latch-test.true) in
     let less : place < length x.latches = own.0 in
     let live : place < length c.loop-latch.held = (let e = c.loop-latch.auto.held ∙ c.requires.held in omega arith) in
     let old : Tri = c.value_at-old.result in

@@ -1,11 +1,11 @@
 -- One flip-flop more has its value.
-use Rattle.std.proofs.Common.{ℕ, ◌≡◌, ◌<◌, ◌∙◌, refl, ap, length, map, get_or, arith}
+use Rattle.std.proofs.Common.{ℕ, ◌≡◌, ◌<◌, ◌∙◌, refl, ap, length, map, get_or, arith, subst}
 use Rattle.std.proofs.lemmas.List.{get_or_read}
 use Rattle.dft_base.specs.declared.tri.Tri.{Tri}
 use Rattle.dft_netlist.specs.Logic.{Cell}
 use Rattle.dft_logic.specs.declared.circuit.FlipFlop.{FlipFlop}
 use Rattle.dft_cycle.specs.Machine.{value_at}
-use Rattle.dft_logic.specs.Circuit.{cell_of, cell_at}
+use Rattle.dft_logic.specs.Circuit.{IsCircuit, cell_of, cell_at}
 use Rattle.dft_cycle.specs.Views.{next_at, next_by}
 use Rattle.dft_logic.specs.Tables.{list_at}
 use Rattle.dft_logic.proofs.Writings.{cell_read}
@@ -18,7 +18,7 @@ index-requires c =
     let x = c.args.circuit.now in
     let xs = c.list_of-cell-items.result.now in
     let named : xs ≡ list_at x.cells c.args.domain.0 = c.list_of-cell-items.ensures in
-    let own = cell_listed x c.args.domain.0 (get_or xs c.loop-cell.cell-index 0) xs c.requires.circuit named (has_item xs c.loop-cell.cell-index 0 c.loop-cell-test.true) in
+    let own = cell_listed x c.args.domain.0 (get_or xs c.loop-cell.cell-index 0) xs (subst IsCircuit c.circuit.view_is c.circuit.invariant) named (has_item xs c.loop-cell.cell-index 0 c.loop-cell-test.true) in
     let less = own.0 in
     let e = x.flops.ok.0 in
     omega arith
@@ -28,7 +28,7 @@ bounds-next-place c =
     let x = c.args.circuit.now in
     let xs = c.list_of-cell-items.result.now in
     let named : xs ≡ list_at x.cells c.args.domain.0 = c.list_of-cell-items.ensures in
-    let own = cell_listed x c.args.domain.0 (get_or xs c.loop-cell.cell-index 0) xs c.requires.circuit named (has_item xs c.loop-cell.cell-index 0 c.loop-cell-test.true) in
+    let own = cell_listed x c.args.domain.0 (get_or xs c.loop-cell.cell-index 0) xs (subst IsCircuit c.circuit.view_is c.circuit.invariant) named (has_item xs c.loop-cell.cell-index 0 c.loop-cell-test.true) in
     let less = own.0 in
     let e = c.loop-cell.auto.next ∙ c.requires.next in
     omega arith
@@ -42,7 +42,7 @@ loop-cell-preserved c =
     let ports : ℕ → Tri = value_at c.args.ports.now in
     let values : ℕ → Tri = value_at c.args.values.now in
     let named : xs ≡ list_at x.cells d = c.list_of-cell-items.ensures in
-    let own = cell_listed x d place xs c.requires.circuit named (has_item xs c.loop-cell.cell-index 0 c.loop-cell-test.true) in
+    let own = cell_listed x d place xs (subst IsCircuit c.circuit.view_is c.circuit.invariant) named (has_item xs c.loop-cell.cell-index 0 c.loop-cell-test.true) in
     let less : place < length x.flops = own.0 in
     let live : place < length c.loop-cell.next = (let e = c.loop-cell.auto.next ∙ c.requires.next in omega arith) in
     let cell : Cell = cell_at (map cell_of x.flops) place in

@@ -5,7 +5,7 @@ use Rattle.dft_base.specs.declared.tri.Tri.{Tri}
 use Rattle.dft_netlist.specs.Logic.{Cell, Force}
 use Rattle.dft_logic.specs.declared.circuit.FlipFlop.{FlipFlop}
 use Rattle.dft_cycle.specs.Machine.{value_at, acted}
-use Rattle.dft_logic.specs.Circuit.{cell_of, cell_at}
+use Rattle.dft_logic.specs.Circuit.{IsCircuit, cell_of, cell_at}
 use Rattle.dft_logic.specs.Tables.{list_at}
 use Rattle.dft_logic.proofs.Writings.{cell_read}
 use Rattle.dft_cycle.proofs.Sweepings.{has_item}
@@ -17,7 +17,7 @@ index-requires c =
     let x = c.args.circuit.now in
     let xs = c.list_of-cell-items.result.now in
     let named : xs ≡ list_at x.followers c.args.net.0 = c.list_of-cell-items.ensures in
-    let less = follower_listed x c.args.net.0 (get_or xs c.loop-cell.cell-index 0) xs c.requires.circuit named (has_item xs c.loop-cell.cell-index 0 c.loop-cell-test.true) in
+    let less = follower_listed x c.args.net.0 (get_or xs c.loop-cell.cell-index 0) xs (subst IsCircuit c.circuit.view_is c.circuit.invariant) named (has_item xs c.loop-cell.cell-index 0 c.loop-cell-test.true) in
     let e = x.flops.ok.0 in
     omega arith
 
@@ -26,7 +26,7 @@ set-requires c =
     let x = c.args.circuit.now in
     let xs = c.list_of-cell-items.result.now in
     let named : xs ≡ list_at x.followers c.args.net.0 = c.list_of-cell-items.ensures in
-    let less = follower_listed x c.args.net.0 (get_or xs c.loop-cell.cell-index 0) xs c.requires.circuit named (has_item xs c.loop-cell.cell-index 0 c.loop-cell-test.true) in
+    let less = follower_listed x c.args.net.0 (get_or xs c.loop-cell.cell-index 0) xs (subst IsCircuit c.circuit.view_is c.circuit.invariant) named (has_item xs c.loop-cell.cell-index 0 c.loop-cell-test.true) in
     omega (arith, c.loop-cell.invariant.1.1, c.requires.cells, less)
 
 pub loop-cell-preserved : goal.loop-cell-preserved
@@ -37,7 +37,7 @@ loop-cell-preserved c =
     let net : ℕ = c.args.net.0 in
     let old : List Tri = c.loop-cell.cells.values in
     let named : xs ≡ list_at x.followers net = c.list_of-cell-items.ensures in
-    let less : place < length x.flops = follower_listed x net place xs c.requires.circuit named (has_item xs c.loop-cell.cell-index 0 c.loop-cell-test.true) in
+    let less : place < length x.flops = follower_listed x net place xs (subst IsCircuit c.circuit.view_is c.circuit.invariant) named (has_item xs c.loop-cell.cell-index 0 c.loop-cell-test.true) in
     let live : place < length old = omega (arith, c.loop-cell.invariant.1.1, c.requires.cells, less) in
     let force : ℕ → Option Force = λ k. (cell_at (map cell_of x.flops) k).force in
     let bit : Tri = value_at old place in

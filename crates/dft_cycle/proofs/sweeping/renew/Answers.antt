@@ -1,12 +1,12 @@
 -- Nets that do not read it keep their drivers' values.
-use Rattle.std.proofs.Common.{ℕ, map, ◌≡◌, ◌<◌, ◌∙◌, ap, length, arith}
+use Rattle.std.proofs.Common.{ℕ, map, ◌≡◌, ◌<◌, ◌∙◌, ap, length, arith, subst}
 use Rattle.std.proofs.lemmas.List.{get_or_read}
 use Rattle.dft_base.specs.declared.tri.Tri.{Tri}
 use Rattle.dft_logic.specs.declared.circuit.Op.{Op}
 use Rattle.dft_logic.specs.declared.circuit.Op.TheVariants.{Free}
 use Rattle.dft_netlist.specs.Settled.{value_given}
 use Rattle.dft_cycle.specs.Machine.{value_at}
-use Rattle.dft_logic.specs.Circuit.{cell_of, meaning, Supply, leaves_from, view_base}
+use Rattle.dft_logic.specs.Circuit.{IsCircuit, cell_of, meaning, Supply, leaves_from, view_base}
 use Rattle.dft_logic.specs.Tables.{list_at}
 use Rattle.dft_cycle.proofs.Sweepings.{written, blind}
 use Rattle.dft_cycle.proofs.sweeping.renew.Goals as goal
@@ -21,4 +21,4 @@ returns-clause-given c = λ k down before.
     let given : Op → Tri = λ o. value_given (leaves_from base (value_at c.args.values.now)) (value_at c.args.values.now) net (meaning o) in
     let value : c.op_value-value.result ≡ given c.index.result.now = rw c.deref.ensures.value at c.op_value-value.ensures in
     written x.ops base c.args.values.now net k c.op_value-value.result live (value ∙ ap given (get_or_read x.ops net c.index.result.now c.requires.live c.index.ensures Free))
-    (blind x net k c.list_of-readers.result.now c.requires.circuit c.requires.live readers (c.mark_all.ensures.lowered k down).1) before)
+    (blind x net k c.list_of-readers.result.now (subst IsCircuit c.circuit.view_is c.circuit.invariant) c.requires.live readers (c.mark_all.ensures.lowered k down).1) before)

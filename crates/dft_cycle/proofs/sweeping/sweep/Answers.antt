@@ -1,11 +1,12 @@
 -- One net more.
-use Rattle.std.proofs.Common.{List, ◌≡◌, ◌<◌, ◌∙◌, ap, length, get_or, arith}
+use Rattle.std.proofs.Common.{List, ◌≡◌, ◌<◌, ◌∙◌, ap, length, get_or, arith, subst}
+use Rattle.dft_logic.specs.Circuit.{IsCircuit}
 use Rattle.dft_netlist.specs.declared.ids.NetId.{NetId}
 use Rattle.dft_cycle.proofs.Sweepings.{sweeping_starts, sweeping_more, swept}
 use Rattle.dft_cycle.proofs.sweeping.sweep.Goals as goal
 
 pub loop-net-init : goal.loop-net-init
-loop-net-init c = sweeping_starts c.args.circuit.now _ _ _ c.requires.circuit c.requires.given
+loop-net-init c = sweeping_starts c.args.circuit.now _ _ _ (subst IsCircuit c.circuit.view_is c.circuit.invariant) c.requires.given
 
 pub loop-net-preserved : goal.loop-net-preserved
 loop-net-preserved c =

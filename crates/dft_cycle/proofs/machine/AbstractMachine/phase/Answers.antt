@@ -77,7 +77,6 @@ invariant_of-self c =
     put_passed d.circuit p d.cells c.index-plan.result.now c.find-found.new.row c.deref-in-Some-2.result.now c.put_all.new.cells.values c.deref-in-Some.result.now c.deref-in-Some-3.result.now found
     c.deref-in-Some.ensures.value row c.deref-in-Some-3.ensures.value c.put_all.ensures.put in
     record {
-      circuit = i.circuit;
       compiled = i.compiled;
       rests = i.rests;
       owned = i.owned;
@@ -106,7 +105,6 @@ invariant_of-self-in-None c =
     let i = c.self.invariant in
     let d = c.self.inside in
     record {
-      circuit = i.circuit;
       compiled = i.compiled;
       rests = i.rests;
       owned = i.owned;

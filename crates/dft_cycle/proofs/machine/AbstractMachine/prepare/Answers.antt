@@ -35,7 +35,6 @@ invariant_of-result c =
     let down : length pulsed.items ≡ length n.nets = ap length c.in_ok-pulsed.ensures ∙ length-replicate _ _ ∙ count in
     let marks : length (with_items pulsed c.flag_clocks.new.flags).items ≡ length n.nets = refilled pulsed c.flag_clocks.new.flags ∙ down in
     record {
-      circuit = is.circuit;
       compiled = ap L (sym (same_ports c.deref.result.now clocks same)) ∙ is.compiled;
       rests = λ none. circuit_rises x (sym (ap (λ (l : List FlipFlop). list_any (λ flop. flop.falling) l) c.deref-3.ensures.value) ∙ sym c.has_falling-falls.ensures ∙ none);
       owned = λ k e high source h. one_among clocks e (sym (same e) ∙ is.clocked k e high source h);

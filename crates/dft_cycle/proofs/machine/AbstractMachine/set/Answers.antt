@@ -16,7 +16,6 @@ invariant_of-self c =
     let d = c.self.inside in
     let cells = c.act.new.cells in
     record {
-      circuit = i.circuit;
       compiled = i.compiled;
       rests = i.rests;
       owned = i.owned;

@@ -15,7 +15,6 @@ invariant_of-self c =
     let i = c.self.invariant in
     let d = c.self.inside in
     record {
-      circuit = i.circuit;
       compiled = i.compiled;
       rests = i.rests;
       owned = i.owned;
