@@ -5,7 +5,6 @@ ghost use Rattle.dft_base.specs.declared.tri.Tri.{Tri as ATri};
 ghost use Rattle.dft_netlist.specs.Orders.{numbers_of};
 ghost use Rattle.dft_abstract.specs.Cycle.{all_unknown};
 ghost use Rattle.dft_faults.specs.declared.fault.Fault.{Fault as AFault};
-ghost use Rattle.dft_logic.specs.Circuit.{IsCircuit};
 ghost use Rattle.dft_logic.specs.Values as values;
 ghost use Rattle.dft_replay.specs.Rows.{is_pulse, row_of, rows_from};
 ghost use Rattle.dft_replay.specs.Vectors.{AreSignals};
@@ -52,7 +51,6 @@ fn settle_by(
     cells: &Cells,
     wides: &mut [Wide],
 ) -> bool
-    requires circuit { IsCircuit group.circuit.now }
     requires clamped { length group.clamps.now ≡ length group.circuit.now.ops }
     requires clamps { AreClamps group.clamps.now }
     requires plan { IsPlan group.circuit.now group.clamps.now cells.now.layout group.nets.now plan.now }
@@ -75,7 +73,6 @@ fn settle_by(
 
 // Makes the plan for a vector, unless it is for it.
 fn ready(group: Group<'_>, acts: &[Act], value: Tri, free: bool, cells: &Cells, plan: &mut Plan)
-    requires circuit { IsCircuit group.circuit.now }
     requires nets { AreSignals (length group.circuit.now.ops) group.nets.now }
     requires acts { length acts.now ≡ length group.nets.now }
     requires count { length cells.now.values ≡ length group.circuit.now.flops }
@@ -111,7 +108,6 @@ fn strobe(
     cells: &Cells,
     wides: &mut [Wide],
 )
-    requires circuit { IsCircuit group.circuit.now }
     requires clamped { length group.clamps.now ≡ length group.circuit.now.ops }
     requires clamps { AreClamps group.clamps.now }
     requires nets { AreSignals (length group.circuit.now.ops) group.nets.now }
@@ -160,7 +156,6 @@ fn play(
     live: &mut Wide,
     found: &mut [Option<Grade>],
 )
-    requires circuit { IsCircuit group.circuit.now }
     requires clamped { length group.clamps.now ≡ length group.circuit.now.ops }
     requires clamps { AreClamps group.clamps.now }
     requires nets { AreSignals (length group.circuit.now.ops) group.nets.now }
@@ -191,10 +186,11 @@ fn play(
 {
     set_inputs(group.nets, acts, ports);
     let free = are_ones(&plan.forces, ports);
-    act(&group.circuit.flops, free, ports, cells);
+    let circuit = group.circuit;
+    act(&circuit.flops, free, ports, cells);
     strobe(group, acts, ports, free, plan, cells, wides);
     let play = Play {
-        circuit: group.circuit,
+        circuit,
         clamps: group.clamps,
         ports,
         plan,
@@ -216,7 +212,6 @@ fn run(
     live: &mut Wide,
     found: &mut [Option<Grade>],
 )
-    requires circuit { IsCircuit group.circuit.now }
     requires clamped { length group.clamps.now ≡ length group.circuit.now.ops }
     requires clamps { AreClamps group.clamps.now }
     requires nets { AreSignals (length group.circuit.now.ops) group.nets.now }
@@ -360,7 +355,6 @@ pub fn grade_group(
     count: usize,
     faults: &[Fault],
 ) -> Result<Vec<Option<Grade>>, AllocError>
-    requires circuit { IsCircuit circuit.now }
     requires nets { AreSignals (length circuit.now.ops) nets.now }
     requires few { length nets.now < 2 ^ 32 }
     requires vectors { length vectors.now < 2 ^ 32 }

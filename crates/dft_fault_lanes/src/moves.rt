@@ -83,7 +83,8 @@ fn is_cell(wiring: Wiring<'_>, net: NetId, cell: usize) -> bool
     if is_bound(wiring.clamps, net) {
         return false;
     }
-    is_driver(&wiring.circuit.ops, net, cell)
+    let circuit = wiring.circuit;
+    is_driver(&circuit.ops, net, cell)
 }
 
 // Whether what is read at a pin is the bit of a cell.
@@ -231,7 +232,8 @@ pub(crate) fn find_moves(wiring: Wiring<'_>, pulsed: &[bool], cells: &Cells, mov
     ensures moving { AreMoves wiring.entry.circuit.now.ops wiring.entry.clamps.now wiring.entry.circuit.now.flops wiring.entry.steer pulsed.now cells.now.layout moves.new }
 {
     raise(moves);
-    leave_moving(wiring, &wiring.circuit.flops, pulsed, cells, moves);
+    let circuit = wiring.circuit;
+    leave_moving(wiring, &circuit.flops, pulsed, cells, moves);
 }
 
 // Whether a cell at a place is moved with its register, so that it has the value of the one before it.

@@ -3,7 +3,7 @@
 ghost use Rattle.std.specs.Prelude.{◌≡◌, ◌≤◌, [], ℕ, false, length, map, take, true, IfOk};
 ghost use Rattle.std.specs.Vec.{vec_capacity};
 ghost use Rattle.dft_netlist.specs.Orders.{Has, numbers_of};
-ghost use Rattle.dft_logic.specs.Circuit.{AreOrdered, IsCircuit, cell_of, flag_at as is_up, logic_at};
+ghost use Rattle.dft_logic.specs.Circuit.{AreOrdered, cell_of, flag_at as is_up, logic_at};
 ghost use Rattle.dft_logic.specs.Needs.{HasAll, IsStrobeClosed};
 ghost use Rattle.dft_replay.specs.Rows as rows;
 ghost use Rattle.dft_replay.specs.Vectors.{AreSignals};
@@ -140,7 +140,6 @@ fn list_needs(
     marked: &mut [bool],
     list: &mut [NetId],
 ) -> usize
-    requires circuit { IsCircuit circuit.now }
     requires cells { length reading.cells.now.values ≡ length circuit.now.flops }
     requires nets { AreSignals (length circuit.now.ops) reading.nets.now }
     requires acts { length reading.acts.now ≡ length reading.nets.now }
@@ -261,7 +260,6 @@ impl Plan {
         value: Tri,
         free: bool,
     )
-        requires circuit { IsCircuit circuit.now }
         requires cells { length cells.now.values ≡ length circuit.now.flops }
         requires room { HasRoom circuit.now (length nets.now) self.old }
         requires nets { AreSignals (length circuit.now.ops) nets.now }

@@ -3,7 +3,7 @@
 ghost use Rattle.std.specs.Prelude.{◌≡◌, ◌<◌, ◌≤◌, ℕ, List, [], false, true, length, slice_index_or, take as first};
 ghost use Rattle.dft_netlist.specs.declared.ids.NetId.{NetId as ANetId};
 ghost use Rattle.dft_netlist.specs.Orders.{Has, numbers_of};
-ghost use Rattle.dft_logic.specs.Circuit.{AreOrdered, IsCircuit, flag_at as is_up};
+ghost use Rattle.dft_logic.specs.Circuit.{AreOrdered, flag_at as is_up};
 ghost use Rattle.dft_evaluator.specs.Wides.{AreWides, IsWide, value_in};
 ghost use Rattle.dft_fault_lanes.specs.Lanes.{AreClamps, AreSettledOn, AreTaken, KeepsSteady};
 ghost use Rattle.dft_fault_lanes.specs.Plans.{SteersAll, needs_of};
@@ -94,7 +94,6 @@ fn front(list: &[NetId], count: usize) -> &[NetId]
 
 /// Settles the nets that a plan needs while clocks have these levels. Whether the net of scan enables has its value in each lane.
 pub fn settle_plan(play: Play<'_>, levels: &[bool], cells: &Cells, wides: &mut [Wide]) -> bool
-    requires circuit { IsCircuit play.circuit.now }
     requires clamped { length play.clamps.now ≡ length play.circuit.now.ops }
     requires clamps { AreClamps play.clamps.now }
     requires nets { length wides.old ≡ length play.circuit.now.ops }
@@ -129,9 +128,10 @@ fn keep_rises(play: Play<'_>, held: &Cells, wides: &[Wide], live: &mut Wide)
     ensures wide { IsWide live.new (value_in live.new) }
 {
     let plan = play.plan;
+    let circuit = play.circuit;
     if !plan.steady {
         keep_steady(
-            &play.circuit.flops,
+            &circuit.flops,
             true,
             &plan.pulsed,
             &plan.rises,
@@ -151,9 +151,10 @@ fn keep_falls(play: Play<'_>, known: bool, held: &Cells, wides: &[Wide], live: &
     ensures wide { IsWide live.new (value_in live.new) }
 {
     let plan = play.plan;
+    let circuit = play.circuit;
     live_where(known, live);
     keep_steady(
-        &play.circuit.flops,
+        &circuit.flops,
         false,
         &plan.pulsed,
         &plan.falls,
@@ -178,8 +179,9 @@ fn take_rises(play: Play<'_>, wides: &[Wide], cells: &mut Cells)
     ensures taken { AreSettledOn play.entry.circuit.now.ops (at_levels play.entry.ports.now [] cells.old.values play.entry.clamps.now) (needs_of (length play.entry.circuit.now.ops) play.entry.plan.now.marked.items) wides.now → AreTaken play.entry.circuit.now.flops true play.entry.plan.now.pulsed.items play.entry.ports.now (seen play.entry.circuit.now.ops play.entry.clamps.now play.entry.plan.now.marked.items cells.old.values wides.now) cells.old.values cells.new.values }
 {
     let plan = play.plan;
+    let circuit = play.circuit;
     cells.shift(&plan.moves);
-    take(&play.circuit.flops, &plan.taking, play.ports, wides, cells);
+    take(&circuit.flops, &plan.taking, play.ports, wides, cells);
 }
 
 // The clocks rise, after a strobe with these values of nets.
@@ -217,9 +219,10 @@ fn fall_with(play: Play<'_>, known: bool, wides: &[Wide], cells: &mut Cells, liv
     ensures live { IsWide live.new (value_in live.new) }
     ensures phase { IsPhase play.entry.circuit.now (needs_of (length play.entry.circuit.now.ops) play.entry.plan.now.marked.items) false play.entry.ports.now play.entry.plan.now.pulsed.items wides.now cells.old.values cells.new.values live.old live.new }
 {
+    let circuit = play.circuit;
     keep_falls(play, known, cells, wides, live);
     take(
-        &play.circuit.flops,
+        &circuit.flops,
         &play.plan.falling,
         play.ports,
         wides,
@@ -229,7 +232,6 @@ fn fall_with(play: Play<'_>, known: bool, wides: &[Wide], cells: &mut Cells, liv
 
 // The falls of a pulse.
 fn fall(play: Play<'_>, later: &mut [Wide], cells: &mut Cells, live: &mut Wide)
-    requires circuit { IsCircuit play.circuit.now }
     requires plan { (signals : List ANetId) × IsPlan play.circuit.now play.clamps.now cells.old.layout signals play.plan.now }
     requires clamped { length play.clamps.now ≡ length play.circuit.now.ops }
     requires clamps { AreClamps play.clamps.now }
@@ -254,7 +256,6 @@ fn fall(play: Play<'_>, later: &mut [Wide], cells: &mut Cells, live: &mut Wide)
 /// Pulses clocks after a strobe with these values of nets. Lanes stay live in which each cell that takes a value reads what is still.
 /// Nets are settled anew in another table where a cell takes a value at a fall.
 pub fn pulse(play: Play<'_>, wides: &[Wide], later: &mut [Wide], cells: &mut Cells, live: &mut Wide)
-    requires circuit { IsCircuit play.circuit.now }
     requires plan { (signals : List ANetId) × IsPlan play.circuit.now play.clamps.now cells.old.layout signals play.plan.now }
     requires free { play.plan.now.steer.free ≡ true → NoneActs play.circuit.now.flops play.ports.now }
     requires idle { AreIdleUnknown play.circuit.now.flops cells.old.values }
@@ -276,6 +277,8 @@ pub fn pulse(play: Play<'_>, wides: &[Wide], later: &mut [Wide], cells: &mut Cel
     ensures idle { AreSettledOn play.entry.circuit.now.ops (at_levels play.entry.ports.now [] cells.old.values play.entry.clamps.now) (needs_of (length play.entry.circuit.now.ops) play.entry.plan.now.marked.items) wides.now → AreIdleUnknown play.entry.circuit.now.flops cells.new.values }
     ensures pulsed { ArePulsed play.entry.circuit.now (needs_of (length play.entry.circuit.now.ops) play.entry.plan.now.marked.items) play.entry.ports.now play.entry.plan.now.pulsed.items play.entry.clamps.now wides.now cells.old.values cells.new.values live.old live.new }
 {
+    let circuit = play.circuit;
+    let _ = &circuit.order;
     rise(play, wides, cells, live);
     fall(play, later, cells, live);
 }

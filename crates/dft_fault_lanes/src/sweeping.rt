@@ -6,7 +6,7 @@ ghost use Rattle.dft_netlist.specs.Orders.{Has, numbers_of};
 ghost use Rattle.dft_netlist.specs.Settled as settled;
 ghost use Rattle.dft_netlist.specs.Settled.{inverse, value_given};
 ghost use Rattle.dft_logic.specs.Circuit as circuits;
-ghost use Rattle.dft_logic.specs.Circuit.{AreOrdered, Fits, IsCircuit, meaning, op_at};
+ghost use Rattle.dft_logic.specs.Circuit.{AreOrdered, Fits, meaning, op_at};
 ghost use Rattle.dft_logic.specs.Needs.{still_from};
 ghost use Rattle.dft_logic.specs.Values as spec;
 ghost use Rattle.dft_evaluator.specs.Wides.{AreWides, IsWide, values_in};
@@ -79,7 +79,6 @@ fn given_wide(op: &Op, net: NetId, setting: Setting<'_>, wides: &[Wide]) -> Wide
 
 /// Settles these nets in each lane, whatever the values before.
 pub fn settle(circuit: &Circuit, setting: Setting<'_>, nets: &[NetId], wides: &mut [Wide])
-    requires circuit { IsCircuit circuit.now }
     requires nets { length wides.old ≡ length circuit.now.ops }
     requires clamped { length setting.clamps.now ≡ length circuit.now.ops }
     requires wides { AreWides wides.old }

@@ -3,6 +3,7 @@ use Rattle.std.proofs.Common.{ℕ, ◌≡◌, ◌∙◌, List, Option, Some, len
 use Rattle.std.proofs.lemmas.List.{with_items_is, length-replicate}
 use Rattle.dft_faults.specs.declared.fault.Fault.{Fault}
 use Rattle.dft_lanes.specs.declared.wide.Wide.{Wide}
+use Rattle.dft_logic.specs.Circuit.{Circuit}
 use Rattle.dft_evaluator.specs.Wides.{AreWides, unknown_wide}
 use Rattle.dft_evaluator.proofs.EvaluatorLemmas.{blank_whole}
 use Rattle.dft_evaluator.proofs.WideLemmas.{wide_is}
@@ -27,7 +28,7 @@ pub run-requires-clause-each_cell : goal.run-requires-clause-each_cell
 run-requires-clause-each_cell c = subst (λ (ws : List Wide). AreWides ws) (sym c.in_ok-cells.ensures) (blank_whole _)
 
 pub run-requires-clause-cells : goal.run-requires-clause-cells
-run-requires-clause-cells c = ap length c.in_ok-cells.ensures ∙ length-replicate _ unknown_wide ∙ ap length c.deref-3.ensures.value ∙ c.in_ok-before.ensures ∙ ap length c.deref-2.ensures.value
+run-requires-clause-cells c = ap length c.in_ok-cells.ensures ∙ length-replicate _ unknown_wide ∙ ap length c.deref-3.ensures.value ∙ c.in_ok-before.ensures ∙ ap length c.deref-2.ensures.value ∙ ap (λ (m : Circuit). length m.flops) c.circuit.view_is
 
 pub run-requires-clause-live : goal.run-requires-clause-live
 run-requires-clause-live c = wide_is c.all-live.result _ c.all-live.ensures

@@ -1,6 +1,7 @@
 -- What is set, settled, taken and compared makes a step of each lane.
 use Rattle.std.proofs.Common.{List, Bool, ◌∙◌, ap, sym, subst, length}
 use Rattle.dft_netlist.specs.Orders.{numbers_of}
+use Rattle.dft_logic.specs.Circuit.{Circuit}
 use Rattle.dft_logic.specs.Values.{value_at}
 use Rattle.dft_replay.specs.Rows.{row_of}
 use Rattle.dft_lane_registers.specs.Layout.{Layout}
@@ -12,11 +13,11 @@ use Rattle.dft_fault_lanes.proofs.PlanLemmas.{none_acts, pulse_on_acts, covered_
 use Rattle.dft_fault_lanes.proofs.grouping.play.Goals as goal
 
 pub act-requires-clause-free : goal.act-requires-clause-free
-act-requires-clause-free c = λ up. rw c.deref-2.ensures.value
+act-requires-clause-free c = λ up. rw (c.deref-2.ensures.value, ap (λ (m : Circuit). m.flops) c.circuit.view_is)
     (none_acts c.args.group.circuit.now.flops c.set_inputs.new.ports c.args.plan.now.forces.items c.requires.room.forces ((rw c.deref.ensures.value at c.are_ones-free.ensures) up))
 
 pub act-requires-clause-count : goal.act-requires-clause-count
-act-requires-clause-count c = rw c.deref-2.ensures.value c.requires.cells
+act-requires-clause-count c = rw (c.deref-2.ensures.value, ap (λ (m : Circuit). m.flops) c.circuit.view_is) c.requires.cells
 
 pub strobe-requires-clause-plan : goal.strobe-requires-clause-plan
 strobe-requires-clause-plan c = λ made. (let P : Layout → Type 0 = λ l. IsPlan c.args.group.circuit.now c.args.group.clamps.now l c.args.group.nets.now c.args.plan.now in subst P (sym c.act.ensures.layout) (c.requires.plan made))
@@ -35,7 +36,7 @@ pulse-requires-clause-free c = λ up.
     none_acts c.args.group.circuit.now.flops c.set_inputs.new.ports c.args.plan.now.forces.items c.requires.room.forces ((rw c.deref.ensures.value at c.are_ones-free.ensures) (sym c.strobe.ensures.free ∙ up))
 
 pub pulse-requires-clause-idle : goal.pulse-requires-clause-idle
-pulse-requires-clause-idle c = idle_acted c.args.group.circuit.now.flops c.set_inputs.new.ports c.args.cells.now.values c.act.new.cells.values (rw c.deref-2.ensures.value at c.act.ensures.acted) c.requires.idle
+pulse-requires-clause-idle c = idle_acted c.args.group.circuit.now.flops c.set_inputs.new.ports c.args.cells.now.values c.act.new.cells.values (rw (c.deref-2.ensures.value, ap (λ (m : Circuit). m.flops) c.circuit.view_is) at c.act.ensures.acted) c.requires.idle
 
 pub returns-clause-idle : goal.returns-clause-idle
 returns-clause-idle c = c.pulse.ensures.idle c.strobe.ensures.settled
@@ -59,4 +60,4 @@ returns-clause-steps c =
     c.args.cells.now.values c.act.new.cells.values c.strobe.new.wides c.pulse.new.cells.values c.args.live.now c.pulse.new.live c.compare.new.live c.args.found.now c.compare.new.found c.set_inputs.ensures
     (λ net. c.strobe.ensures.plan.pulsing net ∙ ap (λ (ps : List Bool). pulse_on nets ps net) c.strobe.ensures.pulses ∙ pulse_on_acts nets acts net)
     (λ values all same. covered_decides c.args.group.nets.now acts (length x.ops) p.marked.items c.args.vector 0 values all c.strobe.ensures.covered same)
-    (record { acted = rw c.deref-2.ensures.value at c.act.ensures.acted; settled = c.strobe.ensures.settled }) c.pulse.ensures.pulsed c.compare.ensures.compared
+    (record { acted = rw (c.deref-2.ensures.value, ap (λ (m : Circuit). m.flops) c.circuit.view_is) at c.act.ensures.acted; settled = c.strobe.ensures.settled }) c.pulse.ensures.pulsed c.compare.ensures.compared

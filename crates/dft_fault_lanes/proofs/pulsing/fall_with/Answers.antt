@@ -1,5 +1,6 @@
 -- What nets show, which lanes stay live, what cells take.
-use Rattle.std.proofs.Common.{◌∙◌, [], false}
+use Rattle.std.proofs.Common.{◌∙◌, ap, [], false}
+use Rattle.dft_logic.specs.Circuit.{Circuit}
 use Rattle.dft_fault_lanes.specs.Idle.{is_left}
 use Rattle.dft_fault_lanes.proofs.CellLemmas.{places_taken}
 use Rattle.dft_fault_lanes.proofs.IdleLemmas.{left_falls}
@@ -7,10 +8,10 @@ use Rattle.dft_fault_lanes.proofs.PlanLemmas.{none_left}
 use Rattle.dft_fault_lanes.proofs.pulsing.fall_with.Goals as goal
 
 pub take-requires-clause-live : goal.take-requires-clause-live
-take-requires-clause-live c = rw (c.deref.ensures.value, c.deref-2.ensures.value) (λ place h. (c.requires.plan.1.falling.1 place h).0)
+take-requires-clause-live c = rw (c.deref.ensures.value, ap (λ (m : Circuit). m.flops) c.circuit.view_is, c.deref-2.ensures.value) (λ place h. (c.requires.plan.1.falling.1 place h).0)
 
 pub take-requires-clause-count : goal.take-requires-clause-count
-take-requires-clause-count c = rw c.deref.ensures.value c.requires.count
+take-requires-clause-count c = rw (c.deref.ensures.value, ap (λ (m : Circuit). m.flops) c.circuit.view_is) c.requires.count
 
 pub take-requires-clause-rest : goal.take-requires-clause-rest
 take-requires-clause-rest c = λ cell none. c.requires.cells cell
@@ -24,5 +25,5 @@ returns-clause-phase c =
       shows = c.requires.plan.1.falls;
       steady = c.keep_falls.ensures.steady;
       taken = places_taken flops false p.pulsed.items (is_left c.args.cells.now.layout [] flops) p.falling.items c.args.play.ports.now c.args.wides.now c.args.cells.now.values c.take.new.cells.values c.requires.count (c.take.ensures.count ∙ c.requires.count)
-          c.requires.plan.1.falling (λ cell up. left_falls c.args.cells.now.layout flops p.pulsed.items cell (none_left c.args.cells.now.layout cell) up) (rw (c.deref.ensures.value, c.deref-2.ensures.value) at c.take.ensures.taken) (rw c.deref-2.ensures.value at c.take.ensures.kept);
+          c.requires.plan.1.falling (λ cell up. left_falls c.args.cells.now.layout flops p.pulsed.items cell (none_left c.args.cells.now.layout cell) up) (rw (c.deref.ensures.value, ap (λ (m : Circuit). m.flops) c.circuit.view_is, c.deref-2.ensures.value) at c.take.ensures.taken) (rw c.deref-2.ensures.value at c.take.ensures.kept);
     }

@@ -1,5 +1,6 @@
 -- Registers move, and the other cells take their values.
-use Rattle.std.proofs.Common.{◌∙◌}
+use Rattle.std.proofs.Common.{◌∙◌, ap}
+use Rattle.dft_logic.specs.Circuit.{Circuit}
 use Rattle.dft_fault_lanes.proofs.MoveLemmas.{shifted_wides, moves_taken}
 use Rattle.dft_fault_lanes.proofs.pulsing.take_rises.Goals as goal
 
@@ -7,10 +8,10 @@ pub shift-requires : goal.shift-requires
 shift-requires c = rw c.deref.ensures.value c.requires.plan.1.rests
 
 pub take-requires-clause-live : goal.take-requires-clause-live
-take-requires-clause-live c = rw (c.deref-2.ensures.value, c.deref-3.ensures.value) (λ place h. (c.requires.plan.1.taking.1 place h).0)
+take-requires-clause-live c = rw (c.deref-2.ensures.value, ap (λ (m : Circuit). m.flops) c.circuit.view_is, c.deref-3.ensures.value) (λ place h. (c.requires.plan.1.taking.1 place h).0)
 
 pub take-requires-clause-count : goal.take-requires-clause-count
-take-requires-clause-count c = rw c.deref-2.ensures.value (c.shift.ensures.count ∙ c.requires.count)
+take-requires-clause-count c = rw (c.deref-2.ensures.value, ap (λ (m : Circuit). m.flops) c.circuit.view_is) (c.shift.ensures.count ∙ c.requires.count)
 
 pub take-requires-clause-rest : goal.take-requires-clause-rest
 take-requires-clause-rest c =
@@ -25,4 +26,4 @@ returns-clause-count c = c.take.ensures.count ∙ c.shift.ensures.count
 pub returns-clause-taken : goal.returns-clause-taken
 returns-clause-taken c = λ settled.
     moves_taken c.args.play.circuit.now c.args.play.clamps.now c.requires.plan.0 c.args.play.plan.now c.args.play.ports.now c.args.wides.now c.args.cells.now c.shift.new.self c.take.new.cells c.requires.plan.1 c.requires.count c.requires.nets c.requires.steers c.requires.free c.requires.idle
-    (rw c.deref.ensures.value at c.shift.ensures) c.take.ensures.count (rw (c.deref-2.ensures.value, c.deref-3.ensures.value) at c.take.ensures.taken) (rw c.deref-3.ensures.value at c.take.ensures.kept) settled
+    (rw c.deref.ensures.value at c.shift.ensures) c.take.ensures.count (rw (c.deref-2.ensures.value, ap (λ (m : Circuit). m.flops) c.circuit.view_is, c.deref-3.ensures.value) at c.take.ensures.taken) (rw c.deref-3.ensures.value at c.take.ensures.kept) settled

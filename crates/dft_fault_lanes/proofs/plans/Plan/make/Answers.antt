@@ -6,7 +6,7 @@ use Rattle.dft_netlist.specs.Orders.{Has, numbers_of}
 use Rattle.dft_lane_registers.specs.Layout.{Layout}
 use Rattle.dft_replay.specs.Vectors.{AreSignals}
 use Rattle.dft_logic.specs.declared.shown.Shown.{Shown}
-use Rattle.dft_logic.specs.Circuit.{logic_at, flag_at, AreOrdered}
+use Rattle.dft_logic.specs.Circuit.{Circuit, logic_at, flag_at, AreOrdered}
 use Rattle.dft_logic.specs.Needs.{HasAll, IsStrobeClosed}
 use Rattle.dft_logic.specs.Shows.{IsShownOn}
 use Rattle.dft_logic.specs.ShownTables.{shown_at, edges_of}
@@ -36,16 +36,16 @@ pub list_needs-self-requires-clause-list : goal.list_needs-self-requires-clause-
 list_needs-self-requires-clause-list c = ap length c.deref_mut-8.ensures.value ∙ c.requires.room.list
 
 pub list_places-requires-clause-cells : goal.list_places-requires-clause-cells
-list_places-requires-clause-cells c = rw c.deref-5.ensures.value c.requires.cells
+list_places-requires-clause-cells c = rw (c.deref-5.ensures.value, ap (λ (m : Circuit). m.flops) c.circuit.view_is) c.requires.cells
 
 pub list_places-requires-clause-room : goal.list_places-requires-clause-room
-list_places-requires-clause-room c = rw c.deref-5.ensures.value c.requires.room.taking
+list_places-requires-clause-room c = rw (c.deref-5.ensures.value, ap (λ (m : Circuit). m.flops) c.circuit.view_is) c.requires.room.taking
 
 pub list_places-requires-2-clause-cells : goal.list_places-requires-2-clause-cells
-list_places-requires-2-clause-cells c = rw c.deref-8.ensures.value c.requires.cells
+list_places-requires-2-clause-cells c = rw (c.deref-8.ensures.value, ap (λ (m : Circuit). m.flops) c.circuit.view_is) c.requires.cells
 
 pub list_places-requires-2-clause-room : goal.list_places-requires-2-clause-room
-list_places-requires-2-clause-room c = rw c.deref-8.ensures.value c.requires.room.falling
+list_places-requires-2-clause-room c = rw (c.deref-8.ensures.value, ap (λ (m : Circuit). m.flops) c.circuit.view_is) c.requires.room.falling
 
 pub returns-clause-room : goal.returns-clause-room
 returns-clause-room c =
@@ -105,7 +105,7 @@ returns-clause-plan c =
       reads = subst (λ (b : List Bool). (k : ℕ) → is_carried l moving.items k ≡ false → HasReadsOf (needs_of count b) steer (flop_at x.flops k)) (sym marked) reads;
       rests = ap (λ (l : List Bool). flag_at l 0) moves ∙ c.find_moves.ensures.rests;
       moving = subst (λ (b : List Bool). AreMoves x.ops c.args.clamps.now x.flops steer p.items l b) (sym moves) (rw c.deref-3.ensures.value at c.find_moves.ensures.moving);
-      taking = rw (c.deref-5.ensures.value, c.deref-6.ensures.value, c.deref-7.ensures.value) at c.list_places.ensures.places;
-      falling = rw (c.deref-8.ensures.value, c.deref-9.ensures.value) at c.list_places-2.ensures.places;
-      steady = λ up. steady_reads x.flops steer p.items (with_items old.rises c.show_all.new.shown).items ((rw (c.deref-10.ensures.value, c.deref-11.ensures.value, c.deref-12.ensures.value) at c.are_steady-self.ensures) up);
+      taking = rw (c.deref-5.ensures.value, ap (λ (m : Circuit). m.flops) c.circuit.view_is, c.deref-6.ensures.value, c.deref-7.ensures.value) at c.list_places.ensures.places;
+      falling = rw (c.deref-8.ensures.value, ap (λ (m : Circuit). m.flops) c.circuit.view_is, c.deref-9.ensures.value) at c.list_places-2.ensures.places;
+      steady = λ up. steady_reads x.flops steer p.items (with_items old.rises c.show_all.new.shown).items ((rw (c.deref-10.ensures.value, ap (λ (m : Circuit). m.flops) c.circuit.view_is, c.deref-11.ensures.value, c.deref-12.ensures.value) at c.are_steady-self.ensures) up);
     }
