@@ -292,16 +292,17 @@ pulses_step P clocks pulsed j e a b here (inr up) =
       ]
       | inr q ↦ inr (miss (get_or pulsed j false) (at == e) rest q.0 whole)
     ] where
-  hit : (b t r : Bool) → t ≡ true → ((b && t) || r) ≡ true → (b ≡ true) ⊎ (r ≡ true)
-  hit true true r h u = inl refl
-  hit false true r h u = inr u
-  hit true false r h u = absurd cc
-  hit false false r h u = absurd cc
-  miss : (b t r : Bool) → t ≡ false → ((b && t) || r) ≡ true → r ≡ true
-  miss true false r h u = u
-  miss false false r h u = u
-  miss true true r h u = absurd cc
-  miss false true r h u = absurd cc
+      hit : (b t r : Bool) → t ≡ true → ((b && t) || r) ≡ true → (b ≡ true) ⊎ (r ≡ true)
+      hit true true r h u = inl refl
+      hit false true r h u = inr u
+      hit true false r h u = absurd cc
+      hit false false r h u = absurd cc
+
+      miss : (b t r : Bool) → t ≡ false → ((b && t) || r) ≡ true → r ≡ true
+      miss true false r h u = u
+      miss false false r h u = u
+      miss true true r h u = absurd cc
+      miss false true r h u = absurd cc
 
 pub pulses_over : (P : ℕ → Type 0) (clocks : List NetId) (pulsed : List Bool) (j e : ℕ) → length pulsed ≤ j → P e ⊎ (pulses (drop j clocks) (drop j pulsed) e ≡ true) → P e
 pulses_over P clocks pulsed j e past (inl found) = found

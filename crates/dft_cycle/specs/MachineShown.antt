@@ -4,8 +4,8 @@ use Rattle.dft_netlist.specs.declared.ids.NetId.{NetId}
 use Rattle.dft_netlist.specs.Logic.{IsRising}
 use Rattle.dft_cycle.specs.declared.machine.AbstractMachine.TheInside.{Inside}
 use Rattle.dft_cycle.specs.Machine.{Machine, logic, is_one_of, value_at}
-use Rattle.dft_logic.specs.Circuit.{logic_at, flag_at, IsReady}
-use Rattle.dft_cycle.specs.Views.{OwnsLatches, IsSearch}
+use Rattle.dft_logic.specs.Circuit.{logic_at, flag_at}
+use Rattle.dft_cycle.specs.Views.{OwnsLatches, IsRoom}
 use Rattle.dft_cycle.specs.Plans.{ArePlans, LooseAreUnknown}
 use Rattle.dft_cycle.specs.Looks.{AreLooks}
 
@@ -23,13 +23,8 @@ pub record IsMachine (d : Inside) : Type 0 where
   pub pulsed : length d.pulsed.items ≡ length d.circuit.ops
   pub inputs : length d.inputs.items ≡ length d.circuit.ops
   pub shown : length d.shown.items ≡ length d.circuit.ops
-  pub values : length d.values.items ≡ length d.circuit.ops
   pub cells : length d.cells.values ≡ length d.circuit.flops
-  pub search : IsSearch d.circuit d.search
-  pub marked : length d.marked.items ≡ length d.circuit.ops
-  pub clear : (k : ℕ) → flag_at d.marked.items k ≡ false
-  pub ready : IsReady d.circuit d.values.items
-  pub quick : length d.quick.items ≡ length d.circuit.ops
+  pub room : IsRoom d.circuit d.room
   pub plans : ArePlans d.circuit d.clocks.items d.cells.layout d.plans
   pub looks : AreLooks d.circuit d.looks
   pub loose : LooseAreUnknown d.circuit (value_at d.cells.values)

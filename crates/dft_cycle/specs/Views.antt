@@ -8,6 +8,7 @@ use Rattle.dft_netlist.specs.Drivers.{Source}
 use Rattle.dft_netlist.specs.Logic.{Logic, Lockup, Cell}
 use Rattle.dft_netlist.specs.Settled.{value_from}
 use Rattle.dft_cycle.specs.declared.phases.Search.{Search}
+use Rattle.dft_cycle.specs.declared.phases.Room.{Room}
 use Rattle.dft_abstract.specs.Cycle.{next_value, changes, IsClosed}
 use Rattle.dft_abstract.specs.Cycle as Cycle
 use Rattle.dft_logic.specs.Values.{value_at}
@@ -15,7 +16,7 @@ pub use Rattle.dft_logic.specs.Ranks.{rank_from, rank_of}
 pub use Rattle.dft_logic.specs.Circuit.{taken_at, next_at}
 use Rattle.dft_logic.specs.Tables.{list_at}
 use Rattle.dft_netlist.specs.Orders.{Has}
-use Rattle.dft_logic.specs.Circuit.{Circuit, cell_of, cell_at, logic_at, latch_at, flag_at}
+use Rattle.dft_logic.specs.Circuit.{Circuit, IsReady, cell_of, cell_at, logic_at, latch_at, flag_at}
 
 -- ---- a flip-flop and a lock-up, from the values of a view
 
@@ -79,6 +80,15 @@ pub record IsSearch (x : Circuit) (search : Search) : Type 0 where
   pub poss : length search.poss.items ≡ length x.flops
   pub held : length search.held.items ≡ length x.flops
   pub next : length search.next.items ≡ length x.flops
+
+-- the room has a place for each net and each instance; no net is marked, and all have their values from some sources
+pub record IsRoom (x : Circuit) (room : Room) : Type 0 where
+  pub values : length room.values.items ≡ length x.ops
+  pub search : IsSearch x room.search
+  pub marked : length room.marked.items ≡ length x.ops
+  pub clear : (k : ℕ) → flag_at room.marked.items k ≡ false
+  pub ready : IsReady x room.values.items
+  pub quick : length room.quick.items ≡ length x.ops
 
 -- each cell of the domain takes its bit at a rise
 abbrev pub Rises : Circuit → (domain : ℕ) → Type 0

@@ -3,7 +3,10 @@
 ghost use Rattle.std.specs.Prelude.{◌≡◌, ◌&&◌, ℕ, ◌<◌, length, map, replicate, true, false, Some, None, slice_get, IfOk, if◌then◌else◌};
 ghost use Rattle.dft_cycle.specs.Machine.{logic, AreNets, is_one_of, IsStart, IsSet, IsStrobed, IsPhase, IsPulsed, pulses, acted};
 ghost use Rattle.dft_cycle.specs.Machine as spec;
-ghost use Rattle.dft_cycle.specs.Views.{Rises};
+ghost use Rattle.dft_cycle.specs.Views.{Rises, IsRoom};
+ghost use Rattle.dft_cycle.specs.Looks.{AreLooks};
+ghost use Rattle.dft_cycle.specs.Plans.{ArePlans};
+ghost use Rattle.dft_registers.specs.Layout.{Layout};
 ghost use Rattle.std.specs.List.{list_any};
 ghost use Rattle.dft_netlist.specs.Runs.{takes};
 ghost use Rattle.dft_logic.specs.Needs.{AreSeen};
@@ -11,7 +14,7 @@ ghost use Rattle.dft_logic.specs.Circuit.{cell_of, cell_at, force_at, flag_at as
 
 use crate::laying::lay_out;
 use crate::looking::Looks;
-use crate::phases::{Phase, Search, Strobe};
+use crate::phases::{Phase, Room, Strobe};
 use crate::planning::Plans;
 use crate::rounds::find_least;
 use crate::sweeping::settle_again;
@@ -37,10 +40,7 @@ pub struct AbstractMachine<'a> {
     cells: Cells,
     shown: Vec<Tri>,
     pulsed: Vec<bool>,
-    values: Vec<Tri>,
-    search: Search,
-    marked: Vec<bool>,
-    quick: Vec<Tri>,
+    room: Room,
     plans: Plans,
     looks: Looks,
 }
@@ -73,41 +73,20 @@ impl<'a> AbstractMachine<'a> {
         flag_clocks(clocks, &mut pulsed);
         let circuit = compile(alloc, design, &pulsed)?;
         let clocks = Vec::from_slice(alloc, clocks)?;
-        let count = cell_count(&circuit);
-        let cells = lay_out(alloc, &circuit)?;
-        let inputs = unknown(alloc, nets)?;
-        let shown = unknown(alloc, nets)?;
-        let mut values = unknown(alloc, nets)?;
-        let poss = unknown(alloc, count)?;
-        let held = unknown(alloc, count)?;
-        let next = unknown(alloc, count)?;
-        let mut marked = lowered(alloc, nets)?;
-        let quick = unknown(alloc, nets)?;
-        let looks = Looks::prepare(alloc, &circuit)?;
-        let plans = Plans::prepare(alloc, &circuit, &clocks, cells.registers(), &mut marked)?;
+        let lists = make_lists(alloc, &circuit, &clocks, nets)?;
         let falls = can_fall(&circuit);
-        let pulse = Pulse {
-            rising: false,
-            ports: &inputs,
-            pulsed: &[],
-            old: &cells,
-        };
-        settle(&circuit, &strobe_view(pulse), &mut values);
         Ok(AbstractMachine {
             design,
             clocks,
             circuit,
             falls,
-            inputs,
-            cells,
-            shown,
+            inputs: lists.inputs,
+            cells: lists.cells,
+            shown: lists.shown,
             pulsed,
-            values,
-            search: Search { poss, held, next },
-            marked,
-            quick,
-            plans,
-            looks,
+            room: lists.room,
+            plans: lists.plans,
+            looks: lists.looks,
         })
     }
 
@@ -141,10 +120,10 @@ impl<'a> AbstractMachine<'a> {
         settle_again(
             &self.circuit,
             &strobe_view(pulse),
-            &mut self.values,
-            &mut self.marked,
+            &mut self.room.values,
+            &mut self.room.marked,
         );
-        self.shown.as_mut_slice().copy_from_slice(&self.values);
+        self.shown.as_mut_slice().copy_from_slice(&self.room.values);
     }
 
     /// The value of this net at the last strobe, and `Unknown` before the first.
@@ -166,9 +145,7 @@ impl<'a> AbstractMachine<'a> {
             cells: &self.cells,
             nets,
         };
-        let read = self
-            .looks
-            .read(strobe, &mut self.quick, &mut self.marked, values);
+        let read = self.looks.read(strobe, &mut self.room.quick, &mut self.room.marked, values);
         if !read {
             self.look_at_all(nets, values);
         }
@@ -191,10 +168,10 @@ impl<'a> AbstractMachine<'a> {
         settle_again(
             circuit,
             &strobe_view(pulse),
-            &mut self.values,
-            &mut self.marked,
+            &mut self.room.values,
+            &mut self.room.marked,
         );
-        read_list(nets, &self.values, values);
+        read_list(nets, &self.room.values, values);
     }
 
     /// Pulses some clocks, with an entry for each in their order: they rise, then they fall, and the flip-flops of their
@@ -226,16 +203,16 @@ impl<'a> AbstractMachine<'a> {
         };
         let found = self.plans.find(
             phase,
-            &mut self.quick,
-            &mut self.marked,
-            &mut self.search.next,
+            &mut self.room.quick,
+            &mut self.room.marked,
+            &mut self.room.search.next,
         );
         match found {
             Some(place) => {
                 let plan = &self.plans.plans[place];
                 put_all(
                     &plan.takings,
-                    &self.search.next,
+                    &self.room.search.next,
                     &plan.moves,
                     &mut self.cells,
                 );
@@ -265,7 +242,7 @@ impl<'a> AbstractMachine<'a> {
         ensures { IsPhase (logic self.old) self.old rising pulsed.now self.new }
     {
         mark(&self.clocks, pulsed, &mut self.pulsed);
-        self.cells.read(&mut self.search.poss);
+        self.cells.read(&mut self.room.search.poss);
         let pulse = Pulse {
             rising,
             ports: &self.inputs,
@@ -278,12 +255,17 @@ impl<'a> AbstractMachine<'a> {
             clocks: &self.clocks,
             pulse,
         };
-        find_least(phase, &mut self.search, &mut self.values, &mut self.marked);
+        find_least(
+            phase,
+            &mut self.room.search,
+            &mut self.room.values,
+            &mut self.room.marked,
+        );
         take(
             &circuit.flops,
             rising,
             &self.pulsed,
-            &self.search.next,
+            &self.room.search.next,
             &mut self.cells,
         );
     }
@@ -427,6 +409,57 @@ fn taken(up: bool, next: Tri, old: Tri) -> Tri
     ensures { result ≡ (if up then next else old) }
 {
     if up { next } else { old }
+}
+
+// What a machine keeps beside its circuit: the values of input ports, those of nets at the last strobe, those of cells, and what it
+// works with.
+#[derive(Drop)]
+struct Lists {
+    inputs: Vec<Tri>,
+    shown: Vec<Tri>,
+    cells: Cells,
+    room: Room,
+    looks: Looks,
+    plans: Plans,
+}
+
+// The lists of a circuit with so many nets, of which nothing is known.
+fn make_lists(
+    alloc: Global,
+    circuit: &Circuit,
+    clocks: &[NetId],
+    nets: usize,
+) -> Result<Lists, AllocError>
+    requires { length circuit.now.ops ≡ nets }
+    ensures inputs { IfOk result (λ lists. lists.inputs.items ≡ replicate nets Tri.Unknown) }
+    ensures shown { IfOk result (λ lists. lists.shown.items ≡ replicate nets Tri.Unknown) }
+    ensures cells { IfOk result (λ lists. lists.cells.values ≡ replicate (length circuit.now.flops) Tri.Unknown) }
+    ensures room { IfOk result (λ lists. IsRoom circuit.now lists.room) }
+    ensures looks { IfOk result (λ lists. AreLooks circuit.now lists.looks) }
+    ensures plans { IfOk result (λ lists. (l : Layout) → ArePlans circuit.now clocks.now l lists.plans) }
+{
+    let inputs = unknown(alloc, nets)?;
+    let shown = unknown(alloc, nets)?;
+    let cells = lay_out(alloc, circuit)?;
+    let mut room = Room::prepare(alloc, nets, cell_count(circuit))?;
+    let looks = Looks::prepare(alloc, circuit)?;
+    let registers = cells.registers();
+    let plans = Plans::prepare(alloc, circuit, clocks, registers, &mut room.marked)?;
+    let pulse = Pulse {
+        rising: false,
+        ports: &inputs,
+        pulsed: &[],
+        old: &cells,
+    };
+    settle(circuit, &strobe_view(pulse), &mut room.values);
+    Ok(Lists {
+        inputs,
+        shown,
+        cells,
+        room,
+        looks,
+        plans,
+    })
 }
 
 // So many values that nobody knows.

@@ -4,7 +4,7 @@ use Rattle.std.specs.Prelude.{nat_lt, if◌then◌else◌}
 use Rattle.dft_netlist.specs.Drivers.{all_driven, IsOrdered}
 use Rattle.dft_patterns.specs.declared.act.Act.TheVariants.{ExpectLow}
 use Rattle.dft_replay.specs.Examples.{both_pulse, all_pulse}
-use Rattle.dft_replay.specs.EdgeExamples.{fall_behind_rise, one_bit, rise_behind_fall, later_bit, AcrossEdges, falling_row, falling_row_with_lockup, TwoFalls, high_lockup, shown_first, shown_held, HighLockup, quiet_low, low_rests, quiet_high, high_rests, QuietFalls, falling_with_reset, reset_once, FallingReset, falling_row_of_three, ThreeFalls}
+use Rattle.dft_replay.specs.EdgeExamples.{fall_behind_rise, one_bit, rise_behind_fall, later_bit, AcrossEdges, falling_row, falling_row_with_lockup, TwoFalls, high_lockup, shown_first, shown_held, HighLockup, quiet_low, low_rests, quiet_high, high_rests, QuietFalls, falling_with_reset, rising_with_reset, reset_once, Resets, falling_row_of_three, ThreeFalls}
 use Rattle.dft_replay.proofs.ExampleLemmas.{each_ordered}
 use Rattle.dft_replay.proofs.PlainLemmas.{verdict_plain}
 
@@ -60,6 +60,9 @@ quiet_high_ordered = record {
 falling_with_reset_ordered : IsOrdered falling_with_reset late
 falling_with_reset_ordered = record { after = each_ordered falling_with_reset late (all_driven falling_with_reset) (tt, (tt, (tt, ((omega arith, tt), ((omega arith, tt), (tt, tt)))))); within = late_within }
 
+rising_with_reset_ordered : IsOrdered rising_with_reset late
+rising_with_reset_ordered = record { after = each_ordered rising_with_reset late (all_driven rising_with_reset) (tt, (tt, (tt, ((omega arith, tt), ((omega arith, tt), (tt, tt)))))); within = late_within }
+
 -- the inverted clocks of three domains
 abbrev later : (net : ℕ) → ℕ
 later net = if nat_lt 6 net then 1 else 0
@@ -93,8 +96,8 @@ high_lockup_holds = record { first = verdict_plain high_lockup late shown_first 
 pub quiet_falls_hold : QuietFalls
 quiet_falls_hold = record { low = verdict_plain quiet_low late low_rests quiet_low_ordered; high = verdict_plain quiet_high late high_rests quiet_high_ordered }
 
-pub falling_reset_holds : FallingReset
-falling_reset_holds = verdict_plain falling_with_reset late reset_once falling_with_reset_ordered
+pub resets_hold : Resets
+resets_hold = record { fall = verdict_plain falling_with_reset late reset_once falling_with_reset_ordered; rise = verdict_plain rising_with_reset late reset_once rising_with_reset_ordered }
 
 pub three_falls_hold : ThreeFalls
 three_falls_hold = verdict_plain falling_row_of_three later all_pulse falling_row_of_three_ordered

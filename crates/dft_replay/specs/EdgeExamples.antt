@@ -136,13 +136,18 @@ pub record QuietFalls : Type 0 where
 abbrev pub falling_with_reset : Netlist
 falling_with_reset = inverted_too (flip_flop_with_reset (codes "f") 6 2 1 3 ∷ [])
 
+-- `DFFR f (.CK(ca), .D(d), .RN(cb), .Q(q));`
+abbrev pub rising_with_reset : Netlist
+rising_with_reset = inverted_too (flip_flop_with_reset (codes "f") 0 2 1 3 ∷ [])
+
 -- `P11 X`, `P01 L`, `011 L`
 abbrev pub reset_once : Patterns
 reset_once = two_clocks ((Pulse ∷ High ∷ High ∷ Ignore ∷ []) ∷ (Pulse ∷ Low ∷ High ∷ ExpectLow ∷ []) ∷ (Low ∷ High ∷ High ∷ ExpectLow ∷ []) ∷ [])
 
--- A reset acts before the strobe, and at the fall at which its flip-flop would take another bit.
-abbrev pub FallingReset : Type 0
-FallingReset = HasVerdict falling_with_reset reset_once (Pass 2)
+-- A reset acts before the strobe, and at the edge, the fall or the rise, at which its flip-flop would take another bit.
+pub record Resets : Type 0 where
+  pub fall : HasVerdict falling_with_reset reset_once (Pass 2)
+  pub rise : HasVerdict rising_with_reset reset_once (Pass 2)
 
 -- ---- three domains that fall
 

@@ -1,6 +1,6 @@
 //! Worked examples, as contracts of functions that do nothing.
 
-ghost use Rattle.dft_replay.specs.EdgeExamples.{AcrossEdges, FallingReset, HighLockup, QuietFalls, ThreeFalls, TwoFalls};
+ghost use Rattle.dft_replay.specs.EdgeExamples.{AcrossEdges, HighLockup, QuietFalls, Resets, ThreeFalls, TwoFalls};
 ghost use Rattle.dft_replay.specs.Examples.{KeptInput, QuietLockup, ThreeDomains, TwoDomains};
 
 /// The verdicts of small designs, whose domains pulse in one vector or whose inputs keep what they were set to.
@@ -18,6 +18,6 @@ pub fn worked_edges()
     ensures two_falls { TwoFalls }
     ensures high_lockup { HighLockup }
     ensures quiet_falls { QuietFalls }
-    ensures falling_reset { FallingReset }
+    ensures resets { Resets }
     ensures three_falls { ThreeFalls }
 {}

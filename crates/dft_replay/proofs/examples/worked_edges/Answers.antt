@@ -1,4 +1,4 @@
-use Rattle.dft_replay.proofs.EdgeExampleLemmas.{across_edges_hold, two_falls_hold, high_lockup_holds, quiet_falls_hold, falling_reset_holds, three_falls_hold}
+use Rattle.dft_replay.proofs.EdgeExampleLemmas.{across_edges_hold, two_falls_hold, high_lockup_holds, quiet_falls_hold, resets_hold, three_falls_hold}
 use Rattle.dft_replay.proofs.examples.worked_edges.Goals as goal
 
 pub returns : goal.returns
@@ -7,6 +7,6 @@ returns c = record {
   two_falls = two_falls_hold;
   high_lockup = high_lockup_holds;
   quiet_falls = quiet_falls_hold;
-  falling_reset = falling_reset_holds;
+  resets = resets_hold;
   three_falls = three_falls_hold;
 }

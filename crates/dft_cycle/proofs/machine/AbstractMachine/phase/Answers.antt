@@ -53,7 +53,7 @@ put_all-requires-clause-row c =
     let p : Pulse = record { rising = c.args.rising; ports = value_at c.deref-2.result.now; pulsed = flag_at c.deref-3.result.now; old = value_at d.cells.values } in
     let found : IsFound d.circuit p d.cells c.index-plan.result.now c.find-found.new.row =
     plan_found d.circuit p d.cells c.find-found.new.self.plans.items c.in-Some.place c.index-plan.result.now c.index-plan.result.now c.find-found.new.row c.in-Some.ensures.live c.index-plan.ensures c.in-Some.ensures.found in
-    omega (arith, ap length c.deref-in-Some.ensures.value, ap length c.deref-in-Some-2.ensures.value, refilled d.search.next c.find-found.new.row, i.search.next, found.few)
+    omega (arith, ap length c.deref-in-Some.ensures.value, ap length c.deref-in-Some-2.ensures.value, refilled d.room.search.next c.find-found.new.row, i.room.search.next, found.few)
 
 pub put_all-requires-clause-can : goal.put_all-requires-clause-can
 put_all-requires-clause-can c =
@@ -72,7 +72,7 @@ invariant_of-self c =
     let found : IsFound d.circuit p d.cells c.index-plan.result.now c.find-found.new.row =
     plan_found d.circuit p d.cells c.find-found.new.self.plans.items c.in-Some.place c.index-plan.result.now c.index-plan.result.now c.find-found.new.row c.in-Some.ensures.live c.index-plan.ensures c.in-Some.ensures.found in
     let row : c.deref-in-Some-2.result.now ≡ c.find-found.new.row =
-    c.deref-in-Some-2.ensures.value ∙ filled d.search.next c.find-found.new.row c.deref_mut-4.result.now c.find-found.auto.row c.deref_mut-4.ensures.value in
+    c.deref-in-Some-2.ensures.value ∙ filled d.room.search.next c.find-found.new.row c.deref_mut-4.result.now c.find-found.auto.row c.deref_mut-4.ensures.value in
     let passed : IsPassed d.circuit p c.put_all.new.cells.values =
     put_passed d.circuit p d.cells c.index-plan.result.now c.find-found.new.row c.deref-in-Some-2.result.now c.put_all.new.cells.values c.deref-in-Some.result.now c.deref-in-Some-3.result.now found
     c.deref-in-Some.ensures.value row c.deref-in-Some-3.ensures.value c.put_all.ensures.put in
@@ -85,13 +85,15 @@ invariant_of-self c =
       pulsed = refilled d.pulsed c.mark.new.flags ∙ i.pulsed;
       inputs = i.inputs;
       shown = i.shown;
-      values = i.values;
+      room = record {
+        values = i.room.values;
+        search = record { poss = i.room.search.poss; held = i.room.search.held; next = refilled d.room.search.next c.find-found.new.row ∙ i.room.search.next };
+        marked = refilled d.room.marked c.find-found.new.marked ∙ i.room.marked;
+        clear = clear_kept d.room.marked c.find-found.new.marked c.deref_mut-3.result.now c.find-found.auto.marked c.deref_mut-3.ensures.value c.find-found.ensures.clear;
+        ready = i.room.ready;
+        quick = refilled d.room.quick c.find-found.new.values ∙ i.room.quick;
+      };
       cells = c.put_all.ensures.count ∙ i.cells;
-      search = record { poss = i.search.poss; held = i.search.held; next = refilled d.search.next c.find-found.new.row ∙ i.search.next };
-      marked = refilled d.marked c.find-found.new.marked ∙ i.marked;
-      clear = clear_kept d.marked c.find-found.new.marked c.deref_mut-3.result.now c.find-found.auto.marked c.deref_mut-3.ensures.value c.find-found.ensures.clear;
-      ready = i.ready;
-      quick = refilled d.quick c.find-found.new.values ∙ i.quick;
       plans = subst (λ (l : Layout). ArePlans d.circuit d.clocks.items l c.find-found.new.self) (sym c.put_all.ensures.layout)
           (subst (λ (l : List NetId). ArePlans d.circuit l d.cells.layout c.find-found.new.self) c.deref-4.ensures.value c.find-found.ensures.plans);
       looks = i.looks;
@@ -113,13 +115,15 @@ invariant_of-self-in-None c =
       pulsed = refilled d.pulsed c.mark.new.flags ∙ i.pulsed;
       inputs = i.inputs;
       shown = i.shown;
-      values = i.values;
+      room = record {
+        values = i.room.values;
+        search = record { poss = i.room.search.poss; held = i.room.search.held; next = refilled d.room.search.next c.find-found.new.row ∙ i.room.search.next };
+        marked = refilled d.room.marked c.find-found.new.marked ∙ i.room.marked;
+        clear = clear_kept d.room.marked c.find-found.new.marked c.deref_mut-3.result.now c.find-found.auto.marked c.deref_mut-3.ensures.value c.find-found.ensures.clear;
+        ready = i.room.ready;
+        quick = refilled d.room.quick c.find-found.new.values ∙ i.room.quick;
+      };
       cells = i.cells;
-      search = record { poss = i.search.poss; held = i.search.held; next = refilled d.search.next c.find-found.new.row ∙ i.search.next };
-      marked = refilled d.marked c.find-found.new.marked ∙ i.marked;
-      clear = clear_kept d.marked c.find-found.new.marked c.deref_mut-3.result.now c.find-found.auto.marked c.deref_mut-3.ensures.value c.find-found.ensures.clear;
-      ready = i.ready;
-      quick = refilled d.quick c.find-found.new.values ∙ i.quick;
       plans = subst (λ (l : List NetId). ArePlans d.circuit l d.cells.layout c.find-found.new.self) c.deref-4.ensures.value c.find-found.ensures.plans;
       looks = i.looks;
       loose = i.loose;
@@ -134,7 +138,7 @@ returns-in-Some c =
     let found : IsFound d.circuit p d.cells c.index-plan.result.now c.find-found.new.row =
     plan_found d.circuit p d.cells c.find-found.new.self.plans.items c.in-Some.place c.index-plan.result.now c.index-plan.result.now c.find-found.new.row c.in-Some.ensures.live c.index-plan.ensures c.in-Some.ensures.found in
     let row : c.deref-in-Some-2.result.now ≡ c.find-found.new.row =
-    c.deref-in-Some-2.ensures.value ∙ filled d.search.next c.find-found.new.row c.deref_mut-4.result.now c.find-found.auto.row c.deref_mut-4.ensures.value in
+    c.deref-in-Some-2.ensures.value ∙ filled d.room.search.next c.find-found.new.row c.deref_mut-4.result.now c.find-found.auto.row c.deref_mut-4.ensures.value in
     let passed : IsPassed d.circuit p c.put_all.new.cells.values =
     put_passed d.circuit p d.cells c.index-plan.result.now c.find-found.new.row c.deref-in-Some-2.result.now c.put_all.new.cells.values c.deref-in-Some.result.now c.deref-in-Some-3.result.now found
     c.deref-in-Some.ensures.value row c.deref-in-Some-3.ensures.value c.put_all.ensures.put in

@@ -29,7 +29,6 @@ invariant_of-result c =
     let L : Ports → Logic = logic_of n in
     let nets : length x.ops ≡ length n.nets = is.nets in
     let count = c.net_count-nets.ensures.count in
-    let cells = c.cell_count-count.ensures in
     let down : length pulsed.items ≡ length n.nets = ap length c.in_ok-pulsed.ensures ∙ length-replicate _ _ ∙ count in
     let marks : length (with_items pulsed c.flag_clocks.new.flags).items ≡ length n.nets = refilled pulsed c.flag_clocks.new.flags ∙ down in
     record {
@@ -42,22 +41,13 @@ invariant_of-result c =
           omega arith);
       nets = nets;
       pulsed = marks ∙ sym nets;
-      inputs = ap length c.in_ok-inputs.ensures ∙ length-replicate _ _ ∙ count ∙ sym nets;
-      shown = ap length c.in_ok-shown.ensures ∙ length-replicate _ _ ∙ count ∙ sym nets;
-      values = refilled c.in_ok-values.values c.settle.new.values ∙ ap length c.in_ok-values.ensures ∙ length-replicate _ _ ∙ count ∙ sym nets;
-      cells = ap length c.in_ok-cells.ensures ∙ length-replicate _ _;
-      search = record {
-        poss = ap length c.in_ok-poss.ensures ∙ length-replicate _ _ ∙ cells;
-        held = ap length c.in_ok-held.ensures ∙ length-replicate _ _ ∙ cells;
-        next = ap length c.in_ok-next.ensures ∙ length-replicate _ _ ∙ cells;
-      };
-      marked = refilled c.in_ok-marked.marked c.prepare-2.new.marked ∙ ap length c.in_ok-marked.ensures ∙ length-replicate _ _ ∙ count ∙ sym nets;
-      clear = clear_kept c.in_ok-marked.marked c.prepare-2.new.marked c.deref_mut-2.result.now c.prepare-2.auto.marked c.deref_mut-2.ensures.value c.in_ok-plans.ensures.clear;
-      ready = ready_kept x c.in_ok-values.values c.settle.new.values c.deref_mut-3.result.now c.settle.auto.values c.deref_mut-3.ensures.value (ready_view x c.strobe_view.result c.settle.new.values c.settle.ensures);
-      quick = ap length c.in_ok-quick.ensures ∙ length-replicate _ _ ∙ count ∙ sym nets;
-      plans = subst (λ (l : List NetId). ArePlans x l c.in_ok-cells.cells.layout c.in_ok-plans.plans) c.deref-2.ensures.value (c.in_ok-plans.ensures.plans c.in_ok-cells.cells.layout);
-      looks = c.in_ok-looks.ensures;
-      loose = λ k is. ap (λ (l : List Tri). value_at l k) c.in_ok-cells.ensures ∙ unknown_all _ k;
+      inputs = ap length c.in_ok-lists.ensures.inputs ∙ length-replicate _ _ ∙ count ∙ sym nets;
+      shown = ap length c.in_ok-lists.ensures.shown ∙ length-replicate _ _ ∙ count ∙ sym nets;
+      room = c.in_ok-lists.ensures.room;
+      cells = ap length c.in_ok-lists.ensures.cells ∙ length-replicate _ _;
+      plans = subst (λ (l : List NetId). ArePlans x l c.in_ok-lists.lists.cells.layout c.in_ok-lists.lists.plans) c.deref-2.ensures.value (c.in_ok-lists.ensures.plans c.in_ok-lists.lists.cells.layout);
+      looks = c.in_ok-lists.ensures.looks;
+      loose = λ k is. ap (λ (l : List Tri). value_at l k) c.in_ok-lists.ensures.cells ∙ unknown_all _ k;
       flags = λ e up. sym (same e) ∙ ap (λ (l : List Bool). flag_at l e) read ∙ up;
     }
 
@@ -65,7 +55,7 @@ pub returns : goal.returns
 returns c = record {
   netlist = refl;
   clocks = c.in_ok-clocks.ensures.items;
-  inputs = λ k. ap (λ (l : List Tri). value_at l k) c.in_ok-inputs.ensures ∙ unknown_all _ k;
-  cells = λ k. ap (λ (l : List Tri). value_at l k) c.in_ok-cells.ensures ∙ unknown_all _ k;
-  shown = λ k. ap (λ (l : List Tri). value_at l k) c.in_ok-shown.ensures ∙ unknown_all _ k;
+  inputs = λ k. ap (λ (l : List Tri). value_at l k) c.in_ok-lists.ensures.inputs ∙ unknown_all _ k;
+  cells = λ k. ap (λ (l : List Tri). value_at l k) c.in_ok-lists.ensures.cells ∙ unknown_all _ k;
+  shown = λ k. ap (λ (l : List Tri). value_at l k) c.in_ok-lists.ensures.shown ∙ unknown_all _ k;
 }

@@ -23,14 +23,16 @@ invariant_of-self c =
       pulsed = i.pulsed;
       inputs = i.inputs;
       shown = refilled d.shown c.copy_from_slice.new.self ∙ i.shown;
-      values = refilled d.values c.settle_again.new.values ∙ i.values;
+      room = record {
+        values = refilled d.room.values c.settle_again.new.values ∙ i.room.values;
+        search = i.room.search;
+        marked = refilled d.room.marked c.settle_again.new.marked ∙ i.room.marked;
+        clear = clear_kept d.room.marked c.settle_again.new.marked c.deref_mut-2.result.now c.settle_again.auto.marked c.deref_mut-2.ensures.value c.settle_again.ensures.clear;
+        ready = ready_kept d.circuit d.room.values c.settle_again.new.values c.deref_mut.result.now c.settle_again.auto.values c.deref_mut.ensures.value
+            (ready_view d.circuit c.strobe_view.result c.settle_again.new.values c.settle_again.ensures.given);
+        quick = i.room.quick;
+      };
       cells = i.cells;
-      search = i.search;
-      marked = refilled d.marked c.settle_again.new.marked ∙ i.marked;
-      clear = clear_kept d.marked c.settle_again.new.marked c.deref_mut-2.result.now c.settle_again.auto.marked c.deref_mut-2.ensures.value c.settle_again.ensures.clear;
-      ready = ready_kept d.circuit d.values c.settle_again.new.values c.deref_mut.result.now c.settle_again.auto.values c.deref_mut.ensures.value
-          (ready_view d.circuit c.strobe_view.result c.settle_again.new.values c.settle_again.ensures.given);
-      quick = i.quick;
       plans = i.plans;
       looks = i.looks;
       loose = i.loose;
@@ -47,7 +49,7 @@ returns c =
     let P : Machine → Type 0 = λ m. IsStrobed (logic m) m after in
     let V : Phase → Type 0 = λ p. (k : ℕ) → GivenIn d.circuit (pulse_at p) v.poss.now v.held.now v.domain.0 c.settle_again.new.values k in
     let copied : c.copy_from_slice.new.self ≡ c.settle_again.new.values =
-    c.copy_from_slice.ensures.after ∙ c.deref-2.ensures.value ∙ filled d.values c.settle_again.new.values c.deref_mut.result.now c.settle_again.auto.values c.deref_mut.ensures.value in
+    c.copy_from_slice.ensures.after ∙ c.deref-2.ensures.value ∙ filled d.room.values c.settle_again.new.values c.deref_mut.result.now c.settle_again.auto.values c.deref_mut.ensures.value in
     subst P c.self.view_is
     (strobed (machine_of d) after d.circuit c.deref.result.now d.cells.values v.poss.now v.held.now c.settle_again.new.values v.domain.0 c.self.invariant.compiled refl refl refl refl
     c.deref.ensures.value refl (subst V c.strobe_view.ensures.pulse c.settle_again.ensures.given)
