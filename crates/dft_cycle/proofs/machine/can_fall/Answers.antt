@@ -1,5 +1,5 @@
 -- What is read of the circuit is what it shows.
-use Rattle.std.proofs.Common.{List, ◌∙◌, ap, length}
+use Rattle.std.proofs.Common.{List, ◌∙◌, ap}
 use Rattle.std.specs.List.{list_any}
 use Rattle.dft_logic.specs.declared.circuit.FlipFlop.{FlipFlop}
 use Rattle.dft_logic.specs.Circuit.{Circuit}

@@ -1,5 +1,5 @@
 -- One domain more rises, if it pulses.
-use Rattle.std.proofs.Common.{ℕ, ◌<◌, inr, length, get_or, arith}
+use Rattle.std.proofs.Common.{ℕ, ◌<◌, inr, length, arith}
 use Rattle.dft_cycle.specs.Views.{Rises}
 use Rattle.dft_cycle.proofs.MachineLemmas.{pulses_step, pulses_over}
 use Rattle.dft_cycle.proofs.machine.some_fall.Goals as goal

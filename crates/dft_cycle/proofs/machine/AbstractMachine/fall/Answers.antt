@@ -1,6 +1,5 @@
 -- Nothing falls.
-use Rattle.std.proofs.Common.{ℕ, List, false, true, ◌≡◌, ◌<◌, length, subst, sym, refl, ap, arith}
-use Rattle.std.proofs.lemmas.Option.{slice_get-get_or}
+use Rattle.std.proofs.Common.{ℕ, List, false, true, ◌≡◌, ◌<◌, length, subst, sym, refl}
 use Rattle.dft_netlist.specs.declared.ids.NetId.{NetId}
 use Rattle.dft_abstract.proofs.Halves.{falls_rest}
 use Rattle.dft_logic.specs.Circuit.{logic_at}

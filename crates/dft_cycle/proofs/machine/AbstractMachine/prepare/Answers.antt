@@ -8,8 +8,7 @@ use Rattle.dft_netlist.specs.Logic.{Ports, Logic, logic_of}
 use Rattle.dft_cycle.specs.Machine.{logic, is_one_of, value_at}
 use Rattle.dft_cycle.specs.Plans.{ArePlans}
 use Rattle.dft_logic.specs.Circuit.{flag_at, logic_at}
-use Rattle.dft_cycle.proofs.MachineLemmas.{circuit_rises, clear_kept, ready_kept, unknown_all, refilled, filled, one_among, same_ports}
-use Rattle.dft_cycle.proofs.DomainLemmas.{ready_view}
+use Rattle.dft_cycle.proofs.MachineLemmas.{circuit_rises, unknown_all, refilled, filled, one_among, same_ports}
 use Rattle.dft_cycle.proofs.machine.AbstractMachine.prepare.Goals as goal
 
 pub invariant_of-result : goal.invariant_of-result
