@@ -15,10 +15,10 @@ use std::test::Fail;
 
 // Cubes of which no load gives the first and the last: without warm cycles f0 takes the variable of cycle 1, f1 and f3 that of
 // cycle 0, and f2 and f4 none.
-const CUBES: &str =
+static CUBES: &str =
     "cube u clk\ncell f2 1\nend\ncube v clk\ncell f2 0\nend\ncube w clk\ncell f1 0\ncell f3 1\nend\n";
 
-const HEAD: &str =
+static HEAD: &str =
     "edt report 1\ncells 5 chains 2 cycles 3 variables 3\nchain 0 length 3\nchain 1 length 2\nscanned f0 clk chain 0 place 0\nscanned f1 clk chain 0 place 1\nscanned f2 clk chain 0 place 2\nscanned f3 clk chain 1 place 0\nscanned f4 clk chain 1 place 1\n";
 
 // The lines of cubes in a report, and how many are certified, or the refusal.

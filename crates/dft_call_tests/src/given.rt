@@ -11,11 +11,11 @@ use std::alloc::{AllocError, Global};
 const LONGEST: usize = 4096;
 
 // The small whole case: five flip-flops in a ring, in two chains behind a ring of four stages and one channel.
-pub(crate) const FIVE: &str =
+pub(crate) static FIVE: &str =
     "module m (clk, a, y); input clk, a; output y; NAND2 g0 (.A(a), .B(q4), .Y(d0)); DFF f0 (.CK(clk), .D(d0), .Q(q0)); DFF f1 (.CK(clk), .D(q0), .Q(q1)); DFF f2 (.CK(clk), .D(q1), .Q(q2)); DFF f3 (.CK(clk), .D(q2), .Q(q3)); DFF f4 (.CK(clk), .D(q3), .Q(q4)); INV g1 (.A(q4), .Y(y)); endmodule";
 
 // Its configuration, without warm cycles: a load has three.
-pub(crate) const COLD: &str =
+pub(crate) static COLD: &str =
     "version = 1\ndomains = ['clk']\nwarm = 0\nwindow = 4\nchains = 2\nring = { stages = 4, channels = 1, taps = [[2, 0]], injectors = [[0, 3]], phase = [[0, 3], [1, 2]] }\ncompactor = { groups = [[0, 1], [1]], mask_inputs = 1 }\n";
 
 // The design of a text over the standard cells.

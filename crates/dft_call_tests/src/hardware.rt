@@ -29,10 +29,10 @@ static NETS: [&str; 9] = [
 ];
 
 // The nets at the pins of each instance that is made: of the ring, and of the compactor.
-const RING: &str =
+static RING: &str =
     "2 9; 11 12 14; 14 9 15; 1 15 10 -; 12 9 16; 1 16 11 -; 13 9 17; 1 17 12 -; 10 3 18; 18 9 19; 1 19 13 -; 10 13 20; 11 12 21";
 
-const COMPACTOR: &str =
+static COMPACTOR: &str =
     "1 4 22 -; 2 22 24; 9 23 25; 24 25 26; 1 26 23 -; 1 22 27 -; 2 27 29; 9 28 30; 29 30 31; 1 31 28 -; 23 32; 32 7 33; 28 34; 34 8 35; 33 35 36; 36 5; 35 6";
 
 fn add_nets(alloc: Global, builder: &mut DesignBuilder) -> Result<(), NetlistError> {

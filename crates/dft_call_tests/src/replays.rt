@@ -22,7 +22,7 @@ const OTHER: &str =
     "module m (k, d, q); input k, d; output q; DFF f (.CK(k), .D(d), .Q(q)); endmodule";
 
 // What stands before the vectors (IEEE 1450-1999).
-const HEAD: &str =
+static HEAD: &str =
     "STIL 1.0;Signals{c In;d In;q Out;}SignalGroups{i='c+d';}Timing{WaveformTable w{Period'100ns';Waveforms{i{0{'0ns'D;}1{'0ns'U;}P{'0ns'D;'50ns'U;'80ns'D;}}q{L{'40ns'L;}H{'40ns'H;}X{'0ns'X;}}}}}PatternBurst b{PatList{p;}}PatternExec{PatternBurst b;}Pattern p{W w;";
 
 // A netlist, vectors, and what they come to.

@@ -1,13 +1,5 @@
-//! Tests of certificates and generated jobs by whole runs over files in memory.
+//! Tests of certificates and generated jobs that no stored file can show: calls of the outside that fail.
 #![tactic(auto)]
 
 #[cfg(test)]
-mod certificates;
-#[cfg(test)]
-mod generated;
-#[cfg(test)]
-mod hierarchies;
-#[cfg(test)]
-mod host;
-#[cfg(test)]
-mod words;
+mod faults;

@@ -17,7 +17,7 @@ pub(crate) const RING: &str =
 pub(crate) const ON_CLK: &str = "version = 1\ndomains = ['clk']\nwarm = 2\nwindow = 4\n";
 
 // Forty flip-flops in eight chains; the cells of the cubes stand first in the first chain.
-pub(crate) const WIDE: &str =
+pub(crate) static WIDE: &str =
     "version = 1\ndomains = ['clk']\nresets = ['rst_n']\nchains = 8\nwarm = 8\nwindow = 16\nring = { stages = 8, channels = 2, taps = [[2, 5]], injectors = [[0, 7], [1, 3]], phase = [[7], [3], [1, 7], [3, 6], [0, 7], [2, 3], [0, 5, 7], [1, 3]] }\ncompactor = { groups = [[0, 2, 4, 6], [1, 3, 5, 7]], mask_inputs = 1 }\n";
 
 // A cube of these clocks that gives four cells the digits of a number, lowest first, and a port where it is to.

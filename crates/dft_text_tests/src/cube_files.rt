@@ -205,7 +205,7 @@ fn cube_files_are_read_or_refused(rt: HostRuntime) -> Result<(), Fail> {
 }
 
 // A cube file of version 2.
-const TWICE: &str = "version 2\ncube k clk clk\ncell f0 1\nend\n";
+static TWICE: &str = "version 2\ncube k clk clk\ncell f0 1\nend\n";
 
 // What its beginnings stand for, from the empty one on, so many one after another.
 static PREFIXES: [(u32, &str); 16] = [

@@ -224,11 +224,11 @@ fn pattern_texts_read_as_by_hand(rt: HostRuntime) -> Result<(), Fail> {
 }
 
 // The written form for a clock, an input and an output.
-const WRITTEN: &str =
+static WRITTEN: &str =
     "STIL 1.0;\nSignals {\n\"c\" In;\n\"d\" In;\n\"q\" Out;\n}\nSignalGroups {\nins = '\"c\"+\"d\"';\nouts = '\"q\"';\n}\nTiming {\nWaveformTable w {\nPeriod '100ns';\nWaveforms {\nins { 0 { '0ns' D; } 1 { '0ns' U; } P { '0ns' D; '50ns' U; '80ns' D; } }\nouts { L { '0ns' X; '40ns' L; } H { '0ns' X; '40ns' H; } X { '0ns' X; } }\n}\n}\n}\nPatternBurst b { PatList { p; } }\nPatternExec { PatternBurst b; }\nPattern p {\nW w;\nAnn {* set-up *}\nV { ins = P1; outs = X; }\nAnn {* pattern 7 *}\nAnn {* unload *}\nV { ins = 00; outs = H; }\n}\n";
 
 // A text by hand, of a flip-flop that takes a 1.
-const BY_HAND: &str =
+static BY_HAND: &str =
     "STIL 1.0;\nSignals { \"c\" In; \"d\" In; \"q\" Out; }\nSignalGroups { all = '\"c\" + \"d\" + \"q\"'; }\nTiming { WaveformTable w { Period '100ns'; Waveforms {\n\"c\" { 0 { '0ns' D; } P { '0ns' D; '50ns' U; '80ns' D; } }\n\"d\" { 01 { '0ns' D/U; } }\n\"q\" { HX { '0ns' X; '40ns' H/X; } }\n} } }\nPatternBurst b { PatList { p; } }\nPatternExec { PatternBurst b; }\nPattern p { W w; V { all = P1X; } V { all = 00H; } }\n";
 
 // Each text that is cut before its last brace is refused with a P code.

@@ -100,11 +100,11 @@ fn a_person_is_told_how_a_run_ended(rt: HostRuntime) -> Result<(), Fail> {
     Ok(())
 }
 
-const NETLIST: &str = "module m (c, d, q);\ninput c, d; output q;\nINV u (.A(d), .Z(p), .Y(q));\n";
+static NETLIST: &str = "module m (c, d, q);\ninput c, d; output q;\nINV u (.A(d), .Z(p), .Y(q));\n";
 
-const PIN: &str = "Z";
+static PIN: &str = "Z";
 
-const REFUSED: &str = "\
+static REFUSED: &str = "\
 dft: w.v:3:16: V5: a pin that the cell has not: Z
   INV u (.A(d), .Z(p), .Y(q));
                  ^
@@ -134,7 +134,7 @@ fn missing_pin<'a>(name: &'a [u8], column: u32, line: Option<&'a [u8]>) -> Endin
     })
 }
 
-const SCAN_OF_W: &str = "scan --netlist w.v --config b --out c --report d";
+static SCAN_OF_W: &str = "scan --netlist w.v --config b --out c --report d";
 
 #[test]
 fn a_refusal_shows_its_line(rt: HostRuntime) -> Result<(), Fail> {
@@ -144,7 +144,7 @@ fn a_refusal_shows_its_line(rt: HostRuntime) -> Result<(), Fail> {
     Ok(())
 }
 
-const UNKNOWN: &str = "\
+static UNKNOWN: &str = "\
 dft: w.v: H2: an instance of what is no cell of the library and no module of the text: MAJ3
 dft: try: add the cell to the library, map to its cells, or add the module to the text
 ";

@@ -1,4 +1,4 @@
-//! Pattern texts.
+//! Pattern texts in their written form.
 
 use std::alloc::{AllocError, Global};
 
