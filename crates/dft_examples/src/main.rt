@@ -12,7 +12,7 @@ use std::alloc::Global;
 use std::{fs, io};
 
 // The files of cases, in the order in which they are played.
-static CASES: [&str; 11] = [
+static CASES: [&str; 13] = [
     "cases/replays.cases",
     "cases/modules.cases",
     "cases/scans.cases",
@@ -24,6 +24,8 @@ static CASES: [&str; 11] = [
     "cases/configurations.cases",
     "cases/refused_configurations.cases",
     "cases/libraries.cases",
+    "cases/refused_patterns.cases",
+    "cases/cubes.cases",
 ];
 
 fn main(rt: HostRuntime) -> io::Result<()> {
