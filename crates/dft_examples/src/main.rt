@@ -12,7 +12,7 @@ use std::alloc::Global;
 use std::{fs, io};
 
 // The files of cases, in the order in which they are played.
-static CASES: [&str; 13] = [
+static CASES: [&str; 14] = [
     "cases/replays.cases",
     "cases/modules.cases",
     "cases/scans.cases",
@@ -26,6 +26,7 @@ static CASES: [&str; 13] = [
     "cases/libraries.cases",
     "cases/refused_patterns.cases",
     "cases/cubes.cases",
+    "cases/captures.cases",
 ];
 
 fn main(rt: HostRuntime) -> io::Result<()> {

@@ -1,5 +1,6 @@
 //! What is wrong with words that are no command, and words that ask for help.
 
+use crate::endings::lines_of;
 use dft_command_line::command;
 use dft_explain::{Request, Topic, asked, fault_of_words, help};
 use std::alloc::{AllocError, Global};
@@ -100,11 +101,7 @@ fn push_bent(
 // Whether a fault is told exactly where the words are no command.
 fn is_told_rightly(alloc: Global, words: &[String]) -> Result<bool, AllocError> {
     let page = fault_of_words(alloc, words)?;
-    let lines = page
-        .as_slice()
-        .iter()
-        .filter(|byte| **byte == b'\n')
-        .count();
+    let lines = lines_of(page.as_slice());
     let is_command = command(alloc, words)?.is_some();
     Ok(lines == if is_command { 1 } else { 2 })
 }
