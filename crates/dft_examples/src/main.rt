@@ -12,7 +12,7 @@ use std::alloc::Global;
 use std::{fs, io};
 
 // The files of cases, in the order in which they are played.
-static CASES: [&str; 14] = [
+static CASES: [&str; 15] = [
     "cases/replays.cases",
     "cases/modules.cases",
     "cases/scans.cases",
@@ -27,6 +27,7 @@ static CASES: [&str; 14] = [
     "cases/refused_patterns.cases",
     "cases/cubes.cases",
     "cases/captures.cases",
+    "cases/netlists.cases",
 ];
 
 fn main(rt: HostRuntime) -> io::Result<()> {
