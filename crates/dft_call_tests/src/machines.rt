@@ -10,7 +10,7 @@ use std::alloc::{AllocError, Global};
 use std::test::Fail;
 
 // A flip-flop that takes the input at a rise, and one that takes it from there at a fall.
-const FLOPS: &str =
+static FLOPS: &str =
     "module m (c, d, q, r); input c, d; output q, r; DFF f (.CK(c), .D(d), .Q(q)); INV i (.A(c), .Y(n)); DFF g (.CK(n), .D(q), .Q(r)); endmodule";
 
 // What the input is at two pulses, and what the outputs show behind each.

@@ -1,6 +1,5 @@
 //! The reader of a netlist text, whatever it is made of.
 
-use crate::given::FIVE;
 use dft_cells::Library;
 use dft_netlist::{Design, NetId};
 use dft_netlist_reader::read;
@@ -14,7 +13,10 @@ const TWO: &str =
 // A text, and the names of its nets and of its instances.
 static READ: [(&str, &str); 3] = [
     (TWO, "c d q w u/a u/y u/n | u/i0 u/i1 f"),
-    (FIVE, "clk a y q4 d0 q0 q1 q2 q3 | g0 f0 f1 f2 f3 f4 g1"),
+    (
+        "module m (clk, a, y); input clk, a; output y; NAND2 g0 (.A(a), .B(q4), .Y(d0)); DFF f0 (.CK(clk), .D(d0), .Q(q0)); DFF f1 (.CK(clk), .D(q0), .Q(q1)); DFF f2 (.CK(clk), .D(q1), .Q(q2)); DFF f3 (.CK(clk), .D(q2), .Q(q3)); DFF f4 (.CK(clk), .D(q3), .Q(q4)); INV g1 (.A(q4), .Y(y)); endmodule",
+        "clk a y q4 d0 q0 q1 q2 q3 | g0 f0 f1 f2 f3 f4 g1",
+    ),
     ("module m (a); input a; k u (.a(a)); endmodule", "refused"),
 ];
 

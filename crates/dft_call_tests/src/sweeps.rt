@@ -7,7 +7,7 @@ use dft_netlist::{Design, NetId};
 use std::alloc::{AllocError, Global};
 use std::test::Fail;
 
-const GATES: &str =
+static GATES: &str =
     "module m (a, b, y, z); input a, b; output y, z; NAND2 g (.A(a), .B(b), .Y(y)); XOR2 h (.A(a), .B(y), .Y(z)); endmodule";
 
 // What both inputs show in a pattern, and then all four nets.

@@ -1,13 +1,7 @@
-//! Tests of certificates and generated jobs by whole runs over files in memory.
+//! Tests of certificates and generated jobs that no stored file can show: calls of the outside that fail, and a large job.
 #![tactic(auto)]
 
 #[cfg(test)]
-mod certificates;
+mod faults;
 #[cfg(test)]
-mod generated;
-#[cfg(test)]
-mod hierarchies;
-#[cfg(test)]
-mod host;
-#[cfg(test)]
-mod words;
+mod jobs;

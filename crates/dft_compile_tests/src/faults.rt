@@ -1,110 +1,93 @@
 //! Compilations where a call of the outside fails.
 
-use crate::cases::COMPILE;
-use crate::saved::{ENCODED, OPPOSITE, SIGNALS, VECTORS};
 use dft_files::{Failing, MemoryFiles};
-use dft_test_support::{
-    FIVE, FIVE_COMPILED, PAIR, Unlike, WARM, WARM_HEAD, holds, prints, ran, shelf,
-};
+use dft_test_support::{FIVE, FIVE_COMPILED, PAIR, Unlike, WARM, WARM_HEAD, holds, ran, shelf};
 use dft_top::Status;
 use std::alloc::Global;
 use std::test::Fail;
 
-// A call that fails: of files or of the sink. The configuration, the netlist and the cubes are loaded before the saves.
+// Compiles the cubes `p` for the netlist `n` under the configuration `c`.
+static COMPILE: &str =
+    "compile --netlist n --config c --cubes p --out-netlist o --out-patterns v --out-report r";
+
+// Two cubes that are opposite on one cell.
+static OPPOSITE: &str =
+    "cube k0 clk\ncell f2 1\ncell f3 0\nport a 1\nend\ncube k1 clk\ncell f2 0\ncell f3 1\ncell f4 1\nend\n";
+
+// What is reported of them.
+static ENCODED: &str = "cube k0 encoded 0\ncube k1 encoded 1\n";
+
+// The pattern file before its vectors (IEEE 1450-1999), and these.
+static SIGNALS: &str = "STIL 1.0;
+Signals {
+\"clk\" In;
+\"a\" In;
+\"scan_enable\" In;
+\"edt_clock\" In;
+\"edt_update\" In;
+\"edt_in0\" In;
+\"edt_mask0\" In;
+\"y\" Out;
+\"edt_out0\" Out;
+\"edt_out1\" Out;
+}
+SignalGroups {
+ins = '\"clk\"+\"a\"+\"scan_enable\"+\"edt_clock\"+\"edt_update\"+\"edt_in0\"+\"edt_mask0\"';
+outs = '\"y\"+\"edt_out0\"+\"edt_out1\"';
+}
+Timing {
+WaveformTable w {
+Period '100ns';
+Waveforms {
+ins { 0 { '0ns' D; } 1 { '0ns' U; } P { '0ns' D; '50ns' U; '80ns' D; } }
+outs { L { '0ns' X; '40ns' L; } H { '0ns' X; '40ns' H; } X { '0ns' X; } }
+}
+}
+}
+PatternBurst b { PatList { p; } }
+PatternExec { PatternBurst b; }
+Pattern p {
+W w;
+";
+
+// The vectors of the pattern file.
+static VECTORS: &str = "Ann {* set-up *}
+V { ins = 000P100; outs = XXX; }
+Ann {* pattern 0 *}
+V { ins = P01P000; outs = XXX; }
+V { ins = P01P010; outs = XXX; }
+V { ins = P01P010; outs = XXX; }
+V { ins = P01P000; outs = XXX; }
+V { ins = P01P000; outs = XXX; }
+V { ins = P10P100; outs = LXX; }
+Ann {* pattern 1 *}
+V { ins = P01P010; outs = XHL; }
+V { ins = P01P000; outs = XLH; }
+V { ins = P01P010; outs = XLL; }
+V { ins = P01P000; outs = XLL; }
+V { ins = P01P000; outs = XLH; }
+V { ins = P00P100; outs = LXX; }
+Ann {* unload *}
+V { ins = P01P000; outs = XHH; }
+V { ins = P01P000; outs = XLL; }
+V { ins = P01P000; outs = XHL; }
+V { ins = P01P000; outs = XLL; }
+V { ins = P01P000; outs = XLL; }
+}
+";
+
+// A call that fails: of files or of the sink, what is put, and what is saved, each in two parts. The configuration, the netlist and the
+// cubes are loaded before the saves.
 #[derive(Drop)]
 struct Fault {
     files: Option<Failing>,
     put: Option<Failing>,
     status: Status,
     line: &'static str,
-    // What is saved, each in two parts.
     netlist: (&'static str, &'static str),
     patterns: (&'static str, &'static str),
     report: (&'static str, &'static str),
 }
-
-const NONE: (&str, &str) = ("-", "");
-
-const NETLIST: (&str, &str) = (FIVE_COMPILED, "");
-
-const PATTERNS: (&str, &str) = (SIGNALS, VECTORS);
-
-const REPORT: (&str, &str) = (WARM_HEAD, ENCODED);
-
-static FAULTS: [Fault; 8] = [
-    Fault {
-        files: Some(Failing { call: 0, kept: 0 }),
-        put: None,
-        status: Status::ReadFault,
-        line: "",
-        netlist: NONE,
-        patterns: NONE,
-        report: NONE,
-    },
-    Fault {
-        files: Some(Failing { call: 1, kept: 0 }),
-        put: None,
-        status: Status::ReadFault,
-        line: "",
-        netlist: NONE,
-        patterns: NONE,
-        report: NONE,
-    },
-    Fault {
-        files: Some(Failing { call: 2, kept: 0 }),
-        put: None,
-        status: Status::ReadFault,
-        line: "",
-        netlist: NONE,
-        patterns: NONE,
-        report: NONE,
-    },
-    Fault {
-        files: Some(Failing { call: 3, kept: 10 }),
-        put: None,
-        status: Status::WriteFault,
-        line: "",
-        netlist: ("module m (", ""),
-        patterns: NONE,
-        report: NONE,
-    },
-    Fault {
-        files: Some(Failing { call: 4, kept: 10 }),
-        put: None,
-        status: Status::WriteFault,
-        line: "",
-        netlist: NETLIST,
-        patterns: ("STIL 1.0;\n", ""),
-        report: NONE,
-    },
-    Fault {
-        files: Some(Failing { call: 5, kept: 10 }),
-        put: None,
-        status: Status::WriteFault,
-        line: "",
-        netlist: NETLIST,
-        patterns: PATTERNS,
-        report: ("edt report", ""),
-    },
-    Fault {
-        files: None,
-        put: Some(Failing { call: 0, kept: 0 }),
-        status: Status::WriteFault,
-        line: "",
-        netlist: NETLIST,
-        patterns: PATTERNS,
-        report: REPORT,
-    },
-    Fault {
-        files: Some(Failing { call: 6, kept: 0 }),
-        put: Some(Failing { call: 0, kept: 9 }),
-        status: Status::WriteFault,
-        line: "compiled ",
-        netlist: NETLIST,
-        patterns: PATTERNS,
-        report: REPORT,
-    },
-];
 
 fn ends(alloc: Global, fault: &Fault) -> Result<(), Unlike> {
     let held = [("n", FIVE, ""), ("c", WARM, PAIR), ("p", OPPOSITE, "")];
@@ -117,14 +100,6 @@ fn leaves(alloc: Global, files: &mut MemoryFiles, fault: &Fault) -> Result<(), U
     holds(alloc, files, "o", fault.netlist.0, fault.netlist.1)?;
     holds(alloc, files, "v", fault.patterns.0, fault.patterns.1)?;
     holds(alloc, files, "r", fault.report.0, fault.report.1)
-}
-
-#[test]
-fn whole_files_and_a_prefix_are_left(rt: HostRuntime) -> Result<(), Fail> {
-    for fault in &FAULTS {
-        ends(rt.alloc(), fault)?;
-    }
-    Ok(())
 }
 
 // A text in two parts up to this many bytes.
@@ -145,7 +120,7 @@ fn left(
     text: (&'static str, &'static str),
 ) -> (&'static str, &'static str) {
     if call < save {
-        NONE
+        ("-", "")
     } else if call == save {
         cut(text, kept)
     } else {
@@ -163,9 +138,9 @@ fn failing(call: u32, kept: u32) -> Fault {
             Status::WriteFault
         },
         line: "",
-        netlist: left(call, kept as usize, 3, NETLIST),
-        patterns: left(call, kept as usize, 4, PATTERNS),
-        report: left(call, kept as usize, 5, REPORT),
+        netlist: left(call, kept as usize, 3, (FIVE_COMPILED, "")),
+        patterns: left(call, kept as usize, 4, (SIGNALS, VECTORS)),
+        report: left(call, kept as usize, 5, (WARM_HEAD, ENCODED)),
     }
 }
 
@@ -179,11 +154,22 @@ fn each_failing_call_leaves_what_was_saved_before(rt: HostRuntime) -> Result<(),
     Ok(())
 }
 
+// The put that fails keeps so many bytes of the line, and all is saved.
+fn failing_put(kept: u32, line: &'static str) -> Fault {
+    Fault {
+        files: None,
+        put: Some(Failing { call: 0, kept }),
+        status: Status::WriteFault,
+        line,
+        netlist: (FIVE_COMPILED, ""),
+        patterns: (SIGNALS, VECTORS),
+        report: (WARM_HEAD, ENCODED),
+    }
+}
+
 #[test]
-fn a_netlist_that_is_not_held_is_a_fault(rt: HostRuntime) -> Result<(), Fail> {
-    let held = [("c", WARM, PAIR), ("p", OPPOSITE, "")];
-    let mut files = shelf(rt.alloc(), &held, None)?;
-    prints(rt.alloc(), COMPILE, &mut files, Status::ReadFault, "")?;
-    holds(rt.alloc(), &files, "o", "-", "")?;
+fn a_put_that_fails_comes_behind_the_saves(rt: HostRuntime) -> Result<(), Fail> {
+    ends(rt.alloc(), &failing_put(0, ""))?;
+    ends(rt.alloc(), &failing_put(9, "compiled "))?;
     Ok(())
 }

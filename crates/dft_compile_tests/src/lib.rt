@@ -1,23 +1,7 @@
-//! Compilations over files in memory, worked by hand: what is printed and saved, and replays of what was saved.
+//! Compilations that no stored file can show: calls of the outside that fail, and more cubes than are stored.
 #![tactic(auto)]
 
 #[cfg(test)]
-mod cases;
-#[cfg(test)]
-mod falling;
-#[cfg(test)]
 mod faults;
 #[cfg(test)]
-mod made;
-#[cfg(test)]
 mod many;
-#[cfg(test)]
-mod pulses;
-#[cfg(test)]
-mod refusals;
-#[cfg(test)]
-mod saved;
-#[cfg(test)]
-mod tables;
-#[cfg(test)]
-mod wide;

@@ -1,11 +1,16 @@
 //! More cubes than go into one group of patterns, than are read, and than a pattern file has room for.
 
-use crate::cases::passes;
-use crate::refusals::is_refused;
-use crate::tables::OPEN_ONE;
-use dft_test_support::{FIVE, PAIR, Unlike, shelf};
+use dft_files::MemoryFiles;
+use dft_test_support::{FIVE, PAIR, Unlike, holds, prints, shelf};
+use dft_top::Status;
 use std::alloc::{AllocError, Global};
 use std::test::Fail;
+
+// Compiles the cubes `p` for the netlist `n` under the configuration `c`.
+static COMPILE: &str =
+    "compile --netlist n --config c --cubes p --out-netlist o --out-patterns v --out-report r";
+
+static OPEN_ONE: &str = "version = 1\ndomains = ['clk']\nwarm = 2\nwindow = 1\n";
 
 // Adds so many cubes, which by turns have these clocks and lines of bits.
 fn push_cubes(
@@ -48,6 +53,18 @@ fn mixed(alloc: Global, count: u32) -> Result<String, AllocError> {
     Ok(text)
 }
 
+// Whether a compilation prints this line, and a replay of what it saved passes with that one.
+fn passes(alloc: Global, files: &mut MemoryFiles, line: &str, replay: &str) -> Result<(), Unlike> {
+    prints(alloc, COMPILE, files, Status::Done, line)?;
+    prints(
+        alloc,
+        "replay --netlist o --patterns v",
+        files,
+        Status::Done,
+        replay,
+    )
+}
+
 fn pass(alloc: Global, cubes: &str, line: &str, replay: &str) -> Result<(), Unlike> {
     let held = [("n", FIVE, ""), ("c", OPEN_ONE, PAIR), ("p", cubes, "")];
     let mut files = shelf(alloc, &held, None)?;
@@ -80,22 +97,30 @@ fn patterns_of_one_capture_and_two_pass(rt: HostRuntime) -> Result<(), Fail> {
     Ok(())
 }
 
+// Whether a compilation under a configuration of this head is refused with this line.
+fn is_refused(alloc: Global, head: &str, cubes: &str, line: &str) -> Result<(), Unlike> {
+    let held = [("n", FIVE, ""), ("c", head, PAIR), ("p", cubes, "")];
+    let mut files = shelf(alloc, &held, None)?;
+    prints(alloc, COMPILE, &mut files, Status::Refused, line)?;
+    holds(alloc, &files, "o", "-", "")
+}
+
 #[test]
 fn a_cube_too_many_is_told(rt: HostRuntime) -> Result<(), Fail> {
     let mut cubes = String::new(rt.alloc());
     push_cubes(rt.alloc(), &mut cubes, 65_537, "clk\n", "clk\n")?;
     let line = "refused Q9 131073:1\n";
-    is_refused(rt.alloc(), FIVE, (OPEN_ONE, PAIR), cubes.as_str(), line)?;
+    is_refused(rt.alloc(), OPEN_ONE, cubes.as_str(), line)?;
     Ok(())
 }
 
 // Loads of 4,096 cycles: with the capture a pattern has 4,097 lines of 33 bytes.
-const LONGEST: &str = "version = 1\ndomains = ['clk']\nwarm = 4093\nwindow = 1\n";
+static LONGEST: &str = "version = 1\ndomains = ['clk']\nwarm = 4093\nwindow = 1\n";
 
 #[test]
 fn patterns_past_their_room_are_told(rt: HostRuntime) -> Result<(), Fail> {
     let cubes = opposites(rt.alloc(), 1_985)?;
     let line = "refused P6 268554353\n";
-    is_refused(rt.alloc(), FIVE, (LONGEST, PAIR), cubes.as_str(), line)?;
+    is_refused(rt.alloc(), LONGEST, cubes.as_str(), line)?;
     Ok(())
 }

@@ -2,14 +2,8 @@
 #![tactic(auto)]
 
 #[cfg(test)]
-mod configured;
-#[cfg(test)]
-mod counts;
-#[cfg(test)]
 mod long;
 #[cfg(test)]
 mod rings;
-#[cfg(test)]
-mod roots;
 #[cfg(test)]
 mod texts;

@@ -8,25 +8,6 @@ use sha2::{Digest, Sha256};
 use std::alloc::{AllocError, Global};
 use std::test::Fail;
 
-// Chains, channels, and the ring that they get: the stages that are needed, the stages, the taps, the injectors and the phase sets.
-static RINGS: [(u16, u8, &str); 3] = [
-    (
-        2,
-        1,
-        "need 7 stages 8 taps 1 5, 2 4, 3 3, injectors 0 0, 0 2, 0 6, 0 7, phase 1 3 7, 0 2 4, ",
-    ),
-    (
-        1,
-        1,
-        "need 7 stages 8 taps 1 5, 2 4, 3 3, injectors 0 0, 0 2, 0 6, 0 7, phase 1 3 7, ",
-    ),
-    (
-        8,
-        2,
-        "need 24 stages 24 taps 3 19, 5 18, 9 14, injectors 0 0, 0 3, 0 6, 0 9, 1 12, 1 15, 1 20, 1 21, phase 1 10 17, 4 9 15, 0 8 21, 2 20 23, 5 7 16, 6 11 18, 12 19 22, 3 13 14, ",
-    ),
-];
-
 // Adds the injectors of a ring.
 fn push_injectors(
     alloc: Global,
@@ -102,20 +83,6 @@ fn shown(alloc: Global, chains: u16, channels: u8) -> Result<String, AllocError>
         None => text.push_str("none")?,
     }
     Ok(text)
-}
-
-#[test]
-fn rings_are_those_that_were_worked(rt: HostRuntime) -> Result<(), Fail> {
-    let alloc = rt.alloc();
-    for (chains, channels, wanted) in &RINGS {
-        let text = shown(alloc, *chains, *channels)?;
-        assert_eq!(rt;
-            text.as_str(),
-            *wanted,
-            "{chains} chains on {channels} channels"
-        );
-    }
-    Ok(())
 }
 
 static CHANNELS: [u8; 11] = [1, 2, 3, 4, 5, 6, 8, 12, 16, 24, 32];

@@ -1,18 +1,49 @@
 //! Runs each command line of the file `commands` on the files beside it, and prints the line that it puts, its exit status,
-//! what a person is told on standard error, and what it saved, but for a line that begins with `briefly`. The stored output holds what
-//! was worked out by hand; it promises nothing.
+//! what a person is told on standard error, and what it saved, but for a line that begins with `briefly`. Then it plays the cases of
+//! the folder `cases`. The stored output holds what was worked out by hand; it promises nothing.
 #![tactic(auto)]
 
+mod cases;
+mod patterns;
+
+use cases::play_cases;
 use dft_top::told_run;
 use std::alloc::Global;
 use std::{fs, io};
 
+// The files of cases, in the order in which they are played.
+static CASES: [&str; 15] = [
+    "cases/replays.cases",
+    "cases/modules.cases",
+    "cases/scans.cases",
+    "cases/hardware.cases",
+    "cases/compilations.cases",
+    "cases/certificates.cases",
+    "cases/gradings.cases",
+    "cases/words.cases",
+    "cases/configurations.cases",
+    "cases/refused_configurations.cases",
+    "cases/libraries.cases",
+    "cases/refused_patterns.cases",
+    "cases/cubes.cases",
+    "cases/captures.cases",
+    "cases/netlists.cases",
+];
+
 fn main(rt: HostRuntime) -> io::Result<()> {
-    let commands = fs::read_to_string(&rt, "commands")?;
+    play_commands(&rt)?;
+    for name in &CASES {
+        play_cases(&rt, *name)?;
+    }
+    Ok(())
+}
+
+fn play_commands<R: AllocGlobal + Print + std::rt::Files>(rt: &R) -> io::Result<()> {
+    let commands = fs::read_to_string(rt, "commands")?;
     for line in commands.lines() {
         match line.strip_prefix("briefly ") {
-            Some(line) => play(&rt, line, false)?,
-            None => play(&rt, line, true)?,
+            Some(line) => play(rt, line, false)?,
+            None => play(rt, line, true)?,
         }
     }
     Ok(())

@@ -2,7 +2,6 @@
 
 ghost use Rattle.dft_patterns.specs.Patterns.{IsWellFormed};
 
-use crate::ONE_FLIP_FLOP;
 use dft_cells::Library;
 use dft_grade::{Grade, Graded, grades};
 use dft_netlist::Design;
@@ -10,6 +9,10 @@ use dft_patterns::PatternSet;
 use dft_replay::ReplayError;
 use std::alloc::{AllocError, Global};
 use std::test::Fail;
+
+// The least netlist: one flip-flop.
+const ONE_FLIP_FLOP: &str =
+    "module m (c, d, q); input c, d; output q; DFF f (.CK(c), .D(d), .Q(q)); endmodule";
 
 // Two vectors for a flip-flop: it takes 1, and is compared.
 const TAKES_ONE: &str =

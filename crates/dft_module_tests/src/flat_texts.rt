@@ -3,98 +3,24 @@
 use crate::flat_lines::told;
 use std::test::Fail;
 
-// Flat designs, and refusals.
-static TEXTS: [(&str, &str); 38] = [
+// Flat designs.
+static TEXTS: [(&str, &str); 7] = [
     (
         "module inv2 (a, y); input a; output y; INV i0 (.A(a), .Y(n)); INV i1 (.A(n), .Y(y)); endmodule module m (c, d, q); input c, d; output q; inv2 u (.a(d), .y(w)); DFF f (.CK(c), .D(w), .Q(q)); endmodule",
         "m: c d q w u/a u/y u/n; 4=1; 3=5; u/i0 4 6; u/i1 6 5; f 0 3 2 -",
-    ),
-    (
-        "module inv2 (a, y); input a; output y; INV i0 (.A(a), .Y(n)); INV i1 (.A(n), .Y(y)); endmodule module m (c, d, q); input c, d; output q; BUF u (.A(d), .Y(w)); DFF f (.CK(c), .D(w), .Q(q)); endmodule",
-        "H4 2",
-    ),
-    ("module m (a); input a; m u (.a(a)); endmodule", "H3 m"),
-    (
-        "module k (input [1:0] a, output [0:1] y); INV i (.A(a[0]), .Y(y[1])); assign y[0] = a[1]; endmodule module l (input p, output [1:0] s); k u (.a({p, 1'b1}), .y(s)), v (.y({x, z}), .a({z, x})); endmodule module t (output [1:0] o); l m (.s(o)); endmodule",
-        "N2 m/x",
     ),
     (
         "module k (input [1:0] a, output [0:1] y); INV i (.A(a[0]), .Y(y[1])); assign y[0] = a[1]; endmodule module l (input p, output [1:0] s); k u (.a({p, 1'b1}), .y(s)), v (.y({x, z}), .a({p, p})); endmodule module t (output [1:0] o); l m (.s(o)); endmodule",
         "t: o[1] o[0] m/p m/s[1] m/s[0] m/x m/z m/u/a[1] m/u/a[0] m/u/y[0] m/u/y[1] m/v/a[1] m/v/a[0] m/v/y[0] m/v/y[1]; 0=3; 1=4; 7=2; 8='1; 3=9; 4=10; 9=7; 11=2; 12=2; 5=13; 6=14; 13=11; m/u/i 8 10; m/v/i 12 14",
     ),
     ("module a; endmodule", "a:"),
-    ("module a; k u (); endmodule", "H2 k"),
-    (
-        "module a; b u (); endmodule module b; a v (); k w (); endmodule",
-        "H2 k",
-    ),
-    (
-        "module c; a u (); endmodule module a; b u (); endmodule module b; a v (); endmodule",
-        "H3 a",
-    ),
-    (
-        "module a; b u (); endmodule module b; c u (); endmodule module c; c v (); endmodule",
-        "H3 c",
-    ),
-    (
-        "module a; b u (); c w (); endmodule module b; c u (); endmodule module c; a v (); d x (); endmodule module d; d y (); endmodule",
-        "H3 a",
-    ),
-    (
-        "module z; a u (); endmodule module a; b u (); endmodule module b; a v (); c w (); endmodule module c; d u (); endmodule module d; e w (); endmodule module e; d u (); endmodule",
-        "H3 a",
-    ),
-    (
-        "module z; y u (); endmodule module y; a u (); endmodule module x; e u (); endmodule module a; b u (); endmodule module b; a v (); x w (); endmodule module e; e u (); endmodule",
-        "H3 a",
-    ),
-    (
-        "module a; endmodule module b; endmodule module c; endmodule",
-        "H4 3",
-    ),
-    (
-        "module k (a); input a; endmodule module t; k u (.a(x)), v (.b(x)); endmodule",
-        "H5 1:61 b",
-    ),
-    (
-        "module k (a); input [1:0] a; endmodule module t; k u (.a(x)); endmodule",
-        "H5 1:56 a",
-    ),
-    (
-        "module k (y); output y; endmodule module t;\n k u (.y(1'b0)); endmodule",
-        "H5 2:8 y",
-    ),
     (
         "module k (a); input [1:0] a; endmodule module t; k u (.a()); endmodule",
         "t: u/a[1] u/a[0]",
     ),
     (
-        "module k (a); input a; endmodule module t; wire \\u/a ; k u (); endmodule",
-        "N3 u/a",
-    ),
-    (
-        "module k (a); input a; endmodule module t; wire \\u ; k u (); endmodule",
-        "N3 u",
-    ),
-    (
-        "module k; INV i (); endmodule module t; INV \\u/i (); k u (); endmodule",
-        "N3 u/i",
-    ),
-    (
-        "module k; wire n; INV n2 (); endmodule module t; INV \\u/n (); k u (); endmodule",
-        "N3 u/n",
-    ),
-    (
-        "module k (y); output y; INV i (.Y(y)); endmodule module t (o); output o; k u (.y(o)), v (.y(o)); endmodule",
-        "N1 o",
-    ),
-    (
         "module k (a); input a; INV i (.Y(a)); endmodule module t; k u (); endmodule",
         "t: u/a; u/i - 0",
-    ),
-    (
-        "module k (a); input a; INV i (.Y(a)); endmodule module t; k u (.a(x)); endmodule",
-        "N1 u/a",
     ),
     (
         "module k (a); input a; not (x, a); endmodule module t (b); input b; k u (.a(b)), v (.a(b)); endmodule",
@@ -104,20 +30,6 @@ static TEXTS: [(&str, &str); 38] = [
         "module t (y); output y; wire [1:0] z; assign y = z[0]; k u (.a(), .b({x, z})); not (x, y); assign z = 2'b10; endmodule module k (input a, input [2:0] b); endmodule",
         "t: y z[1] z[0] x u/a u/b[2] u/b[1] u/b[0]; 0=2; 5=3; 6=1; 7=2; 1='1; 2='0; *:Inv1 0 3",
     ),
-    ("module t; endmodule module t (; endmodule", "H1 t"),
-    ("module INV; endmodule", "H1 INV"),
-    ("module t; k u (.a(x), .a({})); endmodule", "V12 1:24 a"),
-    ("module t; k u (.a(), .a()); endmodule", "V12 1:23 a"),
-    ("module t; k u (), u (); endmodule", "N3 u"),
-    ("module a; INV u (.B(x)); endmodule module a", "V5 1:19 B"),
-    (
-        "module a; endmodule module b; k u ( endmodule",
-        "V3 1:37 endmodule",
-    ),
-    ("module a; endmodule wire", "V3 1:21 wire"),
-    ("", "V9 1:1"),
-    ("module a; endmodule module", "V9 1:27"),
-    ("module a; k u (x); endmodule", "V2 1:16"),
 ];
 
 #[test]

@@ -11,5 +11,5 @@ mod read_lines;
 mod read_texts;
 
 /// A text of two modules, one with an instance of the other.
-pub const TWO: &str =
+pub static TWO: &str =
     "module inv2 (a, y); input a; output y; INV i0 (.A(a), .Y(n)); INV i1 (.A(n), .Y(y)); endmodule module m (c, d, q); input c, d; output q; inv2 u (.a(d), .y(w)); DFF f (.CK(c), .D(w), .Q(q)); endmodule";

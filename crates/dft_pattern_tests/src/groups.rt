@@ -1,17 +1,41 @@
 //! The captures of a whole group of patterns and a further one, and those of the same patterns one by one.
 
-ghost use Rattle.std.specs.Prelude.{◌≡◌, None};
-ghost use Rattle.dft_rules.specs.Refusals.{refusal};
-ghost use Rattle.dft_stitch.specs.Chains.{plan_of};
-
-use crate::captures::{all_merged, push_values};
-use crate::lines::{Job, Texts, Told, line_for};
-use crate::texts::{WIDE, mixed_patterns, wide_patterns};
-use dft_cubes::Merged;
+use crate::lines::{Job, line_for};
+use crate::texts::{mixed_patterns, wide_patterns};
+use dft_base::{Listed, Tri};
+use dft_cubes::{Cube, Merged};
 use dft_expect::{Capturer, Pattern, Response};
 use dft_text_tests::ring_of_forty;
 use std::alloc::{AllocError, Global};
 use std::test::Fail;
+
+fn push_values(line: &mut String, values: &[Tri]) -> Result<(), AllocError> {
+    for value in values {
+        line.push(match value {
+            Tri::Zero => '0',
+            Tri::One => '1',
+            Tri::Unknown => 'X',
+        })?;
+    }
+    line.push(' ')
+}
+
+// What a pattern sets, which a cube says.
+fn merged_of(alloc: Global, cube: &Cube) -> Result<Merged, AllocError> {
+    Ok(Merged {
+        domains: cube.domains,
+        cells: Listed::from_vec(Vec::from_slice(alloc, cube.cells.as_slice())?),
+        ports: Listed::from_vec(Vec::from_slice(alloc, cube.ports.as_slice())?),
+    })
+}
+
+fn all_merged(alloc: Global, cubes: &[Cube]) -> Result<Vec<Merged>, AllocError> {
+    let mut merged = Vec::new(alloc);
+    for cube in cubes {
+        merged.push(merged_of(alloc, cube)?)?;
+    }
+    Ok(merged)
+}
 
 // One more than a sweep takes.
 const PATTERNS: usize = 513;
@@ -126,12 +150,7 @@ pub(crate) fn line(alloc: Global, job: &Job<'_>) -> Result<String, AllocError> {
 fn groups_capture_as_their_patterns_one_by_one(rt: HostRuntime) -> Result<(), Fail> {
     let netlist = ring_of_forty(rt.alloc())?;
     let cubes = wide_patterns(rt.alloc())?;
-    let texts = Texts {
-        netlist: netlist.as_str(),
-        config: WIDE,
-        cubes: cubes.as_str(),
-    };
-    let line = line_for(rt.alloc(), &texts, Told::Groups)?;
+    let line = line_for(rt.alloc(), netlist.as_str(), cubes.as_str())?;
     // forty cells and five outputs, with two blanks
     assert_eq!(rt; line.as_str(), "24111 alike");
     Ok(())
@@ -142,12 +161,7 @@ fn groups_capture_as_their_patterns_one_by_one(rt: HostRuntime) -> Result<(), Fa
 fn groups_of_one_capture_and_two_do_so(rt: HostRuntime) -> Result<(), Fail> {
     let netlist = ring_of_forty(rt.alloc())?;
     let cubes = mixed_patterns(rt.alloc())?;
-    let texts = Texts {
-        netlist: netlist.as_str(),
-        config: WIDE,
-        cubes: cubes.as_str(),
-    };
-    let line = line_for(rt.alloc(), &texts, Told::Groups)?;
+    let line = line_for(rt.alloc(), netlist.as_str(), cubes.as_str())?;
     // 233 of them have five outputs more
     assert_eq!(rt; line.as_str(), "25276 alike");
     Ok(())

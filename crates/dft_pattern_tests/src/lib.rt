@@ -1,13 +1,11 @@
-//! Test cubes, worked by hand: the patterns they go into, the channel bits, what patterns capture, and what the outputs then show.
+//! Captures of many patterns, in groups and one by one, and the fill of a seed.
 #![tactic(auto)]
 
 #[cfg(test)]
-mod captures;
+mod fills;
 #[cfg(test)]
 mod groups;
 #[cfg(test)]
 mod lines;
-#[cfg(test)]
-mod placements;
 #[cfg(test)]
 mod texts;

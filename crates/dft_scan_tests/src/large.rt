@@ -1,10 +1,21 @@
 //! Netlists with much hardware: the widest ring with the most channels, and a limit that is met in the last part that is made.
 
-use crate::designs::SINGLE;
-use crate::hardware::FOUR_STAGES;
-use crate::plans::{Told, line_for};
+use crate::plans::line_for;
 use std::alloc::{AllocError, Global};
 use std::test::Fail;
+
+static SINGLE: &str =
+    "module s (ca, d, q); input ca, d; output q; DFF f0 (.CK(ca), .D(d), .Q(q)); endmodule";
+
+// Four stages, one channel and a tap; two chains in one mask segment, of which the second has an output of its own.
+static FOUR_STAGES: &str = "version = 1
+domains = ['clk']
+chains = 2
+warm = 2
+window = 4
+ring = { stages = 4, channels = 1, taps = [[2, 0]], injectors = [[0, 3]], phase = [[0, 3], [1, 2]] }
+compactor = { groups = [[0, 1], [1]], mask_inputs = 1 }
+";
 
 // So many flip-flops on one clock, and so many inverters whose outputs are joined to nothing.
 fn netlist(alloc: Global, cells: u32, inverters: u32) -> Result<String, AllocError> {
@@ -64,7 +75,7 @@ fn push_group(alloc: Global, text: &mut String) -> Result<(), AllocError> {
 }
 
 // One chain behind 32 channels, whose loads have so many cycles before the first cell's.
-pub(crate) fn many_channels(alloc: Global, warm: u32) -> Result<String, AllocError> {
+fn many_channels(alloc: Global, warm: u32) -> Result<String, AllocError> {
     let mut text = format!(in alloc;
         "version = 1\ndomains = ['ca']\nchains = 1\nwarm = {warm}\nwindow = 1\n[ring]\nstages = 32\nchannels = 32\ntaps = []\ninjectors = ["
     )?;
@@ -77,7 +88,7 @@ pub(crate) fn many_channels(alloc: Global, warm: u32) -> Result<String, AllocErr
 
 fn told_of_channels(alloc: Global) -> Result<String, AllocError> {
     let config = many_channels(alloc, 511)?;
-    line_for(alloc, SINGLE, config.as_str(), Told::Count)
+    line_for(alloc, SINGLE, config.as_str())
 }
 
 // 512 cycles of 32 channels have 16,384 variables. The ring has a gate before all, and a gate and a flip-flop for each stage, and a sum for
@@ -106,20 +117,17 @@ fn widest_told(alloc: Global) -> Result<String, AllocError> {
 // How many instances are made of so many flip-flops and inverters.
 fn counted(alloc: Global, cells: u32, inverters: u32, config: &str) -> Result<String, AllocError> {
     let netlist = netlist(alloc, cells, inverters)?;
-    line_for(alloc, netlist.as_str(), config, Told::Count)
+    line_for(alloc, netlist.as_str(), config)
 }
 
-// Two flip-flops take 32 made instances, of which the last is the buffer of the second output.
-#[test]
-fn last_instance_keeps_the_limit(rt: HostRuntime) -> Result<(), Fail> {
-    let told = counted(rt.alloc(), 2, 262_110, FOUR_STAGES)?;
-    assert_eq!(rt; told.as_str(), "262144 instances");
-    Ok(())
-}
+// Inverters beside two flip-flops, which take 32 made instances; the last of these is the buffer of the second output.
+static LIMITS: [(u32, &str); 2] = [(262_110, "262144 instances"), (262_111, "N4 instances")];
 
 #[test]
-fn last_instance_passes_the_limit(rt: HostRuntime) -> Result<(), Fail> {
-    let told = counted(rt.alloc(), 2, 262_111, FOUR_STAGES)?;
-    assert_eq!(rt; told.as_str(), "N4 instances");
+fn the_last_instance_keeps_the_limit_or_passes_it(rt: HostRuntime) -> Result<(), Fail> {
+    for (inverters, wanted) in &LIMITS {
+        let told = counted(rt.alloc(), 2, *inverters, FOUR_STAGES)?;
+        assert_eq!(rt; told.as_str(), *wanted);
+    }
     Ok(())
 }

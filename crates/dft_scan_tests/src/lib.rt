@@ -1,29 +1,13 @@
-//! Cases worked by hand, as tests of whole runs of the tool over files in memory, and of its plans.
+//! Runs that no stored file can show: calls of the outside that fail, and texts that are cut off or too long to be stored.
 #![tactic(auto)]
 
 #[cfg(test)]
-mod chains;
+mod cut;
 #[cfg(test)]
-mod cycles;
+mod faults;
 #[cfg(test)]
-mod designs;
-#[cfg(test)]
-mod edges;
-#[cfg(test)]
-mod falling;
-#[cfg(test)]
-mod hardware;
-#[cfg(test)]
-mod hierarchies;
+mod inverters;
 #[cfg(test)]
 mod large;
 #[cfg(test)]
 mod plans;
-#[cfg(test)]
-mod replays;
-#[cfg(test)]
-mod rows;
-#[cfg(test)]
-mod scans;
-#[cfg(test)]
-mod words;

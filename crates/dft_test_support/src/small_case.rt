@@ -1,16 +1,11 @@
 //! The small whole case: five flip-flops in two chains, f0 f1 f2 and f3 f4, behind a ring of four stages and one channel.
 
 /// Its netlist: the flip-flops stand in a ring.
-pub const FIVE: &str =
+pub static FIVE: &str =
     "module m (clk, a, y); input clk, a; output y; NAND2 g0 (.A(a), .B(q4), .Y(d0)); DFF f0 (.CK(clk), .D(d0), .Q(q0)); DFF f1 (.CK(clk), .D(q0), .Q(q1)); DFF f2 (.CK(clk), .D(q1), .Q(q2)); DFF f3 (.CK(clk), .D(q2), .Q(q3)); DFF f4 (.CK(clk), .D(q3), .Q(q4)); INV g1 (.A(q4), .Y(y)); endmodule";
 
-/// The same, where the first flip-flop has the inverse of the clock. With warm cycles the variables of f0 are those of cycles 0, 2
-/// and 4, of f1 1 and 3, of f2 0 and 2; without, those of f0 are of cycles 0 and 2, of f1 1, of f2 0.
-pub const FIRST_FALLS: &str =
-    "module m (clk, a, y); input clk, a; output y; NAND2 g0 (.A(a), .B(q4), .Y(d0)); DFF f0 (.CK(nclk), .D(d0), .Q(q0)); DFF f1 (.CK(clk), .D(q0), .Q(q1)); DFF f2 (.CK(clk), .D(q1), .Q(q2)); DFF f3 (.CK(clk), .D(q2), .Q(q3)); DFF f4 (.CK(clk), .D(q3), .Q(q4)); INV g1 (.A(q4), .Y(y)); INV g2 (.A(clk), .Y(nclk)); endmodule";
-
 /// What style Edt makes of the first.
-pub const FIVE_COMPILED: &str =
+pub static FIVE_COMPILED: &str =
     "module m (clk, a, y, scan_enable, edt_clock, edt_update, edt_in0, edt_mask0, edt_out0, edt_out1);
 input clk;
 input a;
@@ -102,27 +97,27 @@ endmodule
 
 /// The first part of a configuration with warm cycles: a load has five. The variables of f0 are those of cycles 1 and 3, of
 /// f1 0 and 2, of f2 1, of f3 1 and 2, of f4 0 and 1.
-pub const WARM: &str = "version = 1\ndomains = ['clk']\nwarm = 2\nwindow = 4\n";
+pub static WARM: &str = "version = 1\ndomains = ['clk']\nwarm = 2\nwindow = 4\n";
 
 /// The same without: a load has three. The variables of f0 are that of cycle 1, of f1 0, of f3 0; f2 and f4 have none.
-pub const COLD: &str = "version = 1\ndomains = ['clk']\nwarm = 0\nwindow = 4\n";
+pub static COLD: &str = "version = 1\ndomains = ['clk']\nwarm = 0\nwindow = 4\n";
 
 /// The second part: the hardware of two chains in one mask segment, of which the second has an output of its own.
-pub const PAIR: &str =
+pub static PAIR: &str =
     "chains = 2\nring = { stages = 4, channels = 1, taps = [[2, 0]], injectors = [[0, 3]], phase = [[0, 3], [1, 2]] }\ncompactor = { groups = [[0, 1], [1]], mask_inputs = 1 }\n";
 
 /// Three cubes, of which without warm cycles no load gives the first and the last.
-pub const PARTED: &str =
+pub static PARTED: &str =
     "cube u clk\ncell f2 1\nend\ncube v clk\ncell f2 0\nend\ncube w clk\ncell f1 0\ncell f3 1\nend\n";
 
 /// The lines of a report before those of cubes, with warm cycles.
-pub const WARM_HEAD: &str =
+pub static WARM_HEAD: &str =
     "edt report 1\ncells 5 chains 2 cycles 5 variables 5\nchain 0 length 3\nchain 1 length 2\nscanned f0 clk chain 0 place 0\nscanned f1 clk chain 0 place 1\nscanned f2 clk chain 0 place 2\nscanned f3 clk chain 1 place 0\nscanned f4 clk chain 1 place 1\n";
 
 /// The same without.
-pub const COLD_HEAD: &str =
+pub static COLD_HEAD: &str =
     "edt report 1\ncells 5 chains 2 cycles 3 variables 3\nchain 0 length 3\nchain 1 length 2\nscanned f0 clk chain 0 place 0\nscanned f1 clk chain 0 place 1\nscanned f2 clk chain 0 place 2\nscanned f3 clk chain 1 place 0\nscanned f4 clk chain 1 place 1\n";
 
 /// The lines of the three cubes.
-pub const PARTED_TOLD: &str =
+pub static PARTED_TOLD: &str =
     "cube u unsolvable 1\nsum f2 1 -\ncube v encoded 0\ncube w unsolvable 2\nsum f1 0 0.0\nsum f3 1 0.0\n";

@@ -5,13 +5,11 @@
 mod cube_files;
 mod designs;
 #[cfg(test)]
-mod netlist_items;
-#[cfg(test)]
 mod netlist_limits;
 #[cfg(test)]
 mod netlist_lines;
 #[cfg(test)]
-mod netlist_tokens;
+mod netlist_texts;
 #[cfg(test)]
 mod netlist_written;
 #[cfg(test)]

@@ -13,28 +13,22 @@ fn push_name(line: &mut String, name: &Name) -> Result<(), AllocError> {
     Ok(())
 }
 
-// A code, and the name that it is told with.
-fn named(alloc: Global, code: &str, name: &Name) -> Result<String, AllocError> {
-    let mut line = String::from_str(alloc, code)?;
-    line.push(' ')?;
-    push_name(&mut line, name)?;
-    Ok(line)
-}
-
 // A code, and its place.
-fn placed(alloc: Global, code: &str, place: Place) -> Result<String, AllocError> {
+fn placed(alloc: Global, code: &str, place: &Place) -> Result<String, AllocError> {
     let line = place.line;
     let column = place.column;
     format!(in alloc; "{code} {line}:{column}")
 }
 
-// A code, its place and its name.
-fn both(alloc: Global, code: &str, place: Place, name: &Name) -> Result<String, AllocError> {
-    let line = placed(alloc, code, place)?;
-    named(alloc, line.as_str(), name)
+// The same with a name.
+fn named(alloc: Global, code: &str, place: &Place, name: &Name) -> Result<String, AllocError> {
+    let mut line = placed(alloc, code, place)?;
+    line.push(' ')?;
+    push_name(&mut line, name)?;
+    Ok(line)
 }
 
-fn counted(what: Counted) -> &'static str {
+fn counted(what: &Counted) -> &'static str {
     match what {
         Counted::Ports => "ports",
         Counted::Nets => "nets",
@@ -42,35 +36,24 @@ fn counted(what: Counted) -> &'static str {
     }
 }
 
-fn refusal_of(alloc: Global, error: NetlistError) -> Result<String, AllocError> {
+fn refusal_of(alloc: Global, error: &NetlistError) -> Result<String, AllocError> {
     match error {
-        NetlistError::MultipleDrivers { net } => named(alloc, "N1", &net),
-        NetlistError::Loop { net } => named(alloc, "N2", &net),
-        NetlistError::DuplicateName { name } => named(alloc, "N3", &name),
         NetlistError::TooMany { what, limit } => {
             let what = counted(what);
             format!(in alloc; "N4 {what} {limit}")
         }
-        NetlistError::Memory(error) => Err(error),
+        _ => String::from_str(alloc, "refused"),
     }
 }
 
-fn error_of(alloc: Global, error: VerilogError) -> Result<String, AllocError> {
+// A cell that the library has not, a second module, the end of a text, and what is too many; other refusals are shown by runs.
+fn error_of(alloc: Global, error: &VerilogError) -> Result<String, AllocError> {
     match error {
-        VerilogError::V1 { place } => placed(alloc, "V1", place),
-        VerilogError::V2 { place } => placed(alloc, "V2", place),
-        VerilogError::V3 { place, name } => both(alloc, "V3", place, &name),
-        VerilogError::V4 { place, name } => both(alloc, "V4", place, &name),
-        VerilogError::V5 { place, name } => both(alloc, "V5", place, &name),
-        VerilogError::V6 { place } => placed(alloc, "V6", place),
-        VerilogError::V7 { place } => placed(alloc, "V7", place),
+        VerilogError::V4 { place, name } => named(alloc, "V4", place, name),
         VerilogError::V8 { place } => placed(alloc, "V8", place),
         VerilogError::V9 { place } => placed(alloc, "V9", place),
-        VerilogError::V10 { place } => placed(alloc, "V10", place),
-        VerilogError::V11 { place, name } => both(alloc, "V11", place, &name),
-        VerilogError::V12 { place, name } => both(alloc, "V12", place, &name),
         VerilogError::Netlist(error) => refusal_of(alloc, error),
-        VerilogError::Memory(error) => Err(error),
+        _ => String::from_str(alloc, "refused"),
     }
 }
 
@@ -129,6 +112,6 @@ pub fn line_of(alloc: Global, text: &[u8]) -> Result<String, AllocError> {
     }
     match read(alloc, text, Library::standard(alloc)?) {
         Ok(design) => design_of(alloc, &design),
-        Err(error) => error_of(alloc, error),
+        Err(error) => error_of(alloc, &error),
     }
 }

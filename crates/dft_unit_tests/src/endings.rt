@@ -100,11 +100,11 @@ fn a_person_is_told_how_a_run_ended(rt: HostRuntime) -> Result<(), Fail> {
     Ok(())
 }
 
-const NETLIST: &str = "module m (c, d, q);\ninput c, d; output q;\nINV u (.A(d), .Z(p), .Y(q));\n";
+static NETLIST: &str = "module m (c, d, q);\ninput c, d; output q;\nINV u (.A(d), .Z(p), .Y(q));\n";
 
-const PIN: &str = "Z";
+static PIN: &str = "Z";
 
-const REFUSED: &str = "\
+static REFUSED: &str = "\
 dft: w.v:3:16: V5: a pin that the cell has not: Z
   INV u (.A(d), .Z(p), .Y(q));
                  ^
@@ -134,7 +134,7 @@ fn missing_pin<'a>(name: &'a [u8], column: u32, line: Option<&'a [u8]>) -> Endin
     })
 }
 
-const SCAN_OF_W: &str = "scan --netlist w.v --config b --out c --report d";
+static SCAN_OF_W: &str = "scan --netlist w.v --config b --out c --report d";
 
 #[test]
 fn a_refusal_shows_its_line(rt: HostRuntime) -> Result<(), Fail> {
@@ -144,7 +144,7 @@ fn a_refusal_shows_its_line(rt: HostRuntime) -> Result<(), Fail> {
     Ok(())
 }
 
-const UNKNOWN: &str = "\
+static UNKNOWN: &str = "\
 dft: w.v: H2: an instance of what is no cell of the library and no module of the text: MAJ3
 dft: try: add the cell to the library, map to its cells, or add the module to the text
 ";
@@ -171,6 +171,14 @@ fn a_refusal_without_a_place_shows_no_line(rt: HostRuntime) -> Result<(), Fail> 
     Ok(())
 }
 
+// How long a line of a text is.
+fn length_of(text: &[u8], line: u32) -> usize {
+    match line_at(text, line) {
+        Some(line) => line.len(),
+        None => 0,
+    }
+}
+
 #[test]
 fn a_long_line_is_shown_around_its_column(rt: HostRuntime) -> Result<(), Fail> {
     let mut line = Vec::new(rt.alloc());
@@ -180,10 +188,8 @@ fn a_long_line_is_shown_around_its_column(rt: HostRuntime) -> Result<(), Fail> {
         SCAN_OF_W,
         missing_pin(PIN.as_bytes(), 500_000, Some(&line)),
     )?;
-    let shown = line_at(page.as_slice(), 2);
-    assert_eq!(rt; shown.map(|shown| shown.len()), Some(102));
-    let caret = line_at(page.as_slice(), 3);
-    assert_eq!(rt; caret.map(|caret| caret.len()), Some(63));
+    assert_eq!(rt; length_of(page.as_slice(), 2), 102);
+    assert_eq!(rt; length_of(page.as_slice(), 3), 63);
     Ok(())
 }
 
@@ -220,19 +226,30 @@ fn no_byte_of_a_name_or_a_line_is_told_as_it_is(rt: HostRuntime) -> Result<(), F
     Ok(())
 }
 
+// How many lines a text has.
+pub(crate) fn lines_of(text: &[u8]) -> usize {
+    let mut lines = 0usize;
+    for byte in text {
+        if *byte == b'\n' {
+            lines = lines.wrapping_add(1);
+        }
+    }
+    lines
+}
+
+// How many lines are told of the pin at a column of the third line, which has 28 bytes: a column one past the end is the end's; behind
+// that the line is another than the one that was read.
+fn lines_told(alloc: Global, column: u32) -> Result<usize, AllocError> {
+    let line = line_at(NETLIST.as_bytes(), 3);
+    let page = told(alloc, SCAN_OF_W, missing_pin(PIN.as_bytes(), column, line))?;
+    Ok(lines_of(page.as_slice()))
+}
+
 #[test]
 fn a_line_is_shown_where_it_has_the_column(rt: HostRuntime) -> Result<(), Fail> {
-    // a column one past the end is the end's; behind that the line is another than the one that was read
+    assert_eq!(rt; length_of(NETLIST.as_bytes(), 3), 28);
     for (column, lines) in [(1u32, 4usize), (29, 4), (30, 2)] {
-        let line = line_at(NETLIST.as_bytes(), 3);
-        assert_eq!(rt; line.map(|line| line.len()), Some(28));
-        let page = told(
-            rt.alloc(),
-            SCAN_OF_W,
-            missing_pin(PIN.as_bytes(), column, line),
-        )?;
-        let ends = page.as_slice().iter().filter(|byte| **byte == b'\n');
-        assert_eq!(rt; ends.count(), lines, "{column}");
+        assert_eq!(rt; lines_told(rt.alloc(), column)?, lines, "{column}");
     }
     Ok(())
 }

@@ -16,8 +16,6 @@ mod libraries;
 #[cfg(test)]
 mod outside;
 #[cfg(test)]
-mod refusals;
-#[cfg(test)]
 mod registers;
 #[cfg(test)]
 mod rings;

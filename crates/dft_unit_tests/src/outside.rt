@@ -23,11 +23,16 @@ fn files_of(alloc: Global) -> Result<MemoryFiles, AllocError> {
 // A word for what a load of at most so many bytes gives.
 fn loaded<F: Files>(alloc: Global, files: &mut F, name: &str, limit: u32) -> &'static str {
     match files.load(alloc, name, limit) {
-        Ok(bytes) if bytes.is_empty() => "empty",
-        Ok(_) => "loaded",
-        Err(LoadError::TooLong) => "too long",
-        Err(LoadError::Failed) => "failed",
-        Err(LoadError::Memory(_)) => "no memory",
+        Ok(bytes) => if bytes.is_empty() { "empty" } else { "loaded" },
+        Err(error) => not_loaded(&error),
+    }
+}
+
+fn not_loaded(error: &LoadError) -> &'static str {
+    match error {
+        LoadError::TooLong => "too long",
+        LoadError::Failed => "failed",
+        LoadError::Memory(_) => "no memory",
     }
 }
 
