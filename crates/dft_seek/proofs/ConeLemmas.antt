@@ -13,7 +13,7 @@ use Rattle.dft_netlist.specs.Drivers.{Driver, Gate, Joined, Flop, Free, driver}
 use Rattle.dft_netlist.specs.Drivers as drivers
 use Rattle.dft_netlist.specs.Orders.{Has, numbers_of}
 use Rattle.dft_expect.specs.Captures.{output_bits}
-use Rattle.dft_logic.specs.Circuit.{flag_at}
+use Rattle.dft_logic.specs.Circuit.{IsCircuit, flag_at}
 use Rattle.dft_faults.specs.declared.fault.Fault.{Fault}
 use Rattle.dft_seek.specs.Searches.{Search, Point, Output, Response, cells_in, drivable_ports, points_of, takes_at}
 use Rattle.dft_seek.specs.Walks.{Cell, Port, Variable, IsReached, IsVariable, Walks, ends_of, is_among, shows, taken_nets, walked_from}
@@ -68,8 +68,8 @@ has_among k [] has = absurd has
 has_among k (x ∷ nets) (inl same) = ap (λ (b : Bool). b || is_among k nets) (eq-eqb x k (sym same))
 has_among k (x ∷ nets) (inr later) = among_right k (x ∷ []) nets (has_among k nets later)
 
-in_order : (r : Rig) (net : ℕ) → IsRig r → net < length r.design.now.nets → is_among net (numbers_of r.circuit.order) ≡ true
-in_order r net rig less = has_among net (numbers_of r.circuit.order) (rig.circuit.whole net (let e = rig.nets in omega (arith, less, e)))
+in_order : (r : Rig) (net : ℕ) → IsRig r → IsCircuit r.circuit → net < length r.design.now.nets → is_among net (numbers_of r.circuit.order) ≡ true
+in_order r net rig is less = has_among net (numbers_of r.circuit.order) (is.whole net (let e = rig.nets in omega (arith, less, e)))
 
 any_here : (marked : List Bool) (k : ℕ) (nets : List ℕ) → flag_at marked k ≡ true → is_among k nets ≡ true → list_any (flag_at marked) nets ≡ true
 any_here marked k [] up among = absurd (true≢false (sym among))
@@ -91,17 +91,17 @@ any_at marked (x ∷ nets) is = by (flag_at marked x) refl (any_at marked nets) 
 
 -- ---- the nets that are reached
 
-behind_whole : (r : Rig) (from k : ℕ) (start marked : List Bool) → IsRig r → length r.steps.items ≡ length r.design.now.nets → length start ≡ length r.design.now.nets → flag_at start from ≡ true →
+behind_whole : (r : Rig) (from k : ℕ) (start marked : List Bool) → IsRig r → IsCircuit r.circuit → length r.steps.items ≡ length r.design.now.nets → length start ≡ length r.design.now.nets → flag_at start from ≡ true →
     IsSpread (steps_at r.steps.items) (numbers_of r.circuit.order) start marked → Path (steps_at r.steps.items) from k → flag_at marked k ≡ true
-behind_whole r from k start marked rig table size up spread marks.Here = spread.kept from up
-behind_whole r from k start marked rig table size up spread (marks.Onward {by = by} path step) =
+behind_whole r from k start marked rig circuit table size up spread marks.Here = spread.kept from up
+behind_whole r from k start marked rig circuit table size up spread (marks.Onward {by = by} path step) =
     let less : k < length r.steps.items = step_live r by k step in
-    spread.closed k (in_order r k rig (omega (arith, less, table))) (omega (arith, less, table, size)) (any_here marked by (steps_at r.steps.items k) (behind_whole r from by start marked rig table size up spread path) step)
+    spread.closed k (in_order r k rig circuit (omega (arith, less, table))) (omega (arith, less, table, size)) (any_here marked by (steps_at r.steps.items k) (behind_whole r from by start marked rig circuit table size up spread path) step)
 
 -- where only one net is marked first
-pub behind_are : (r : Rig) (f : Fault) (from : ℕ) (none start marked : List Bool) (fresh : Bool) → IsRig r → length r.steps.items ≡ length r.design.now.nets → length none ≡ length r.design.now.nets → ((k : ℕ) → flag_at none k ≡ false) →
+pub behind_are : (r : Rig) (f : Fault) (from : ℕ) (none start marked : List Bool) (fresh : Bool) → IsRig r → IsCircuit r.circuit → length r.steps.items ≡ length r.design.now.nets → length none ≡ length r.design.now.nets → ((k : ℕ) → flag_at none k ≡ false) →
     from < length r.design.now.nets → Raises none start (from ∷ []) fresh → IsSpread (steps_at r.steps.items) (numbers_of r.circuit.order) start marked → AreBehind (search_in r f) from marked
-behind_are r f from none start marked fresh rig table size clear live raised spread =
+behind_are r f from none start marked fresh rig circuit table size clear live raised spread =
     let first : flag_at start from ≡ true = raised.done from (among_here from []) (omega (arith, live, size)) in
     let started : length start ≡ length r.design.now.nets = raised.grown.size ∙ size in
     record {
@@ -111,21 +111,21 @@ behind_are r f from none start marked fresh rig table size clear live raised spr
             | inl was ↦ absurd (true≢false (sym was ∙ clear is.from))
             | inr among ↦ subst (λ (k : ℕ). Walks (search_in r f) k net) (among_one is.from from among) (walk_of r f is.from net rig is.path)
           ]);
-      whole = λ net walk. behind_whole r from net start marked rig table started first spread (path_of r f from net rig walk);
+      whole = λ net walk. behind_whole r from net start marked rig circuit table started first spread (path_of r f from net rig walk);
     }
 
 -- ---- the nets that lead to some
 
-before_whole : (r : Rig) (net to : ℕ) (start marked : List Bool) → IsRig r → length r.steps.items ≡ length r.design.now.nets → length start ≡ length r.design.now.nets →
+before_whole : (r : Rig) (net to : ℕ) (start marked : List Bool) → IsRig r → IsCircuit r.circuit → length r.steps.items ≡ length r.design.now.nets → length start ≡ length r.design.now.nets →
     IsDrawn (steps_at r.steps.items) (numbers_of r.circuit.order) start marked → (to < length r.design.now.nets → flag_at marked to ≡ true) → Path (steps_at r.steps.items) net to → net < length r.design.now.nets → flag_at marked net ≡ true
-before_whole r net to start marked rig table size drawn up marks.Here live = up live
-before_whole r net to start marked rig table size drawn up (marks.Onward {by = by} path step) live =
+before_whole r net to start marked rig circuit table size drawn up marks.Here live = up live
+before_whole r net to start marked rig circuit table size drawn up (marks.Onward {by = by} path step) live =
     let less : to < length r.design.now.nets = (let l = step_live r by to step in omega (arith, l, table)) in
-    before_whole r net by start marked rig table size drawn (λ here. drawn.closed to (in_order r to rig less) (up less) by step (omega (arith, here, size))) path live
+    before_whole r net by start marked rig circuit table size drawn (λ here. drawn.closed to (in_order r to rig circuit less) (up less) by step (omega (arith, here, size))) path live
 
-pub before_are : (r : Rig) (f : Fault) (ends : List ℕ) (none start marked : List Bool) (fresh : Bool) → IsRig r → length r.steps.items ≡ length r.design.now.nets → length none ≡ length r.design.now.nets → ((k : ℕ) → flag_at none k ≡ false) →
+pub before_are : (r : Rig) (f : Fault) (ends : List ℕ) (none start marked : List Bool) (fresh : Bool) → IsRig r → IsCircuit r.circuit → length r.steps.items ≡ length r.design.now.nets → length none ≡ length r.design.now.nets → ((k : ℕ) → flag_at none k ≡ false) →
     Raises none start ends fresh → IsDrawn (steps_at r.steps.items) (numbers_of r.circuit.order) start marked → AreBefore (search_in r f) ends marked
-before_are r f ends none start marked fresh rig table size clear raised drawn =
+before_are r f ends none start marked fresh rig circuit table size clear raised drawn =
     let started : length start ≡ length r.design.now.nets = raised.grown.size ∙ size in
     record {
       size = drawn.size ∙ started;
@@ -134,7 +134,7 @@ before_are r f ends none start marked fresh rig table size clear raised drawn =
             | inl was ↦ absurd (true≢false (sym was ∙ clear is.to))
             | inr among ↦ record { to = is.to; among = among; walk = walk_of r f net is.to rig is.path }
           ]);
-      whole = λ net live leads. before_whole r net leads.to start marked rig table started drawn (λ here. drawn.kept leads.to (raised.done leads.to leads.among (omega (arith, here, size)))) (path_of r f net leads.to rig leads.walk) live;
+      whole = λ net live leads. before_whole r net leads.to start marked rig circuit table started drawn (λ here. drawn.kept leads.to (raised.done leads.to leads.among (omega (arith, here, size)))) (path_of r f net leads.to rig leads.walk) live;
     }
 
 -- ---- lists that are chosen from

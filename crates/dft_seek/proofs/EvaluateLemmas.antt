@@ -11,7 +11,7 @@ use Rattle.dft_netlist.specs.Orders.{Has}
 use Rattle.dft_netlist.specs.Settled.{TriSources, inverse, value_given}
 use Rattle.dft_logic.specs.declared.circuit.Op.{Op}
 use Rattle.dft_logic.specs.declared.circuit.Op.TheVariants as op
-use Rattle.dft_logic.specs.Circuit.{Circuit, flag_at, meaning, op_at}
+use Rattle.dft_logic.specs.Circuit.{Circuit, IsCircuit, flag_at, meaning, op_at}
 use Rattle.dft_logic.specs.Tables.{list_at}
 use Rattle.dft_logic.specs.Values.{value_at}
 use Rattle.dft_sweep.specs.declared.field.Stuck.{Stuck}
@@ -27,10 +27,10 @@ use Rattle.dft_seek.specs.declared.rig.Rig.{Rig}
 -- ---- a table
 
 -- a net that is not marked is a source, or has the value that it has from other sources
-pub near_other : (r : Rig) (needed : List Bool) (stuck : Option Stuck) (t : Table) (other : TriSources) (k : ℕ) → IsRig r → IsNear r needed stuck t → flag_at t.marks.marked.items k ≡ false →
+pub near_other : (r : Rig) (needed : List Bool) (stuck : Option Stuck) (t : Table) (other : TriSources) (k : ℕ) → IsCircuit r.circuit → IsNear r needed stuck t → flag_at t.marks.marked.items k ≡ false →
     Has (list_at r.circuit.sources 0) k ⊎ IsGivenIf needed (means_of r.circuit stuck) other t.values.items k
-near_other r needed stuck t other k rig near down =
-    elim (given_any r.circuit (bit_at stuck k) near.sources other k (value_at t.values.items) (meaning (op_at r.circuit.ops k)) rig.circuit refl) [
+near_other r needed stuck t other k circuit near down =
+    elim (given_any r.circuit (bit_at stuck k) near.sources other k (value_at t.values.items) (meaning (op_at r.circuit.ops k)) circuit refl) [
       | inl own ↦ inl own
       | inr same ↦ inr (λ needs. near.given k down needs ∙ same)
     ]

@@ -11,7 +11,7 @@ use Rattle.dft_netlist.specs.Orders.{AreOnce, numbers_of}
 use Rattle.dft_netlist.specs.Settled.{TriSources}
 use Rattle.dft_rules.specs.ConfigPorts.{config_ports}
 use Rattle.dft_expect.specs.Captures.{output_bits}
-use Rattle.dft_logic.specs.Circuit.{Circuit, IsCircuit, flag_at, meaning, op_at}
+use Rattle.dft_logic.specs.Circuit.{Circuit, flag_at, meaning, op_at}
 use Rattle.dft_logic.specs.Tables.{IsTable}
 use Rattle.dft_sweep.specs.declared.field.Stuck.{Stuck}
 use Rattle.dft_sweep.specs.Places.{ArePlaces}
@@ -88,7 +88,6 @@ pub record IsRig (r : Rig) : Type 0 where
   pub rank : ℕ → ℕ
   pub ordered : IsOrdered r.design.now rank
   pub library : IsWellFormed r.design.now.library
-  pub circuit : IsCircuit r.circuit
   pub places : ArePlaces r.circuit r.places.items
   pub nets : length r.circuit.ops ≡ length r.design.now.nets
   pub means : (k : ℕ) → held_meaning (flag_at r.holds.items) (meaning (op_at r.circuit.ops k)) ≡ meaning_in (moving_of (search_of r)) k (driver r.design.now k)

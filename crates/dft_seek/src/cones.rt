@@ -3,7 +3,7 @@
 ghost use Rattle.std.specs.Prelude.{◌≡◌, ◌++◌, ◌||◌, ◌&&◌, ℕ, ◌<◌, false, length, filter, flat_map, IfOk, OnOk};
 ghost use Rattle.std.specs.List.{list_any};
 ghost use Rattle.dft_netlist.specs.Orders.{numbers_of};
-ghost use Rattle.dft_logic.specs.Circuit.{flag_at as is_up};
+ghost use Rattle.dft_logic.specs.Circuit.{IsCircuit, flag_at as is_up};
 ghost use Rattle.dft_faults.specs.declared.fault.Fault.{Fault as FaultOf};
 ghost use Rattle.dft_seek.specs.Cones as spec;
 ghost use Rattle.dft_seek.specs.Pins.{pins_at, taken_by};
@@ -166,11 +166,13 @@ fn flagged(
 impl Rig<'_> {
     // What walks go along.
     fn paths(&self) -> Paths<'_>
+        ensures circuit { IsCircuit self.now.circuit }
         ensures order { result.order.now ≡ self.now.circuit.order }
         ensures steps { result.steps.now ≡ self.now.steps.items }
     {
+        let circuit = &self.circuit;
         Paths {
-            order: &self.circuit.order,
+            order: &circuit.order,
             steps: &self.steps,
         }
     }
@@ -193,7 +195,8 @@ impl Rig<'_> {
         requires live { net.0 < length self.now.design.now.nets }
         ensures { IfOk result (λ marked. (f : FaultOf) → spec.AreBehind (search_in self.now f) net.0 marked.items) }
     {
-        let mut marked = lowered(alloc, self.circuit.ops.len())?;
+        let circuit = &self.circuit;
+        let mut marked = lowered(alloc, circuit.ops.len())?;
         self.mark_behind(net, &mut marked);
         Ok(marked)
     }
@@ -220,7 +223,8 @@ impl Rig<'_> {
         requires rig { IsRig self.now }
         ensures { IfOk result (λ marked. (f : FaultOf) → spec.AreBefore (search_in self.now f) (numbers_of outputs.now ++ numbers_of pins.now) marked.items) }
     {
-        let mut marked = lowered(alloc, self.circuit.ops.len())?;
+        let circuit = &self.circuit;
+        let mut marked = lowered(alloc, circuit.ops.len())?;
         self.mark_before(outputs, pins, &mut marked);
         Ok(marked)
     }

@@ -316,7 +316,8 @@ impl Rig<'_> {
         ensures table { IsSettled self.now cone.now.needed.items stuck table.new }
         ensures given { AreSettledFor self.now cone.now.needed.items stuck (values_of.value_at ports.now) (values_of.value_at cells.now) table.new.values.items }
     {
-        let nets = list_of(&self.circuit.sources, NetId(0));
+        let circuit = &self.circuit;
+        let nets = list_of(&circuit.sources, NetId(0));
         self.settle_nets(cone, stuck, nets, ports, cells, table);
     }
 }

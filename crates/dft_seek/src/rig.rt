@@ -1,7 +1,6 @@
 //! A planned design made ready for searches.
 
 ghost use Rattle.std.specs.Prelude.{◌≡◌, true, length, replicate, IfOk};
-ghost use Rattle.dft_logic.specs.Circuit.{IsCircuit};
 ghost use Rattle.dft_sweep.specs.Places.{AreBusy, ArePlaces};
 ghost use Rattle.dft_seek.specs.Rigs.{IsBase, IsRig};
 
@@ -57,7 +56,6 @@ fn settle_base(
     values: &mut [Tri],
     marks: &mut Marks,
 )
-    requires circuit { IsCircuit circuit.now }
     requires places { ArePlaces circuit.now places.now }
     requires values { length values.old ≡ length circuit.now.ops }
     requires marked { marks.old.marked.items ≡ replicate (length circuit.now.ops) true }
@@ -87,7 +85,6 @@ fn base(
     resets: &[bool],
     holds: &[bool],
 ) -> Result<Vec<Tri>, AllocError>
-    requires circuit { IsCircuit circuit.now }
     requires places { ArePlaces circuit.now places.now }
     ensures { IfOk result (λ values. IsBase circuit.now resets.now holds.now values.items) }
 {

@@ -6,7 +6,7 @@ use Rattle.dft_netlist.specs.Netlist.{Netlist}
 use Rattle.dft_config.specs.Config.{Config}
 use Rattle.dft_rules.specs.ConfigPorts.{config_ports}
 use Rattle.dft_expect.specs.Captures.{output_bits}
-use Rattle.dft_logic.specs.Circuit.{flag_at, meaning, op_at}
+use Rattle.dft_logic.specs.Circuit.{Circuit, flag_at, meaning, op_at}
 use Rattle.dft_seek.specs.Prepared.{search_for}
 use Rattle.dft_seek.specs.Searches.{Search, input_bits}
 use Rattle.dft_seek.specs.SoughtFaults.{is_named}
@@ -26,7 +26,8 @@ returns c =
     let of_resets : (k : ℕ) → flag_at resets k ≡ (config_ports n config).is_reset k = λ k.
     c.in_ok-resets.ensures.each k ∙ (λ t. is_named (same t) ((c.resets.ensures ∙ ap (λ (g : Config). g.resets) c.config.ensures) t) k) in
     let inputs = c.in_ok-inputs.ensures ∙ ap input_bits (c.ports-2.ensures.ports ∙ ap (λ (m : Netlist). m.ports) same) in
-    let found = c.in_ok-ports.ensures ∙ (λ t. filter (λ (net : NetId). is_input_of (meaning (op_at (c.deref.ensures.value t) net.0)) && not (flag_at (c.deref-3.ensures.value t) net.0)) (c.deref-2.ensures.value t)) in
+    let read = c.deref.ensures.value ∙ ap (λ (m : Circuit). m.ops) c.circuit.view_is in
+    let found = c.in_ok-ports.ensures ∙ (λ t. filter (λ (net : NetId). is_input_of (meaning (op_at (read t) net.0)) && not (flag_at (c.deref-3.ensures.value t) net.0)) (c.deref-2.ensures.value t)) in
     record {
       resets = of_resets;
       outputs = c.in_ok-outputs.ensures ∙ ap output_bits (c.ports.ensures.ports ∙ ap (λ (m : Netlist). m.ports) same);

@@ -6,7 +6,7 @@ use Rattle.dft_netlist.specs.Drivers.{driver}
 use Rattle.dft_netlist.specs.Sound.{IsNetlist}
 use Rattle.dft_config.specs.Config.{Config}
 use Rattle.dft_logic.specs.declared.circuit.Op.{Op}
-use Rattle.dft_logic.specs.Circuit.{flag_at, op_at}
+use Rattle.dft_logic.specs.Circuit.{Circuit, flag_at, op_at}
 use Rattle.dft_seek.specs.Pins.{ArePins}
 use Rattle.dft_seek.specs.Prepared.{search_for}
 use Rattle.dft_seek.specs.Rigs.{shows_at}
@@ -19,7 +19,7 @@ use Rattle.dft_seek.proofs.preparing.find_ways.Goals as goal
 pub steps-requires : goal.steps-requires
 steps-requires c =
     let shows = ap (λ (l : List (Option InstanceId)). length l) c.deref-3.ensures.value ∙ c.in_ok-shows.ensures.size ∙ ap (λ (m : Netlist). length m.nets) c.design-design.ensures in
-    let ops = ap (λ (l : List Op). length l) c.deref-2.ensures.value ∙ c.requires.circuit.circuit.nets in
+    let ops = ap (λ (l : List Op). length l) c.deref-2.ensures.value ∙ ap (λ (m : Circuit). length m.ops) c.circuit.view_is ∙ c.requires.circuit.circuit.nets in
     shows ∙ sym ops
 
 pub returns : goal.returns
@@ -39,12 +39,13 @@ returns c =
     let size : length list ≡ length n.nets = c.in_ok-shows.ensures.size ∙ ap (λ (m : Netlist). length m.nets) same in
     let each = subst (λ (m : Netlist). (net k : ℕ) → net < length m.nets → shows_at list net k ≡ is_output_of k (driver m net)) same c.in_ok-shows.ensures.each in
     let shows = shows_all n list sound size each in
-    let ops = ap (λ (l : List Op). length l) c.deref-2.ensures.value in
+    let read = c.deref-2.ensures.value ∙ ap (λ (m : Circuit). m.ops) c.circuit.view_is in
+    let ops = ap (λ (l : List Op). length l) read in
     record {
       pins = pins;
       shows = shows;
       shown = size;
       table = c.in_ok-steps.ensures.size ∙ ops ∙ compiled.circuit.nets;
       steps = steps_all s compiled.clocks x list c.in_ok-pins.pins.items passed c.in_ok-steps.steps.items sound compiled.circuit pins of_passed shows (c.in_ok-steps.ensures.size ∙ ops)
-          (λ k less. c.in_ok-steps.ensures.each k (omega (arith, less, ops)) ∙ (λ t. op_steps (op_at (c.deref-2.ensures.value t) k) (shown_at (c.deref-3.ensures.value t) k) (c.deref-4.ensures.value t) (c.deref-5.ensures.value t)));
+          (λ k less. c.in_ok-steps.ensures.each k (omega (arith, less, ops)) ∙ (λ t. op_steps (op_at (read t) k) (shown_at (c.deref-3.ensures.value t) k) (c.deref-4.ensures.value t) (c.deref-5.ensures.value t)));
     }

@@ -19,11 +19,8 @@ use Rattle.dft_seek.proofs.OnceLemmas.{once_cells, once_ports}
 use Rattle.dft_seek.proofs.PreparedLemmas.{can_by, means_are}
 use Rattle.dft_seek.proofs.rig.prepared.Goals as goal
 
-pub places-requires-clause-circuit : goal.places-requires-clause-circuit
-places-requires-clause-circuit c = c.in_ok-circuit.ensures.circuit.circuit
-
-pub places-requires-clause-few : goal.places-requires-clause-few
-places-requires-clause-few c =
+pub places-requires : goal.places-requires
+places-requires c =
     let same = ap (λ (n : Netlist). length n.nets) c.design-design.ensures in
     let size = c.in_ok-circuit.ensures.circuit.nets in
     let few = c.soundness-2.ensures.netlist.few_nets in
@@ -34,14 +31,11 @@ showing-requires c =
     let same = ap (λ (n : Netlist). length n.nets) c.design-design.ensures in
     let size = c.in_ok-circuit.ensures.circuit.nets in
     let few = c.soundness-2.ensures.netlist.few_nets in
-    let lent = ap (λ (l : List Op). length l) c.deref-4.ensures.value in
+    let lent = ap (λ (l : List Op). length l) c.deref-4.ensures.value ∙ ap (λ (m : Circuit). length m.ops) c.circuit.view_is in
     omega (arith, same, size, few, lent)
 
-pub base-requires-clause-circuit : goal.base-requires-clause-circuit
-base-requires-clause-circuit c = c.in_ok-circuit.ensures.circuit.circuit
-
-pub base-requires-clause-places : goal.base-requires-clause-places
-base-requires-clause-places c = subst (λ (l : List ℕ). ArePlaces c.in_ok-circuit.circuit l) (sym c.deref.ensures.value) c.in_ok-places.ensures
+pub base-requires : goal.base-requires
+base-requires c = record { places = subst (λ (l : List ℕ). ArePlaces c.in_ok-circuit.circuit l) (sym c.deref.ensures.value) c.in_ok-places.ensures }
 
 pub returns-clause-rig : goal.returns-clause-rig
 returns-clause-rig c =
@@ -64,7 +58,6 @@ returns-clause-rig c =
       rank = ranked.0;
       ordered = ranked.1;
       library = c.soundness-2.ensures.library;
-      circuit = compiled.circuit.circuit;
       places = c.in_ok-places.ensures;
       nets = compiled.circuit.nets;
       means = means_are s compiled.clocks c.in_ok-moves.moves.holds.items x can compiled.circuit compiled.same moves.holds;
@@ -72,7 +65,7 @@ returns-clause-rig c =
       shows = ways.shows;
       shown = ways.shown;
       showing = subst (λ (m : ℕ). IsTable m (length x.ops) (λ net. cells_shown (meaning (op_at x.ops net))) c.in_ok-showing.showing.items) (c.len.ensures ∙ c.in_ok-moves.moves.holds.ok.0 ∙ moves.instances)
-          (subst (λ (l : List Op). IsTable c.len.result (length l) (λ net. cells_shown (meaning (op_at l net))) c.in_ok-showing.showing.items) c.deref-4.ensures.value c.in_ok-showing.ensures);
+          (subst (λ (l : List Op). IsTable c.len.result (length l) (λ net. cells_shown (meaning (op_at l net))) c.in_ok-showing.showing.items) (c.deref-4.ensures.value ∙ ap (λ (m : Circuit). m.ops) c.circuit.view_is) c.in_ok-showing.ensures);
       table = ways.table;
       steps = ways.steps;
       few = (let few = can.netlist.few_instances in omega (arith, few));

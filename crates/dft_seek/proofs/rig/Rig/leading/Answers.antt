@@ -2,7 +2,7 @@
 use Rattle.std.proofs.Common.{List, Bool, false, ◌++◌, ◌∙◌, sym, ap, subst, length}
 use Rattle.std.proofs.lemmas.List.{length-replicate}
 use Rattle.dft_netlist.specs.Orders.{numbers_of}
-use Rattle.dft_logic.specs.Circuit.{flag_at}
+use Rattle.dft_logic.specs.Circuit.{Circuit, flag_at}
 use Rattle.dft_seek.specs.Cones.{AreBefore}
 use Rattle.dft_seek.specs.Rigs.{search_in}
 use Rattle.dft_seek.proofs.EvaluateLemmas.{none_up}
@@ -11,7 +11,7 @@ use Rattle.dft_seek.proofs.rig.Rig.leading.Goals as goal
 
 pub mark_before-requires-clause-size : goal.mark_before-requires-clause-size
 mark_before-requires-clause-size c =
-    ap (λ (l : List Bool). length l) (c.deref_mut.ensures.value ∙ c.in_ok-marked.ensures) ∙ length-replicate c.len.result false ∙ c.len.ensures ∙ c.args.self.now.circuit.ops.ok.0 ∙ c.requires.rig.nets
+    ap (λ (l : List Bool). length l) (c.deref_mut.ensures.value ∙ c.in_ok-marked.ensures) ∙ length-replicate c.len.result false ∙ c.len.ensures ∙ c.circuit.inside.ops.ok.0 ∙ ap (λ (m : Circuit). length m.ops) c.circuit.view_is ∙ c.requires.rig.nets
 
 pub mark_before-requires-clause-clear : goal.mark_before-requires-clause-clear
 mark_before-requires-clause-clear c = λ k. ap (λ (l : List Bool). flag_at l k) (c.deref_mut.ensures.value ∙ c.in_ok-marked.ensures) ∙ none_up c.len.result k

@@ -16,4 +16,4 @@ returns c = λ f.
     let drawn = subst (λ (order : List NetId). IsDrawn (steps_at r.steps.items) (numbers_of order) last c.draw_all.new.marked) c.paths.ensures.order
     (subst (λ (steps : List (List NetId)). IsDrawn (steps_at steps) (numbers_of c.paths.result.order.now) last c.draw_all.new.marked) c.paths.ensures.steps c.draw_all.ensures) in
     let raised = raises_join c.args.marked.now c.raise_all.new.marked last outs pins c.raise_all.result c.raise_all-2.result c.raise_all.ensures c.raise_all-2.ensures in
-    before_are r f (outs ++ pins) c.args.marked.now last c.draw_all.new.marked (c.raise_all.result || c.raise_all-2.result) c.requires.rig c.requires.rig.table c.requires.size c.requires.clear raised drawn)
+    before_are r f (outs ++ pins) c.args.marked.now last c.draw_all.new.marked (c.raise_all.result || c.raise_all-2.result) c.requires.rig c.paths.ensures.circuit c.requires.rig.table c.requires.size c.requires.clear raised drawn)

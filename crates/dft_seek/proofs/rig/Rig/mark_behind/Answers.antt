@@ -11,4 +11,4 @@ returns c = λ f.
     (let r = c.args.self.now in
     let spread = subst (λ (order : List NetId). IsSpread (steps_at r.steps.items) (numbers_of order) c.raise_all.new.marked c.spread_all.new.marked) c.paths.ensures.order
     (subst (λ (steps : List (List NetId)). IsSpread (steps_at steps) (numbers_of c.paths.result.order.now) c.raise_all.new.marked c.spread_all.new.marked) c.paths.ensures.steps c.spread_all.ensures) in
-    behind_are r f c.args.net.0 c.args.marked.now c.raise_all.new.marked c.spread_all.new.marked c.raise_all.result c.requires.rig c.requires.rig.table c.requires.size c.requires.clear c.requires.live c.raise_all.ensures spread)
+    behind_are r f c.args.net.0 c.args.marked.now c.raise_all.new.marked c.spread_all.new.marked c.raise_all.result c.requires.rig c.paths.ensures.circuit c.requires.rig.table c.requires.size c.requires.clear c.requires.live c.raise_all.ensures spread)

@@ -1,7 +1,7 @@
 -- None is marked first.
 use Rattle.std.proofs.Common.{List, Bool, false, ◌∙◌, sym, ap, subst, length}
 use Rattle.std.proofs.lemmas.List.{length-replicate}
-use Rattle.dft_logic.specs.Circuit.{flag_at}
+use Rattle.dft_logic.specs.Circuit.{Circuit, flag_at}
 use Rattle.dft_seek.specs.Cones.{AreBehind}
 use Rattle.dft_seek.specs.Rigs.{search_in}
 use Rattle.dft_seek.proofs.EvaluateLemmas.{none_up}
@@ -10,7 +10,7 @@ use Rattle.dft_seek.proofs.rig.Rig.reached.Goals as goal
 
 pub mark_behind-requires-clause-size : goal.mark_behind-requires-clause-size
 mark_behind-requires-clause-size c =
-    ap (λ (l : List Bool). length l) (c.deref_mut.ensures.value ∙ c.in_ok-marked.ensures) ∙ length-replicate c.len.result false ∙ c.len.ensures ∙ c.args.self.now.circuit.ops.ok.0 ∙ c.requires.rig.nets
+    ap (λ (l : List Bool). length l) (c.deref_mut.ensures.value ∙ c.in_ok-marked.ensures) ∙ length-replicate c.len.result false ∙ c.len.ensures ∙ c.circuit.inside.ops.ok.0 ∙ ap (λ (m : Circuit). length m.ops) c.circuit.view_is ∙ c.requires.rig.nets
 
 pub mark_behind-requires-clause-clear : goal.mark_behind-requires-clause-clear
 mark_behind-requires-clause-clear c = λ k. ap (λ (l : List Bool). flag_at l k) (c.deref_mut.ensures.value ∙ c.in_ok-marked.ensures) ∙ none_up c.len.result k
