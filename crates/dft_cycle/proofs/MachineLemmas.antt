@@ -1,5 +1,5 @@
 -- What the machine's calls do, from what they do to its lists.
-use Rattle.std.proofs.Common.{ℕ, zero, suc, Bool, not, true, false, List, [], ◌∷◌, ◌≡◌, ◌<◌, ◌≤◌, ◌+◌, ◌==◌, ◌||◌, ◌&&◌, inl, inr, Option, None, Some, is_none, length, map, drop, drop-cons, add-one, ◌≢◌, refl, sym, ap, ◌∙◌, subst, get_or, slice_set, get_or-set_same, get_or-set_other, arith}
+use Rattle.std.proofs.Common.{ℕ, zero, suc, Bool, not, true, false, List, [], ◌∷◌, ◌≡◌, ◌<◌, ◌≤◌, ◌+◌, ◌==◌, ◌||◌, ◌&&◌, inl, inr, Option, None, Some, is_none, length, map, drop, drop-cons, add-one, ◌≢◌, refl, sym, ap, ◌∙◌, subst, get_or, slice_set, get_or-set_same, get_or-set_other, arith, ◌⊎◌, slice_get}
 use Rattle.std.specs.Prelude.{if◌then◌else◌, replicate, slice_index_or}
 use Rattle.std.specs.List.{list_any}
 use Rattle.std.proofs.lemmas.Bool.Decides.{leb_tells, eqb_tells}
@@ -18,7 +18,7 @@ use Rattle.dft_logic.specs.declared.circuit.FlipFlop.{FlipFlop}
 use Rattle.dft_abstract.specs.Cycle.{Pulse, Half, tri_forced_by, tri_taken_by, next_value, falls_after, changes, AreViews, after_pulse, IsLeast}
 use Rattle.dft_cycle.specs.Machine.{Machine, value_at, is_one_of, ports_of, logic, acted, IsSet, at_strobe, IsStrobed, pulses, phase_from, pulse_from, IsPhase, IsPulsed}
 use Rattle.dft_logic.specs.Circuit.{Circuit, IsReady, logic_at, cell_of, cell_at, flag_at, base_of, leaves_from, IsCircuit}
-use Rattle.dft_cycle.specs.Views.{rank_of, Among, AreNext}
+use Rattle.dft_cycle.specs.Views.{Rises, rank_of, Among, AreNext}
 use Rattle.std.proofs.lemmas.Option.{slice_get-get_or}
 use Rattle.dft_registers.specs.declared.moves.Move.{Move}
 use Rattle.dft_registers.specs.Cells.{Contents, course}
@@ -171,11 +171,11 @@ phase_done m after x rising pulsed p poss next is compiled n k i s edge ports up
       past u v w false e f g = e ∙ sym g
 
 -- where every cell takes its bit at a rise nothing changes in the falls
-pub phase_rests : (m : Machine) (x : Circuit) (pulsed : List Bool) → IsCircuit x → logic m ≡ logic_at x → IsRising (logic_at x) → IsPhase (logic m) m false pulsed m
-phase_rests m x pulsed is compiled rises =
+pub phase_rests : (m : Machine) (x : Circuit) (pulsed : List Bool) → IsCircuit x → logic m ≡ logic_at x → ((c : ℕ) → changes (logic_at x) (phase_from m false pulsed) c ≡ false) → IsPhase (logic m) m false pulsed m
+phase_rests m x pulsed is compiled still =
     let l : Logic = logic_at x in
     let q : Pulse = phase_from m false pulsed in
-    let none = none_changes l (rank_of x) q (circuit_ranked x is) (λ c. falls_rest l q c (rises c) refl) in
+    let none = none_changes l (rank_of x) q (circuit_ranked x is) still in
     let r : HasHalf (logic m) q (value_at m.cells) =
     half_of m x false pulsed q (value_at m.cells) compiled refl (record { half = record { poss = q.old; view = none.0 }; least = none.1.0; cells = λ c. sym (none.1.1 c) }) in
     record { netlist = refl; clocks = refl; inputs = refl; shown = refl; half = r.half; least = r.least; cells = r.cells }
@@ -270,6 +270,56 @@ mark_down clocks pulsed flags j e all a b up before =
     let at : ℕ = (get_or clocks j (record { 0 = 0 })).0 in
     down (flag_at flags e) (pulses (drop (j + 1) clocks) (drop (j + 1) pulsed) e) (get_or pulsed j false) (at == e) up
     ∙ sym (ap (λ (x : Bool). flag_at flags e || x) (pulses_front clocks pulsed j e a b)) ∙ before
+
+-- a clock that pulses is a net
+pub pulses_live : (clocks : List NetId) (pulsed : List Bool) (e count : ℕ) → ((place : ℕ) (clock : NetId) → slice_get clocks place ≡ Some clock → clock.0 < count) → pulses clocks pulsed e ≡ true → e < count
+pulses_live clocks pulsed e count live up =
+    let among = pulses_among clocks pulsed e up in
+    subst (λ (n : ℕ). n < count) among.here (live among.place _ (slice_get-get_or clocks among.place (record { 0 = 0 }) among.before))
+
+-- what holds of each domain that pulses
+pub pulses_step : (P : ℕ → Type 0) (clocks : List NetId) (pulsed : List Bool) (j e : ℕ) → j < length clocks → j < length pulsed → (get_or pulsed j false ≡ true → P (get_or clocks j (record { 0 = 0 })).0) →
+    P e ⊎ (pulses (drop j clocks) (drop j pulsed) e ≡ true) → P e ⊎ (pulses (drop (j + 1) clocks) (drop (j + 1) pulsed) e ≡ true)
+pulses_step P clocks pulsed j e a b here (inl found) = inl found
+pulses_step P clocks pulsed j e a b here (inr up) =
+    let at : ℕ = (get_or clocks j (record { 0 = 0 })).0 in
+    let rest : Bool = pulses (drop (j + 1) clocks) (drop (j + 1) pulsed) e in
+    let whole : ((get_or pulsed j false && (at == e)) || rest) ≡ true = sym (pulses_front clocks pulsed j e a b) ∙ up in
+    elim (eqb_tells at e) [
+      | inl q ↦ elim (hit (get_or pulsed j false) (at == e) rest q.0 whole) [
+        | inl first ↦ inl (subst P q.1 (here first))
+        | inr later ↦ inr later
+      ]
+      | inr q ↦ inr (miss (get_or pulsed j false) (at == e) rest q.0 whole)
+    ] where
+  hit : (b t r : Bool) → t ≡ true → ((b && t) || r) ≡ true → (b ≡ true) ⊎ (r ≡ true)
+  hit true true r h u = inl refl
+  hit false true r h u = inr u
+  hit true false r h u = absurd cc
+  hit false false r h u = absurd cc
+  miss : (b t r : Bool) → t ≡ false → ((b && t) || r) ≡ true → r ≡ true
+  miss true false r h u = u
+  miss false false r h u = u
+  miss true true r h u = absurd cc
+  miss false true r h u = absurd cc
+
+pub pulses_over : (P : ℕ → Type 0) (clocks : List NetId) (pulsed : List Bool) (j e : ℕ) → length pulsed ≤ j → P e ⊎ (pulses (drop j clocks) (drop j pulsed) e ≡ true) → P e
+pulses_over P clocks pulsed j e past (inl found) = found
+pulses_over P clocks pulsed j e past (inr up) = (let q = ap (λ (l : List Bool). pulses (drop j clocks) l e) (drop_all j pulsed past) in let n = no_flags (drop j clocks) e in absurd (cc)) where
+  no_flags : (clocks : List NetId) (e : ℕ) → pulses clocks [] e ≡ false
+  no_flags [] e = refl
+  no_flags (clock ∷ clocks) e = refl
+
+-- where the cells of all domains that pulse take their bits at rises, none changes in the falls
+pub domains_rest : (x : Circuit) (p : Pulse) → IsCircuit x → p.rising ≡ false → ((e : ℕ) → p.pulsed e ≡ true → e < length x.ops) → ((e : ℕ) → p.pulsed e ≡ true → Rises x e) → (c : ℕ) → changes (logic_at x) p c ≡ false
+unfolding logic_at
+domains_rest x p is down live rise c = by (p.pulsed (cell_at (map cell_of x.flops) c).domain) refl where
+  by : (b : Bool) → p.pulsed (cell_at (map cell_of x.flops) c).domain ≡ b → changes (logic_at x) p c ≡ false
+  by false e = ap (λ (b : Bool). b && takes p.rising (cell_at (map cell_of x.flops) c).falling) e
+  by true e = falls_rest (logic_at x) p c (elim (leb_tells (length x.flops) c) [
+    | inl out ↦ ap (λ (cell : Cell). cell.falling) (cell_past x.flops c out.1)
+    | inr less ↦ rise (cell_at (map cell_of x.flops) c).domain e c (is.tables.cells.each (cell_at (map cell_of x.flops) c).domain c less.1 (live (cell_at (map cell_of x.flops) c).domain e) (inl refl))
+  ]) down
 
 -- ---- the start
 

@@ -1,5 +1,5 @@
 -- How the views of a pulse are found: lock-ups by rounds, then next values.
-use Rattle.std.specs.Prelude.{ℕ, Bool, true, false, ◌≡◌, ◌<◌, ◌==◌, List, Option, None, Some, length, slice_index_or, if◌then◌else◌}
+use Rattle.std.specs.Prelude.{map, ℕ, Bool, true, false, ◌≡◌, ◌<◌, ◌==◌, List, Option, None, Some, length, slice_index_or, if◌then◌else◌}
 use Rattle.dft_base.specs.declared.tri.Tri.{Tri}
 use Rattle.dft_base.specs.declared.tri.Tri.TheVariants.{Zero, One, Unknown}
 use Rattle.dft_base.specs.Tri.{join, AboveTri}
@@ -13,7 +13,9 @@ use Rattle.dft_abstract.specs.Cycle as Cycle
 use Rattle.dft_logic.specs.Values.{value_at}
 pub use Rattle.dft_logic.specs.Ranks.{rank_from, rank_of}
 pub use Rattle.dft_logic.specs.Circuit.{taken_at, next_at}
-use Rattle.dft_logic.specs.Circuit.{Circuit, logic_at, latch_at, flag_at}
+use Rattle.dft_logic.specs.Tables.{list_at}
+use Rattle.dft_netlist.specs.Orders.{Has}
+use Rattle.dft_logic.specs.Circuit.{Circuit, cell_of, cell_at, logic_at, latch_at, flag_at}
 
 -- ---- a flip-flop and a lock-up, from the values of a view
 
@@ -77,6 +79,10 @@ pub record IsSearch (x : Circuit) (search : Search) : Type 0 where
   pub poss : length search.poss.items ≡ length x.flops
   pub held : length search.held.items ≡ length x.flops
   pub next : length search.next.items ≡ length x.flops
+
+-- each cell of the domain takes its bit at a rise
+abbrev pub Rises : Circuit → (domain : ℕ) → Type 0
+Rises x e = (c : ℕ) → Has (list_at x.cells e) c → (cell_at (map cell_of x.flops) c).falling ≡ false
 
 -- one domain pulses at most, and there is no lock-up
 pub record IsAlone (l : Logic) (pulsed : ℕ → Bool) : Type 0 where

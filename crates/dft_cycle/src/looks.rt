@@ -112,14 +112,8 @@ impl Look {
         ensures { AreSeen (logic_at strobe.entry.circuit.now) (spec.value_at strobe.entry.ports.now) (spec.value_at strobe.entry.cells.now.values) self.now.nets.items row.new }
     {
         let circuit = strobe.circuit;
-        let _ = &circuit.order;
-        strobe_steps(
-            circuit,
-            strobe.ports,
-            strobe.cells,
-            &self.steps,
-            values,
-        );
+        circuit.soundness();
+        strobe_steps(circuit, strobe.ports, strobe.cells, &self.steps, values);
         read_list(&self.nets, values, row);
     }
 

@@ -3,6 +3,7 @@
 ghost use Rattle.std.specs.Prelude.{◌≡◌, ◌&&◌, ℕ, ◌<◌, length, map, replicate, true, false, Some, None, slice_get, IfOk, if◌then◌else◌};
 ghost use Rattle.dft_cycle.specs.Machine.{logic, AreNets, is_one_of, IsStart, IsSet, IsStrobed, IsPhase, IsPulsed, pulses, acted};
 ghost use Rattle.dft_cycle.specs.Machine as spec;
+ghost use Rattle.dft_cycle.specs.Views.{Rises};
 ghost use Rattle.std.specs.List.{list_any};
 ghost use Rattle.dft_netlist.specs.Runs.{takes};
 ghost use Rattle.dft_logic.specs.Needs.{AreSeen};
@@ -72,7 +73,7 @@ impl<'a> AbstractMachine<'a> {
         flag_clocks(clocks, &mut pulsed);
         let circuit = compile(alloc, design, &pulsed)?;
         let clocks = Vec::from_slice(alloc, clocks)?;
-        let count = circuit.flops.len();
+        let count = cell_count(&circuit);
         let cells = lay_out(alloc, &circuit)?;
         let inputs = unknown(alloc, nets)?;
         let shown = unknown(alloc, nets)?;
@@ -84,7 +85,7 @@ impl<'a> AbstractMachine<'a> {
         let quick = unknown(alloc, nets)?;
         let looks = Looks::prepare(alloc, &circuit)?;
         let plans = Plans::prepare(alloc, &circuit, &clocks, cells.registers(), &mut marked)?;
-        let falls = has_falling(&circuit.flops);
+        let falls = can_fall(&circuit);
         let pulse = Pulse {
             rising: false,
             ports: &inputs,
@@ -186,7 +187,7 @@ impl<'a> AbstractMachine<'a> {
             old: &self.cells,
         };
         let circuit = &self.circuit;
-        let _ = &circuit.order;
+        circuit.soundness();
         settle_again(
             circuit,
             &strobe_view(pulse),
@@ -243,14 +244,17 @@ impl<'a> AbstractMachine<'a> {
         }
     }
 
-    // The falls of a pulse. Nothing changes where every flip-flop takes its bit at a rise.
+    // The falls of a pulse. Nothing changes where all cells of the domains that pulse take their bits at rises.
     fn fall(&mut self, pulsed: &[bool])
         requires { length pulsed.now ≡ length self.old.clocks }
         ensures { IsPhase (logic self.old) self.old false pulsed.now self.new }
     {
         let circuit = &self.circuit;
-        let _ = &circuit.order;
-        if self.falls {
+        circuit.soundness();
+        if !self.falls {
+            return;
+        }
+        if some_fall(circuit, &self.clocks, pulsed) {
             self.phase(false, pulsed);
         }
     }
@@ -345,6 +349,63 @@ fn has_falling(flops: &[FlipFlop]) -> bool
     ensures { result ≡ list_any (λ flop. flop.falling) flops.now }
 {
     flops.iter().any(|flop| flop.falling)
+}
+
+// How many instances it has cells for.
+fn cell_count(circuit: &Circuit) -> usize
+    ensures { result ≡ length circuit.now.flops }
+{
+    circuit.flops.len()
+}
+
+// Whether one of its cells takes its bit at a fall.
+fn can_fall(circuit: &Circuit) -> bool
+    ensures { result ≡ list_any (λ flop. flop.falling) circuit.now.flops }
+{
+    has_falling(&circuit.flops)
+}
+
+// Whether the cell of an instance takes its bit at a fall.
+fn is_falling(flops: &[FlipFlop], instance: u32) -> bool
+    ensures { result ≡ (cell_at (map cell_of flops.now) instance).falling }
+{
+    match flops.get(instance as usize) {
+        Some(flop) => flop.falling,
+        None => false,
+    }
+}
+
+// Whether a cell of a domain does.
+fn falls_in(circuit: &Circuit, domain: NetId) -> bool
+    ensures { result ≡ false → Rises circuit.now domain.0 }
+{
+    let cells = list_of(&circuit.cells, domain);
+    for cell in cells {
+        if is_falling(&circuit.flops, *cell) {
+            return true;
+        }
+    }
+    false
+}
+
+// Whether a cell of a domain does, if the domain pulses.
+fn falls_at(circuit: &Circuit, up: bool, domain: NetId) -> bool
+    ensures { result ≡ false → up ≡ true → Rises circuit.now domain.0 }
+{
+    up && falls_in(circuit, domain)
+}
+
+// Whether a cell of a domain that pulses does.
+fn some_fall(circuit: &Circuit, clocks: &[NetId], pulsed: &[bool]) -> bool
+    requires { length pulsed.now ≡ length clocks.now }
+    ensures { result ≡ false → (e : ℕ) → pulses clocks.now pulsed.now e ≡ true → Rises circuit.now e }
+{
+    for (place, up) in pulsed.iter().enumerate() {
+        if falls_at(circuit, *up, clocks[place]) {
+            return true;
+        }
+    }
+    false
 }
 
 // The flip-flops that take a value in a phase take their next values.

@@ -164,13 +164,7 @@ pub(crate) fn draw(phase: Phase<'_>, sketch: &mut Sketch, values: &mut [Tri]) ->
         origins: &sketch.origins,
         shown: &sketch.shown,
     };
-    find_entries(
-        &circuit.flops,
-        pulse,
-        &sights,
-        values,
-        &mut sketch.entries,
-    )
+    find_entries(&circuit.flops, pulse, &sights, values, &mut sketch.entries)
 }
 
 // Lists the nets that are settled for flip-flops to take what they take, at the front of a list: how many.

@@ -48,7 +48,7 @@ fn round(
     ensures ready { IsReady phase.entry.circuit.now values.new }
 {
     let circuit = phase.circuit;
-    let _ = &circuit.order;
+    circuit.soundness();
     let mut last = first(phase.clocks);
     let view = View {
         pulse: phase.pulse,
@@ -124,6 +124,8 @@ fn next_values(views: Views<'_>, values: &mut [Tri], marked: &mut [bool], next: 
     ensures ready { IsReady views.entry.phase.circuit.now values.new }
 {
     let phase = views.phase;
+    let circuit = phase.circuit;
+    circuit.soundness();
     let mut last = first(phase.clocks);
     let view = View {
         pulse: phase.pulse,
@@ -131,7 +133,7 @@ fn next_values(views: Views<'_>, values: &mut [Tri], marked: &mut [bool], next: 
         poss: views.poss,
         held: views.held,
     };
-    settle_again(phase.circuit, &view, values, marked);
+    settle_again(circuit, &view, values, marked);
     for clock in phase.clocks {
         if flag_at(phase.pulse.pulsed, clock.0) {
             let view = View {
@@ -140,9 +142,9 @@ fn next_values(views: Views<'_>, values: &mut [Tri], marked: &mut [bool], next: 
                 poss: views.poss,
                 held: views.held,
             };
-            enter(phase.circuit, &view, last, values, marked);
+            enter(circuit, &view, last, values, marked);
             last = *clock;
-            take_next(phase.circuit, *clock, phase.pulse.ports, values, next);
+            take_next(circuit, *clock, phase.pulse.ports, values, next);
         }
     }
 }

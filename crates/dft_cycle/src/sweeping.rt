@@ -179,6 +179,7 @@ pub(crate) fn enter(
     ensures given { (k : ℕ) → IsGiven circuit.now view.now values.new k }
     ensures clear { (k : ℕ) → is_up marked.new k ≡ false }
 {
+    circuit.soundness();
     if last.0 != view.domain.0 {
         change_view(circuit, view, last, values, marked);
     }

@@ -1,7 +1,7 @@
 //! All nets settled, in an order.
 
 ghost use Rattle.std.specs.Prelude.{◌≡◌, ℕ, ◌<◌, length};
-ghost use Rattle.dft_logic.specs.Circuit.{IsCircuit, meaning, op_at};
+ghost use Rattle.dft_logic.specs.Circuit.{meaning, op_at};
 ghost use Rattle.dft_evaluator.specs.Wides.{AreWides, values_in};
 ghost use Rattle.dft_evaluator.specs.Evaluations.{IsSettledFrom};
 
@@ -11,7 +11,6 @@ use dft_logic::Circuit;
 
 // Settles all nets in all patterns from what their sources are, in the circuit's order.
 pub(crate) fn sweep(circuit: &Circuit, wides: &mut [Wide])
-    requires circuit { IsCircuit circuit.now }
     requires nets { length wides.old ≡ length circuit.now.ops }
     requires wides { AreWides wides.old }
     ensures wides { AreWides wides.new }

@@ -1,6 +1,7 @@
 //! A design made ready for settling.
 
 ghost use Rattle.std.specs.Prelude.{◌≡◌, ◌++◌, ◌∷◌, [], OnOk, OnErr};
+ghost use Rattle.dft_logic.specs.Circuit as spec;
 
 use crate::packed::Table;
 use dft_cells::Kind;
@@ -178,4 +179,13 @@ impl Model for Circuit {
     ghost view = { circuit_of };
 
     ghost invariant = { IsSound };
+}
+
+impl Circuit {
+    /// Does nothing: its clause is what holds of every circuit.
+    pub fn soundness(&self)
+        ensures { spec.IsCircuit self.now }
+    {
+        let _ = &self.order;
+    }
 }

@@ -1,13 +1,14 @@
 -- Nets are told their places in an order, and places that are not busy are passed over.
 use Rattle.std.proofs.Common.{ℕ, zero, suc, Bool, true, false, List, [], ◌∷◌, ◌≡◌, ◌<◌, ◌≤◌, ◌+◌, ◌-◌, ◌*◌, ◌/◌, ◌%◌, ◌^◌, ◌||◌, ◌⊎◌, inl, inr, length, drop, drop-cons, add-one, refl, sym, ap, ◌∙◌, subst, get_or, slice_set, get_or-set_same, get_or-set_other, true≢false, arith}
 use Rattle.std.proofs.lemmas.Bool.Decides.{eqb_tells, leb_tells}
-use Rattle.std.proofs.lemmas.Bool.{le-leb, lt-leb, leb-true, or_cases, or_right}
-use Rattle.std.proofs.lemmas.List.{drop_all, get_or-replicate, get_or_past, length-replicate, length-set}
+use Rattle.std.proofs.lemmas.Bool.{and_from, eq-eqb, le-leb, lt-leb, leb-true, or_cases, or_right}
+use Rattle.std.proofs.lemmas.List.{drop_all, get_or-replicate, get_or_past, length-replicate}
 use Rattle.std.proofs.lemmas.Nat.{and_le_l}
-use Rattle.std.proofs.lemmas.Nat.Bits.{bit_at-lt, bit_at-trailing_zeros, bit_at-zero, bit_at_and, bit_at_mask_below, bit_at_mask_inside, bit_at_ones, bit_at_set_other, bit_at_set_same, ones_shl}
+use Rattle.std.proofs.lemmas.Nat.Bits.{bit_at-lt, bit_at-trailing_zeros, bit_at-zero, bit_at_and, bit_at_mask_below, bit_at_mask_inside, bit_at_ones, ones_shl}
 use Rattle.std.specs.Int.{bit_at, trailing_zeros, w64}
-use Rattle.std.specs.Prelude.{bit_and, bit_or, min, nat_le, replicate, ◌==◌, if◌then◌else◌}
+use Rattle.std.specs.Prelude.{bit_and, min, nat_le, replicate, ◌&&◌, ◌==◌, if◌then◌else◌}
 use Rattle.dft_base.specs.declared.tri.Tri.{Tri}
+use Rattle.dft_base.specs.Packed.{packed_bit}
 use Rattle.dft_netlist.specs.declared.ids.NetId.{NetId}
 use Rattle.dft_netlist.specs.Logic.{Meaning}
 use Rattle.dft_netlist.specs.Settled.{TriSources}
@@ -63,20 +64,21 @@ placing_ends x places j past p = λ i less. (p.placed i (omega arith) less).0
 -- ---- words that are all ones or all zeros
 
 -- a place is busy whose bit is 1, and so is one past the last word
-busy_here : (busy : List ℕ) (p : ℕ) → bit_at (get_or busy (p / 64) 0) (p % 64) ≡ 1 → is_busy busy p ≡ true
-busy_here busy p one = or_right (nat_le (length busy) (p / 64)) (bit_at (get_or busy (p / 64) 0) (p % 64) == 1) (ap (λ (v : ℕ). v == 1) one)
+busy_here : (busy : List ℕ) (p : ℕ) → packed_bit busy p ≡ true → is_busy busy p ≡ true
+busy_here busy p up = or_right (nat_le (length busy) (p / 64)) (packed_bit busy p) up
 
 pub busy_past : (busy : List ℕ) (p : ℕ) → length busy ≤ p / 64 → is_busy busy p ≡ true
-busy_past busy p past = ap (λ (b : Bool). b || bit_at (get_or busy (p / 64) 0) (p % 64) == 1) (le-leb (length busy) (p / 64) past)
+busy_past busy p past = ap (λ (b : Bool). b || packed_bit busy p) (le-leb (length busy) (p / 64) past)
 
 -- no other is
-idle_here : (busy : List ℕ) (p : ℕ) → p / 64 < length busy → bit_at (get_or busy (p / 64) 0) (p % 64) ≡ 0 → is_busy busy p ≡ false
-idle_here busy p there zero_bit = ap (λ (b : Bool). b || bit_at (get_or busy (p / 64) 0) (p % 64) == 1) (lt-leb (length busy) (p / 64) there) ∙ ap (λ (v : ℕ). v == 1) zero_bit
+idle_here : (busy : List ℕ) (p : ℕ) → p / 64 < length busy → packed_bit busy p ≡ false → is_busy busy p ≡ false
+idle_here busy p there down = ap (λ (b : Bool). b || packed_bit busy p) (lt-leb (length busy) (p / 64) there) ∙ down
 
 all_ones : (m p : ℕ) → is_busy (replicate m (2 ^ 64 - 1)) p ≡ true
+unfolding packed_bit
 all_ones m p = elim (leb_tells m (p / 64)) [
   | inl out ↦ busy_past (replicate m (2 ^ 64 - 1)) p (let past = out.1 in let e = length-replicate m (2 ^ 64 - 1) in omega (arith, past, e))
-  | inr less ↦ busy_here (replicate m (2 ^ 64 - 1)) p (ap (λ (w : ℕ). bit_at w (p % 64)) (get_or-replicate m (p / 64) (2 ^ 64 - 1) 0 less.1) ∙ bit_at_ones 64 (p % 64) (omega arith))
+  | inr less ↦ busy_here (replicate m (2 ^ 64 - 1)) p (ap (λ (w : ℕ). bit_at w (p % 64) == 1) (get_or-replicate m (p / 64) (2 ^ 64 - 1) 0 less.1) ∙ ap (λ (v : ℕ). v == 1) (bit_at_ones 64 (p % 64) (omega arith)))
 ]
 
 none_up : (n k : ℕ) → flag_at (replicate n false) k ≡ false
@@ -92,31 +94,15 @@ all_busy n m false marked busy k p e f is = absurd (true≢false (sym is ∙ ap 
 
 -- ---- a place is noted
 
--- the word of a place that is noted, with its bit
-abbrev pub noted : (busy : List ℕ) → (place : ℕ) → List ℕ
-noted busy place = slice_set busy (place / 64) (bit_or (get_or busy (place / 64) 0) (1 * 2 ^ (place % 64) % 2 ^ 64))
-
-pub noted_here : (busy : List ℕ) (place : ℕ) → place / 64 < length busy → is_busy (noted busy place) place ≡ true
-noted_here busy place there = busy_here (noted busy place) place
-    (ap (λ (w : ℕ). bit_at w (place % 64)) (get_or-set_same busy (place / 64) (bit_or (get_or busy (place / 64) 0) (1 * 2 ^ (place % 64) % 2 ^ 64)) 0 there) ∙ bit_at_set_same w64 (get_or busy (place / 64) 0) (place % 64) (omega arith))
-
--- a bit that was 1 is 1
-bit_stays : (word i k : ℕ) → i < 64 → k < 64 → (bit_at word k == 1) ≡ true → (bit_at (bit_or word (1 * 2 ^ i % 2 ^ 64)) k == 1) ≡ true
-bit_stays word i k fits less one = elim (eqb_tells k i) [
-  | inl same ↦ ap (λ (j : ℕ). bit_at (bit_or word (1 * 2 ^ i % 2 ^ 64)) j == 1) same.1 ∙ ap (λ (v : ℕ). v == 1) (bit_at_set_same w64 word i fits)
-  | inr other ↦ ap (λ (v : ℕ). v == 1) (bit_at_set_other w64 word i fits k other.1) ∙ one
-]
+-- the bit of the place is 1
+pub noted_here : (busy now : List ℕ) (place : ℕ) → ((k : ℕ) → packed_bit now k ≡ packed_bit busy k || ((k == place) && true)) → is_busy now place ≡ true
+noted_here busy now place each = busy_here now place (each place ∙ or_right (packed_bit busy place) ((place == place) && true) (and_from (place == place) true (eq-eqb place place refl) refl))
 
 -- what was busy is busy
-pub noted_other : (busy : List ℕ) (place p : ℕ) → place / 64 < length busy → is_busy busy p ≡ true → is_busy (noted busy place) p ≡ true
-noted_other busy place p there was = elim (or_cases (nat_le (length busy) (p / 64)) (bit_at (get_or busy (p / 64) 0) (p % 64) == 1) was) [
-  | inl past ↦ busy_past (noted busy place) p (let out = leb-true (length busy) (p / 64) past in let e = length-set busy (place / 64) (bit_or (get_or busy (place / 64) 0) (1 * 2 ^ (place % 64) % 2 ^ 64)) in omega (arith, out, e))
-  | inr one ↦ or_right (nat_le (length (noted busy place)) (p / 64)) (bit_at (get_or (noted busy place) (p / 64) 0) (p % 64) == 1) (elim (eqb_tells (p / 64) (place / 64)) [
-    | inl same ↦ (let word : ℕ = get_or busy (place / 64) 0 in
-        let now : get_or (noted busy place) (p / 64) 0 ≡ bit_or word (1 * 2 ^ (place % 64) % 2 ^ 64) = ap (λ (j : ℕ). get_or (noted busy place) j 0) same.1 ∙ get_or-set_same busy (place / 64) (bit_or word (1 * 2 ^ (place % 64) % 2 ^ 64)) 0 there in
-        ap (λ (w : ℕ). bit_at w (p % 64) == 1) now ∙ bit_stays word (place % 64) (p % 64) (omega arith) (omega arith) (ap (λ (j : ℕ). bit_at (get_or busy j 0) (p % 64) == 1) (sym same.1) ∙ one))
-    | inr other ↦ ap (λ (w : ℕ). bit_at w (p % 64) == 1) (get_or-set_other busy (place / 64) (p / 64) (bit_or (get_or busy (place / 64) 0) (1 * 2 ^ (place % 64) % 2 ^ 64)) 0 other.1) ∙ one
-  ])
+pub noted_other : (busy now : List ℕ) (place p : ℕ) → length now ≡ length busy → ((k : ℕ) → packed_bit now k ≡ packed_bit busy k || ((k == place) && true)) → is_busy busy p ≡ true → is_busy now p ≡ true
+noted_other busy now place p size each was = elim (or_cases (nat_le (length busy) (p / 64)) (packed_bit busy p) was) [
+  | inl past ↦ busy_past now p (let out = leb-true (length busy) (p / 64) past in omega (arith, out, size))
+  | inr up ↦ busy_here now p (each p ∙ ap (λ (b : Bool). b || ((p == place) && true)) up)
 ]
 
 -- ---- the next place of a word
@@ -167,10 +153,11 @@ next_ahead word from within some fits =
 
 -- the places of a word of which these are no bits are idle
 pub word_idle : (busy : List ℕ) (word from end p : ℕ) → word < length busy → ((k : ℕ) → from ≤ k → k < end → bit_at (get_or busy word 0) k ≡ 0) → end ≤ 64 → word * 64 + from ≤ p → p < word * 64 + end → is_busy busy p ≡ false
+unfolding packed_bit
 word_idle busy word from end p there zeros few low high =
     let at : p / 64 ≡ word = omega arith in
     let rest : p % 64 ≡ p - word * 64 = omega arith in
-    idle_here busy p (omega arith) (ap (λ (j : ℕ). bit_at (get_or busy j 0) (p % 64)) at ∙ zeros (p % 64) (omega arith) (omega arith))
+    idle_here busy p (omega arith) (ap (λ (j : ℕ). bit_at (get_or busy j 0) (p % 64) == 1) at ∙ ap (λ (v : ℕ). v == 1) (zeros (p % 64) (omega arith) (omega arith)))
 
 -- ---- nets that are passed over
 

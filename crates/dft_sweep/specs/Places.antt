@@ -1,6 +1,6 @@
 -- The places of nets in a circuit's order, and those at which a marked net may stand.
-use Rattle.std.specs.Prelude.{ℕ, Bool, true, ◌≡◌, ◌<◌, ◌/◌, ◌%◌, ◌||◌, ◌==◌, nat_le, List, length, slice_index_or, get_or}
-use Rattle.std.specs.Int.{bit_at}
+use Rattle.std.specs.Prelude.{ℕ, Bool, true, ◌≡◌, ◌<◌, ◌/◌, ◌||◌, nat_le, List, length, slice_index_or}
+use Rattle.dft_base.specs.Packed.{packed_bit}
 use Rattle.dft_netlist.specs.declared.ids.NetId.{NetId}
 use Rattle.dft_logic.specs.Circuit.{Circuit, flag_at}
 use Rattle.dft_sweep.specs.declared.marks.Marks.{Marks}
@@ -19,7 +19,7 @@ ArePlaces x places = (j : ℕ) → j < length x.order → place_at places (net_a
 
 -- whether a marked net may stand at a place, by the bits of words: past the last word one may
 abbrev pub is_busy : (busy : List ℕ) → (place : ℕ) → Bool
-is_busy busy place = nat_le (length busy) (place / 64) || bit_at (get_or busy (place / 64) 0) (place % 64) == 1
+is_busy busy place = nat_le (length busy) (place / 64) || packed_bit busy place
 
 -- at the place of each marked net one may
 abbrev pub AreBusy : (places : List ℕ) → Marks → Type 0

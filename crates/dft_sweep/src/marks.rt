@@ -2,10 +2,10 @@
 
 ghost use Rattle.std.specs.Prelude.{◌≡◌, ◌<◌, ◌≤◌, ◌-◌, ◌^◌, ℕ, List, length, slice_set, replicate, true, false, IfOk, MatchOption, if◌then◌else◌};
 ghost use Rattle.std.specs.Int.{bit_at};
-ghost use Rattle.dft_logic.specs.Circuit.{IsCircuit};
 ghost use Rattle.dft_sweep.specs.Places.{AreBusy, ArePlaces, is_busy, place_at};
 ghost use Rattle.dft_sweep.specs.Fields.{is_needed as are_needed};
 
+use dft_lanes::put;
 use dft_logic::Circuit;
 use dft_netlist::NetId;
 use std::alloc::{AllocError, Global};
@@ -47,7 +47,7 @@ fn note(busy: &mut [u64], place: usize)
     ensures other { (p : ℕ) → is_busy busy.old p ≡ true → is_busy busy.new p ≡ true }
 {
     if place / WORD < busy.len() {
-        busy[place / WORD] |= 1 << (place % WORD);
+        put(busy, place, true);
     }
 }
 
@@ -145,7 +145,6 @@ impl Marks {
 
 /// The place of each net in a circuit's order, by net.
 pub fn places(alloc: Global, circuit: &Circuit) -> Result<Vec<u32>, AllocError>
-    requires circuit { IsCircuit circuit.now }
     requires few { length circuit.now.ops < 2 ^ 32 }
     ensures { IfOk result (λ places. ArePlaces circuit.now places.items) }
 {

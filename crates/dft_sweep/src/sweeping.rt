@@ -4,7 +4,7 @@ ghost use Rattle.std.specs.Prelude.{◌≡◌, ◌⊎◌, ℕ, ◌<◌, ◌≤�
 ghost use Rattle.dft_netlist.specs.Logic.{reads};
 ghost use Rattle.dft_netlist.specs.Orders.{Has};
 ghost use Rattle.dft_netlist.specs.Settled.{value_given};
-ghost use Rattle.dft_logic.specs.Circuit.{meaning, op_at, IsCircuit, flag_at as is_up};
+ghost use Rattle.dft_logic.specs.Circuit.{meaning, op_at, flag_at as is_up};
 ghost use Rattle.dft_logic.specs.Values as spec;
 ghost use Rattle.dft_sweep.specs.Places.{AreBusy, ArePlaces};
 ghost use Rattle.dft_sweep.specs.Fields.{IsGiven, bit_at, is_needed as are_needed, meaning_at, sources_of};
@@ -29,18 +29,15 @@ fn stuck_at(stuck: Option<Stuck>, net: NetId) -> Option<bool>
 
 // The value that a net has from its driver, or because it is stuck.
 fn value_of(field: &Field<'_>, net: NetId, values: &[Tri]) -> Tri
-    requires circuit { IsCircuit field.now.circuit.now }
     requires live { net.0 < length field.now.circuit.now.ops }
     ensures { result ≡ value_given (sources_of field.now.sources) (spec.value_at values.now) net.0 (meaning_at field.now net.0) }
 {
     match stuck_at(field.stuck, net) {
         Some(bit) => if bit { Tri::One } else { Tri::Zero },
-        None => op_value(
-            &field.circuit.ops[net.0 as usize],
-            net,
-            &field.sources,
-            values,
-        ),
+        None => {
+            let circuit = field.circuit;
+            op_value(&circuit.ops[net.0 as usize], net, &field.sources, values)
+        }
     }
 }
 
@@ -60,7 +57,6 @@ pub fn mark_all(places: &[u32], needed: &[bool], nets: &[u32], marks: &mut Marks
 
 // Gives a net its value, and marks its needed readers where that is new. Whether it is.
 fn renew(field: &Field<'_>, net: NetId, values: &mut [Tri], marks: &mut Marks) -> bool
-    requires circuit { IsCircuit field.now.circuit.now }
     requires live { net.0 < length field.now.circuit.now.ops }
     requires values { length values.old ≡ length field.now.circuit.now.ops }
     requires marked { length marks.old.marked.items ≡ length field.now.circuit.now.ops }
@@ -76,14 +72,14 @@ fn renew(field: &Field<'_>, net: NetId, values: &mut [Tri], marks: &mut Marks) -
         return false;
     }
     values[net.0 as usize] = value;
-    let readers = list_of(&field.circuit.readers, net);
+    let circuit = field.circuit;
+    let readers = list_of(&circuit.readers, net);
     mark_all(field.places, field.needed, readers, marks);
     true
 }
 
 // Gives a net its value, if it is needed, and marks its needed readers where that is new.
 fn refresh_one(field: &Field<'_>, net: NetId, values: &mut [Tri], marks: &mut Marks)
-    requires circuit { IsCircuit field.now.circuit.now }
     requires live { net.0 < length field.now.circuit.now.ops }
     requires values { length values.old ≡ length field.now.circuit.now.ops }
     requires marked { length marks.old.marked.items ≡ length field.now.circuit.now.ops }
@@ -99,7 +95,6 @@ fn refresh_one(field: &Field<'_>, net: NetId, values: &mut [Tri], marks: &mut Ma
 
 // Gives each of these nets its value, if it is needed, and marks the needed readers of those that change.
 fn refresh(field: &Field<'_>, nets: &[u32], values: &mut [Tri], marks: &mut Marks)
-    requires circuit { IsCircuit field.now.circuit.now }
     requires live { (k : ℕ) → Has nets.now k → k < length field.now.circuit.now.ops }
     requires values { length values.old ≡ length field.now.circuit.now.ops }
     requires marked { length marks.old.marked.items ≡ length field.now.circuit.now.ops }
@@ -114,7 +109,6 @@ fn refresh(field: &Field<'_>, nets: &[u32], values: &mut [Tri], marks: &mut Mark
 
 // Evaluates a net if it is marked, and takes its mark away.
 fn settle_marked(field: &Field<'_>, net: NetId, values: &mut [Tri], marks: &mut Marks)
-    requires circuit { IsCircuit field.now.circuit.now }
     requires live { net.0 < length field.now.circuit.now.ops }
     requires values { length values.old ≡ length field.now.circuit.now.ops }
     requires marked { length marks.old.marked.items ≡ length field.now.circuit.now.ops }
@@ -132,7 +126,6 @@ fn settle_marked(field: &Field<'_>, net: NetId, values: &mut [Tri], marks: &mut 
 
 // Evaluates the marked nets, in the circuit's order, and the needed readers of those that change.
 fn sweep(field: &Field<'_>, values: &mut [Tri], marks: &mut Marks)
-    requires circuit { IsCircuit field.now.circuit.now }
     requires places { ArePlaces field.now.circuit.now field.now.places.now }
     requires values { length values.old ≡ length field.now.circuit.now.ops }
     requires marked { length marks.old.marked.items ≡ length field.now.circuit.now.ops }
@@ -142,17 +135,17 @@ fn sweep(field: &Field<'_>, values: &mut [Tri], marks: &mut Marks)
     ensures given { (k : ℕ) → IsGiven field.now values.new k }
     ensures clear { (k : ℕ) → is_up marks.new.marked.items k ≡ false }
 {
-    let end = field.circuit.order.as_slice().len();
+    let circuit = field.circuit;
+    let end = circuit.order.as_slice().len();
     let mut place = next_busy(&marks.busy, 0, end);
     while place < end {
-        settle_marked(field, field.circuit.order[place], values, marks);
+        settle_marked(field, circuit.order[place], values, marks);
         place = next_busy(&marks.busy, place + 1, end);
     }
 }
 
 /// Settles the needed nets, where each of them that is not marked has its value or is one of these.
 pub fn settle(field: &Field<'_>, nets: &[u32], values: &mut [Tri], marks: &mut Marks)
-    requires circuit { IsCircuit field.now.circuit.now }
     requires places { ArePlaces field.now.circuit.now field.now.places.now }
     requires live { (k : ℕ) → Has nets.now k → k < length field.now.circuit.now.ops }
     requires values { length values.old ≡ length field.now.circuit.now.ops }

@@ -5,27 +5,29 @@ use Rattle.dft_base.specs.declared.tri.Tri.{Tri}
 use Rattle.dft_netlist.specs.Logic.{Cell, Force}
 use Rattle.dft_logic.specs.declared.circuit.FlipFlop.{FlipFlop}
 use Rattle.dft_cycle.specs.Machine.{value_at, acted}
-use Rattle.dft_logic.specs.Circuit.{IsCircuit, cell_of, cell_at}
+use Rattle.dft_logic.specs.Circuit.{Circuit, IsCircuit, cell_of, cell_at}
 use Rattle.dft_logic.specs.Tables.{list_at}
 use Rattle.dft_logic.proofs.Writings.{cell_read}
 use Rattle.dft_cycle.proofs.Sweepings.{has_item}
 use Rattle.dft_cycle.proofs.DomainLemmas.{Listed, listed_more, follower_listed, acted_once}
+use Rattle.dft_logic.specs.CircuitShown.{circuit_of}
+use Rattle.dft_logic.proofs.CircuitReads.{flop_read}
 use Rattle.dft_cycle.proofs.machine.act.Goals as goal
 
 pub index-requires : goal.index-requires
 index-requires c =
     let x = c.args.circuit.now in
     let xs = c.list_of-cell-items.result.now in
-    let named : xs ≡ list_at x.followers c.args.net.0 = c.list_of-cell-items.ensures in
+    let named : xs ≡ list_at x.followers c.args.net.0 = c.list_of-cell-items.ensures ∙ ap (λ (m : Circuit). list_at m.followers c.args.net.0) c.circuit.view_is in
     let less = follower_listed x c.args.net.0 (get_or xs c.loop-cell.cell-index 0) xs (subst IsCircuit c.circuit.view_is c.circuit.invariant) named (has_item xs c.loop-cell.cell-index 0 c.loop-cell-test.true) in
-    let e = x.flops.ok.0 in
-    omega arith
+    let e = c.circuit.inside.flops.ok.0 in
+    omega (arith, ap (λ (m : Circuit). length m.flops) c.circuit.view_is)
 
 pub set-requires : goal.set-requires
 set-requires c =
     let x = c.args.circuit.now in
     let xs = c.list_of-cell-items.result.now in
-    let named : xs ≡ list_at x.followers c.args.net.0 = c.list_of-cell-items.ensures in
+    let named : xs ≡ list_at x.followers c.args.net.0 = c.list_of-cell-items.ensures ∙ ap (λ (m : Circuit). list_at m.followers c.args.net.0) c.circuit.view_is in
     let less = follower_listed x c.args.net.0 (get_or xs c.loop-cell.cell-index 0) xs (subst IsCircuit c.circuit.view_is c.circuit.invariant) named (has_item xs c.loop-cell.cell-index 0 c.loop-cell-test.true) in
     omega (arith, c.loop-cell.invariant.1.1, c.requires.cells, less)
 
@@ -36,13 +38,13 @@ loop-cell-preserved c =
     let place : ℕ = get_or xs c.loop-cell.cell-index 0 in
     let net : ℕ = c.args.net.0 in
     let old : List Tri = c.loop-cell.cells.values in
-    let named : xs ≡ list_at x.followers net = c.list_of-cell-items.ensures in
+    let named : xs ≡ list_at x.followers net = c.list_of-cell-items.ensures ∙ ap (λ (m : Circuit). list_at m.followers net) c.circuit.view_is in
     let less : place < length x.flops = follower_listed x net place xs (subst IsCircuit c.circuit.view_is c.circuit.invariant) named (has_item xs c.loop-cell.cell-index 0 c.loop-cell-test.true) in
     let live : place < length old = omega (arith, c.loop-cell.invariant.1.1, c.requires.cells, less) in
     let force : ℕ → Option Force = λ k. (cell_at (map cell_of x.flops) k).force in
     let bit : Tri = value_at old place in
     let given : Cell → Tri = λ cell. acted cell.force net c.args.value bit in
-    let value : c.acted_on.result ≡ acted (force place) net c.args.value bit = (rw c.at-bit.ensures at c.acted_on.ensures) ∙ ap (λ (f : FlipFlop). given (cell_of f)) (get_or_read x.flops place c.index.result.now less c.index.ensures c.index.result.now)
+    let value : c.acted_on.result ≡ acted (force place) net c.args.value bit = (rw c.at-bit.ensures at c.acted_on.ensures) ∙ ap (λ (f : FlipFlop). given (cell_of f)) (get_or_read x.flops place c.index.result.now less (flop_read (circuit_of c.circuit.inside) x _ _ c.circuit.view_is c.index.ensures) c.index.result.now)
     ∙ ap given (cell_read x.flops place c.index.result.now less) in
     let start : List Tri = c.args.cells.now.values in
     let P : List Tri → Type 0 = λ l. Listed (length x.flops) start l (λ k old. acted (force k) net c.args.value old) (drop (c.loop-cell.cell-index + 1) xs) in (

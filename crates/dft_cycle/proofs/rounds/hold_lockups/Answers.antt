@@ -1,6 +1,6 @@
 -- One level more is held, and where a round changes nothing all are.
 use Rattle.std.proofs.Common.{length, sym, ap, ◌∙◌, arith, subst}
-use Rattle.dft_logic.specs.Circuit.{IsCircuit}
+use Rattle.dft_logic.specs.Circuit.{Circuit, IsCircuit}
 use Rattle.std.specs.Prelude.{is_some}
 use Rattle.std.specs.List.{list_any}
 use Rattle.dft_cycle.proofs.RoundLemmas.{none_held, all_held, no_latch_held}
@@ -23,4 +23,4 @@ pub returns-clause-held : goal.returns-clause-held
 returns-clause-held c = λ view views net k e high source here low. c.loop-level.invariant.held view views net k e high source here (omega (arith, low))
 
 pub returns-then-not-has_latch-clause-held : goal.returns-then-not-has_latch-clause-held
-returns-then-not-has_latch-clause-held c = λ view views. no_latch_held c.args.phase.circuit.now view c.args.held.now (length c.args.phase.circuit.now.ops) (subst IsCircuit c.circuit.view_is c.circuit.invariant) (sym (ap (λ (latches : _). list_any (λ latch. is_some latch) latches) c.deref.ensures.value) ∙ sym c.has_latch.ensures ∙ c.if-not-has_latch.true)
+returns-then-not-has_latch-clause-held c = λ view views. no_latch_held c.args.phase.circuit.now view c.args.held.now (length c.args.phase.circuit.now.ops) (subst IsCircuit c.circuit.view_is c.circuit.invariant) (sym (ap (λ (latches : _). list_any (λ latch. is_some latch) latches) (c.deref.ensures.value ∙ ap (λ (m : Circuit). m.latches) c.circuit.view_is)) ∙ sym c.has_latch.ensures ∙ c.if-not-has_latch.true)

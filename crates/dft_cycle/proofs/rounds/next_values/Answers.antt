@@ -1,8 +1,8 @@
 -- The flip-flops of one domain more have their next values.
-use Rattle.std.proofs.Common.{ℕ, ◌<◌, ◌∙◌, length, refl, sym, get_or, subst}
+use Rattle.std.proofs.Common.{ℕ, ◌<◌, ◌∙◌, length, refl, sym, get_or}
 use Rattle.std.proofs.lemmas.Option.{slice_get-get_or}
 use Rattle.dft_netlist.specs.declared.ids.NetId.{NetId}
-use Rattle.dft_logic.specs.Circuit.{IsCircuit, logic_at, pulse_at}
+use Rattle.dft_logic.specs.Circuit.{logic_at, pulse_at}
 use Rattle.dft_cycle.specs.Machine.{value_at}
 use Rattle.dft_cycle.proofs.DomainLemmas.{ready_in}
 use Rattle.dft_cycle.proofs.NextLemmas.{next_more, next_kept}
@@ -20,7 +20,7 @@ loop-clock-preserved c =
     let live : clock.0 < length x.ops = c.requires.live j clock (slice_get-get_or clocks j (record { 0 = 0 }) c.loop-clock-test.true) in
     elim c.if-flag_at.branch [
       | then-flag_at w ↦ record {
-        next = λ view views right. rw w.next-is (next_more x p (value_at c.args.views.poss.now) view clocks c.args.views.held.now c.loop-clock.next w.take_next.new.next w.enter.new.values j clock.0 _ (subst IsCircuit c.circuit.view_is c.circuit.invariant) views
+        next = λ view views right. rw w.next-is (next_more x p (value_at c.args.views.poss.now) view clocks c.args.views.held.now c.loop-clock.next w.take_next.new.next w.enter.new.values j clock.0 _ c.soundness.ensures views
             (record { ports = λ k. refl; clocks = λ e. refl; flops = λ k. refl; lockups = λ k e high source. refl }) w.enter.ensures.given right w.take_next.ensures refl (c.loop-clock.invariant.next view views right));
         given = rw (w.values-is, w.last-is) w.enter.ensures.given;
         clear = rw w.marked-is w.enter.ensures.clear;

@@ -6,7 +6,7 @@ use Rattle.dft_base.specs.Tri.{AboveTri}
 use Rattle.dft_abstract.specs.Cycle.{AreViews}
 use Rattle.dft_cycle.specs.Machine.{value_at}
 use Rattle.dft_cycle.specs.Views.{StaysBelow, AreNext, is_known}
-use Rattle.dft_logic.specs.Circuit.{IsCircuit, logic_at, pulse_at}
+use Rattle.dft_logic.specs.Circuit.{Circuit, IsCircuit, logic_at, pulse_at}
 use Rattle.dft_cycle.proofs.AloneLemmas.{turn_alone}
 use Rattle.dft_cycle.proofs.MachineLemmas.{filled, refilled}
 use Rattle.dft_cycle.proofs.Risings.{turn_above, turn_below, turn_done}
@@ -33,7 +33,7 @@ returns-clause-above c =
     let nexts = c.deref-5.ensures.value ∙ filled s.next next c.deref_mut-2.result.now c.next_values.auto.next c.deref_mut-2.ensures.value in
     subst (λ (l : List Tri). (k : ℕ) → AboveTri (value_at l k) (value_at s.poss.items k)) (sym kept)
     (turn_above x (pulse_at c.args.phase.pulse) next s.poss.items raised c.requires.search.poss (c.raise-changed.auto.poss ∙ ap length c.deref_mut-3.ensures.value)
-    (raised_from x (pulse_at c.args.phase.pulse) c.deref-4.result.now c.deref-5.result.now next c.deref_mut-3.result.now s.poss.items raised c.deref-4.ensures.value nexts c.deref_mut-3.ensures.value c.raise-changed.ensures.each))
+    (raised_from x (pulse_at c.args.phase.pulse) c.deref-4.result.now c.deref-5.result.now next c.deref_mut-3.result.now s.poss.items raised (c.deref-4.ensures.value ∙ ap (λ (m : Circuit). m.flops) c.circuit.view_is) nexts c.deref_mut-3.ensures.value c.raise-changed.ensures.each))
 
 pub returns-clause-below : goal.returns-clause-below
 unfolding logic_at
@@ -48,7 +48,7 @@ returns-clause-below c =
     let nexts = c.deref-5.ensures.value ∙ filled s.next next c.deref_mut-2.result.now c.next_values.auto.next c.deref_mut-2.ensures.value in
     subst (λ (l : List Tri). StaysBelow (logic_at x) (pulse_at c.args.phase.pulse) s.poss.items l) (sym kept)
     (turn_below x (pulse_at c.args.phase.pulse) c.args.phase.clocks.now next s.poss.items raised (subst IsCircuit c.circuit.view_is c.circuit.invariant) c.requires.search.poss (c.raise-changed.auto.poss ∙ ap length c.deref_mut-3.ensures.value)
-    (raised_from x (pulse_at c.args.phase.pulse) c.deref-4.result.now c.deref-5.result.now next c.deref_mut-3.result.now s.poss.items raised c.deref-4.ensures.value nexts c.deref_mut-3.ensures.value c.raise-changed.ensures.each)
+    (raised_from x (pulse_at c.args.phase.pulse) c.deref-4.result.now c.deref-5.result.now next c.deref_mut-3.result.now s.poss.items raised (c.deref-4.ensures.value ∙ ap (λ (m : Circuit). m.flops) c.circuit.view_is) nexts c.deref_mut-3.ensures.value c.raise-changed.ensures.each)
     c.requires.pulsing (next_at x (pulse_at c.args.phase.pulse) c.args.phase.clocks.now s.poss.items held next c.deref.result.now c.deref-2.result.now c.deref-3.result.now c.deref.ensures.value c.deref-2.ensures.value holds c.hold_lockups.ensures.held c.next_values.ensures.next))
 
 pub returns-clause-done : goal.returns-clause-done
@@ -64,7 +64,7 @@ returns-clause-done c = λ off view views.
     let holds = c.deref-3.ensures.value ∙ filled s.held held c.deref_mut.result.now c.hold_lockups.auto.held c.deref_mut.ensures.value in
     let nexts = c.deref-5.ensures.value ∙ taken in
     let size = c.next_values.auto.next ∙ ap length c.deref_mut-2.ensures.value ∙ c.requires.search.next in
-    let each = raised_from x (pulse_at c.args.phase.pulse) c.deref-4.result.now c.deref-5.result.now next c.deref_mut-3.result.now s.poss.items raised c.deref-4.ensures.value nexts c.deref_mut-3.ensures.value c.raise-changed.ensures.each in
+    let each = raised_from x (pulse_at c.args.phase.pulse) c.deref-4.result.now c.deref-5.result.now next c.deref_mut-3.result.now s.poss.items raised (c.deref-4.ensures.value ∙ ap (λ (m : Circuit). m.flops) c.circuit.view_is) nexts c.deref_mut-3.ensures.value c.raise-changed.ensures.each in
     let has = next_at x (pulse_at c.args.phase.pulse) c.args.phase.clocks.now s.poss.items held next c.deref.result.now c.deref-2.result.now c.deref-3.result.now c.deref.ensures.value c.deref-2.ensures.value holds c.hold_lockups.ensures.held c.next_values.ensures.next in
     let before = subst (λ (l : List Tri). AreViews (logic_at x) (pulse_at c.args.phase.pulse) (value_at l) view) kept views in
     subst (λ (l : List Tri). AreNext (logic_at x) (pulse_at c.args.phase.pulse) view l (with_items s.next next).items) (sym kept) (subst (λ (l : List Tri). AreNext (logic_at x) (pulse_at c.args.phase.pulse) view raised l) (sym taken)

@@ -14,6 +14,6 @@ loop-step-preserved c =
     step_settled c.args.circuit.now (before_base (pulse_at c.args.pulse)) c.args.steps.now c.loop-step.values c.loop-step.step-index _ c.value-value.result c.loop-step-test.true
     (c.loop-step.auto.values ∙ c.requires.values) c.requires.steps c.loop-step.invariant c.value-value.ensures
 
-pub value-value-requires-clause-within : goal.value-value-requires-clause-within
-value-value-requires-clause-within c =
-    step_within c.args.circuit.now c.args.steps.now c.loop-step.values c.loop-step.step-index _ c.loop-step-test.true (c.loop-step.auto.values ∙ c.requires.values) c.requires.steps
+pub value-value-requires : goal.value-value-requires
+value-value-requires c =
+    record { within = step_within c.args.circuit.now c.args.steps.now c.loop-step.values c.loop-step.step-index _ c.loop-step-test.true (c.loop-step.auto.values ∙ c.requires.values) c.requires.steps }

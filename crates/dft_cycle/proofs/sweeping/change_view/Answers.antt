@@ -1,5 +1,7 @@
 -- Each net that is not marked has its driver's value.
-use Rattle.dft_logic.specs.Circuit.{IsGiven}
+use Rattle.std.proofs.Common.{◌∙◌, ap}
+use Rattle.dft_logic.specs.Circuit.{Circuit, IsGiven}
+use Rattle.dft_logic.specs.Tables.{list_at}
 use Rattle.dft_cycle.proofs.Sweepings.{both_refreshed}
 use Rattle.dft_cycle.proofs.sweeping.change_view.Goals as goal
 
@@ -9,7 +11,7 @@ sweep-requires-clause-given c =
     let v = c.args.view.now in
     both_refreshed c.args.marked.now c.refresh-left.new.marked c.refresh-entered.new.marked c.list_of.result.now c.list_of-2.result.now _ _
     (IsGiven x v c.args.values.now) (IsGiven x v c.refresh-left.new.values) (IsGiven x v c.refresh-entered.new.values)
-    c.list_of.ensures c.list_of-2.ensures
+    (c.list_of.ensures ∙ ap (λ (m : Circuit). list_at m.leaves c.args.last.0) c.circuit.view_is) (c.list_of-2.ensures ∙ ap (λ (m : Circuit). list_at m.leaves v.domain.0) c.circuit.view_is)
     c.requires.near c.refresh-left.ensures.given c.refresh-entered.ensures.given
 
 pub returns-else-entered-clause-given : goal.returns-else-entered-clause-given
@@ -18,6 +20,6 @@ returns-else-entered-clause-given c = λ k.
     let v = c.args.view.now in
     both_refreshed c.args.marked.now c.refresh-left.new.marked c.refresh-entered.new.marked c.list_of.result.now c.list_of-2.result.now _ _
     (IsGiven x v c.args.values.now) (IsGiven x v c.refresh-left.new.values) (IsGiven x v c.refresh-entered.new.values)
-    c.list_of.ensures c.list_of-2.ensures
+    (c.list_of.ensures ∙ ap (λ (m : Circuit). list_at m.leaves c.args.last.0) c.circuit.view_is) (c.list_of-2.ensures ∙ ap (λ (m : Circuit). list_at m.leaves v.domain.0) c.circuit.view_is)
     c.requires.near c.refresh-left.ensures.given c.refresh-entered.ensures.given k
     (c.refresh-entered.ensures.none c.if-entered.false k (c.refresh-left.ensures.none c.if-left.false k (c.requires.clear k))))

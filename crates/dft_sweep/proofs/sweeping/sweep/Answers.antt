@@ -1,6 +1,9 @@
 -- One net more, and the idle places behind it.
 use Rattle.std.proofs.Common.{ℕ, List, ◌<◌, ◌+◌, ◌∙◌, length, refl, sym, subst, ap, arith}
 use Rattle.dft_netlist.specs.declared.ids.NetId.{NetId}
+use Rattle.dft_logic.specs.Circuit.{Circuit, IsCircuit}
+use Rattle.dft_logic.specs.CircuitShown.{circuit_of}
+use Rattle.dft_logic.proofs.CircuitReads.{net_read}
 use Rattle.dft_sweep.specs.Fields.{meaning_at, sources_of}
 use Rattle.dft_sweep.specs.Places.{is_busy}
 use Rattle.dft_sweep.proofs.Placings.{sweeping_goes}
@@ -15,7 +18,7 @@ loop-place-init c =
     record {
       size = refl;
       swept = sweeping_goes x f.places.now f.needed.now (meaning_at f) (sources_of f.sources) c.args.values.now m.marked.items m.busy.items 0 c.next_busy-place.result c.requires.places c.requires.busy c.next_busy-place.ensures.low (λ p low high. ap (λ (l : List ℕ). is_busy l p) (sym c.deref.ensures.value) ∙ c.next_busy-place.ensures.idle p low high)
-          (sweeping_starts x f.needed.now (meaning_at f) (sources_of f.sources) c.args.values.now m.marked.items c.requires.circuit c.requires.given);
+          (sweeping_starts x f.needed.now (meaning_at f) (sources_of f.sources) c.args.values.now m.marked.items (subst IsCircuit c.circuit.view_is c.circuit.invariant) c.requires.given);
       busy = c.requires.busy;
     }
 
@@ -25,13 +28,13 @@ loop-place-preserved c =
     let x = f.circuit.now in
     let m = c.settle_marked.new.marks in
     let at = c.loop-place.place in
-    let less : at < length x.order = (let here = c.loop-place-test.true in subst (λ (l : List NetId). at < length l) c.as_slice-end.ensures.value here) in
+    let less : at < length x.order = (let here = c.loop-place-test.true in subst (λ (l : List NetId). at < length l) (c.as_slice-end.ensures.value ∙ ap (λ (m : Circuit). m.order) c.circuit.view_is) here) in
     record {
       size = c.settle_marked.ensures.size ∙ c.loop-place.invariant.size;
       swept = sweeping_goes x f.places.now f.needed.now (meaning_at f) (sources_of f.sources) c.settle_marked.new.values m.marked.items m.busy.items (at + 1) c.next_busy-place-in-loop-place.result c.requires.places
           (c.settle_marked.ensures.busy c.loop-place.invariant.busy) c.next_busy-place-in-loop-place.ensures.low (λ p low high. ap (λ (l : List ℕ). is_busy l p) (sym c.deref-in-loop-place.ensures.value) ∙ c.next_busy-place-in-loop-place.ensures.idle p low high)
           (sweeping_more x.ops _ _ _ x.order c.loop-place.values c.settle_marked.new.values c.loop-place.marks.marked.items m.marked.items at
-          c.index.result.now c.index.result.now less c.index.ensures c.loop-place.invariant.swept c.settle_marked.ensures.given c.settle_marked.ensures.raised);
+          c.index.result.now c.index.result.now less (net_read (circuit_of c.circuit.inside) x _ _ c.circuit.view_is c.index.ensures) c.loop-place.invariant.swept c.settle_marked.ensures.given c.settle_marked.ensures.raised);
       busy = c.settle_marked.ensures.busy c.loop-place.invariant.busy;
     }
 

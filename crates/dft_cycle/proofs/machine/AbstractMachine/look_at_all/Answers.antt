@@ -6,7 +6,7 @@ use Rattle.dft_logic.specs.Needs.{AreSeen}
 use Rattle.dft_netlist.specs.declared.ids.NetId.{NetId}
 use Rattle.dft_cycle.specs.MachineShown.{machine_of}
 use Rattle.dft_logic.specs.declared.settling.Pulse.{Pulse as Phase}
-use Rattle.dft_logic.specs.Circuit.{IsCircuit, logic_at, GivenIn, pulse_at}
+use Rattle.dft_logic.specs.Circuit.{logic_at, GivenIn, pulse_at}
 use Rattle.dft_cycle.proofs.DomainLemmas.{ready_view}
 use Rattle.dft_cycle.proofs.MachineLemmas.{refilled, filled, looked, clear_kept, ready_kept}
 use Rattle.dft_cycle.proofs.machine.AbstractMachine.look_at_all.Goals as goal
@@ -48,6 +48,6 @@ returns-clause-seen c =
     let P : Machine → Type 0 = λ m. AreSeen (logic m) (value_at m.inputs) (value_at m.cells) c.args.nets.now c.read_list.new.row in
     let read : c.deref-2.result.now ≡ c.settle_again.new.values = c.deref-2.ensures.value ∙ filled d.values c.settle_again.new.values c.deref_mut.result.now c.settle_again.auto.values c.deref_mut.ensures.value in
     subst P c.self.view_is
-    (looked (machine_of d) d.circuit c.deref.result.now d.cells.values v.poss.now v.held.now c.settle_again.new.values c.read_list.new.row v.domain.0 c.args.nets.now (subst IsCircuit c.circuit.view_is c.circuit.invariant) c.self.invariant.compiled
+    (looked (machine_of d) d.circuit c.deref.result.now d.cells.values v.poss.now v.held.now c.settle_again.new.values c.read_list.new.row v.domain.0 c.args.nets.now c.soundness.ensures c.self.invariant.compiled
     c.deref.ensures.value refl (subst V c.strobe_view.ensures.pulse c.settle_again.ensures.given)
     (c.read_list.ensures ∙ ap (λ (l : List Tri). map (λ (net : NetId). value_at l net.0) c.args.nets.now) read))

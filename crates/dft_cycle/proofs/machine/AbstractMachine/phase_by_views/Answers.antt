@@ -5,7 +5,7 @@ use Rattle.dft_base.specs.declared.tri.Tri.{Tri}
 use Rattle.dft_netlist.specs.declared.ids.NetId.{NetId}
 use Rattle.dft_abstract.specs.Cycle.{Pulse}
 use Rattle.dft_cycle.specs.Machine.{Machine, logic, value_at, pulses, IsPhase}
-use Rattle.dft_logic.specs.Circuit.{IsCircuit, flag_at, logic_at}
+use Rattle.dft_logic.specs.Circuit.{Circuit, IsCircuit, flag_at, logic_at}
 use Rattle.dft_cycle.specs.Views.{Among}
 use Rattle.dft_cycle.specs.MachineShown.{machine_of}
 use Rattle.dft_cycle.proofs.MachineLemmas.{refilled, filled, clear_kept, ready_kept, pulsed_loose, phase_done, taken_read, pulses_among, flags_one}
@@ -69,7 +69,7 @@ invariant_of-self c =
       looks = i.looks;
       loose = pulsed_loose d.circuit p c.find_least.new.search.poss.items c.find_least.new.search.next.items d.cells.values cells.values (subst IsCircuit c.circuit.view_is c.circuit.invariant) (c.take.ensures.count ∙ i.cells) i.loose c.find_least.ensures.next
           (taken_read c.args.rising d.circuit.flops c.deref-5.result.now c.deref-3.result.now c.deref-6.result.now c.find_least.new.search.next.items c.deref-7.result.now d.cells.values d.cells.values cells.values cells.values
-          c.deref-5.ensures.value (c.deref-6.ensures.value ∙ sym c.deref-3.ensures.value) c.deref-7.ensures.value refl refl c.take.ensures.each);
+          (c.deref-5.ensures.value ∙ ap (λ (m : Circuit). m.flops) c.circuit.view_is) (c.deref-6.ensures.value ∙ sym c.deref-3.ensures.value) c.deref-7.ensures.value refl refl c.take.ensures.each);
       flags = flags_one d.clocks.items c.args.pulsed.now d.pulsed c.mark.new.flags c.deref.result.now c.deref_mut.result.now c.mark.auto.flags c.deref_mut.ensures.value c.deref.ensures.value c.mark.ensures;
     }
 
@@ -88,7 +88,7 @@ returns c =
     let marked : c.deref-3.result.now ≡ c.mark.new.flags = read ∙ filled d.pulsed c.mark.new.flags c.deref_mut.result.now c.mark.auto.flags flags in
     let ports : c.deref-2.result.now ≡ d.inputs.items = c.deref-2.ensures.value in
     let size = c.find_least.ensures.search.next in
-    let flops : c.deref-5.result.now ≡ d.circuit.flops = c.deref-5.ensures.value in
+    let flops : c.deref-5.result.now ≡ d.circuit.flops = c.deref-5.ensures.value ∙ ap (λ (m : Circuit). m.flops) c.circuit.view_is in
     let p : Pulse = record { rising = c.args.rising; ports = value_at c.deref-2.result.now; pulsed = flag_at c.deref-3.result.now; old = value_at d.cells.values } in
     subst P c.self.view_is
     (phase_done (machine_of d) after d.circuit c.args.rising c.args.pulsed.now p c.find_least.new.search.poss.items c.find_least.new.search.next.items (subst IsCircuit c.circuit.view_is c.circuit.invariant) i.compiled refl refl refl refl refl

@@ -1,14 +1,12 @@
 -- The machine's circuit is the design's.
 use Rattle.std.proofs.Common.{ℕ, Bool, ◌≡◌, ◌∙◌, Some, refl, ap, sym, subst, length, slice_get, List, arith}
 use Rattle.std.proofs.lemmas.List.{length-replicate}
-use Rattle.std.specs.List.{list_any}
 use Rattle.std.specs.Vec.{with_items}
 use Rattle.dft_base.specs.declared.tri.Tri.{Tri}
 use Rattle.dft_netlist.specs.declared.ids.NetId.{NetId}
 use Rattle.dft_netlist.specs.Logic.{Ports, Logic, logic_of}
 use Rattle.dft_cycle.specs.Machine.{logic, is_one_of, value_at}
 use Rattle.dft_cycle.specs.Plans.{ArePlans}
-use Rattle.dft_logic.specs.declared.circuit.FlipFlop.{FlipFlop}
 use Rattle.dft_logic.specs.Circuit.{flag_at, logic_at}
 use Rattle.dft_cycle.proofs.MachineLemmas.{circuit_rises, clear_kept, ready_kept, unknown_all, refilled, filled, one_among, same_ports}
 use Rattle.dft_cycle.proofs.DomainLemmas.{ready_view}
@@ -31,12 +29,12 @@ invariant_of-result c =
     let L : Ports → Logic = logic_of n in
     let nets : length x.ops ≡ length n.nets = is.nets in
     let count = c.net_count-nets.ensures.count in
-    let cells = c.len-count.ensures ∙ x.flops.ok.0 in
+    let cells = c.cell_count-count.ensures in
     let down : length pulsed.items ≡ length n.nets = ap length c.in_ok-pulsed.ensures ∙ length-replicate _ _ ∙ count in
     let marks : length (with_items pulsed c.flag_clocks.new.flags).items ≡ length n.nets = refilled pulsed c.flag_clocks.new.flags ∙ down in
     record {
       compiled = ap L (sym (same_ports c.deref.result.now clocks same)) ∙ is.compiled;
-      rests = λ none. circuit_rises x (sym (ap (λ (l : List FlipFlop). list_any (λ flop. flop.falling) l) c.deref-3.ensures.value) ∙ sym c.has_falling-falls.ensures ∙ none);
+      rests = λ none. circuit_rises x (sym c.can_fall-falls.ensures ∙ none);
       owned = λ k e high source h. one_among clocks e (sym (same e) ∙ is.clocked k e high source h);
       live = λ place clock at.
           (let S : List NetId → Type 0 = λ l. slice_get l place ≡ Some clock in

@@ -8,7 +8,6 @@ use Rattle.dft_evaluator.proofs.evaluator.Evaluator.prepare.Goals as goal
 
 pub invariant_of-result : goal.invariant_of-result
 invariant_of-result c = record {
-  circuit = c.in_ok-circuit.ensures.circuit;
   nets = ap length c.in_ok-values.ensures ∙ length-replicate _ unknown_wide ∙ c.net_count.ensures.count ∙ sym c.in_ok-circuit.ensures.nets;
   wides = subst (λ (ws : List Wide). AreWides ws) (sym c.in_ok-values.ensures) (blank_whole _);
 }
