@@ -130,14 +130,7 @@ fn keep_rises(play: Play<'_>, held: &Cells, wides: &[Wide], live: &mut Wide)
     let plan = play.plan;
     let circuit = play.circuit;
     if !plan.steady {
-        keep_steady(
-            &circuit.flops,
-            true,
-            &plan.pulsed,
-            &plan.rises,
-            wides,
-            live,
-        );
+        keep_steady(&circuit.flops, true, &plan.pulsed, &plan.rises, wides, live);
     }
 }
 
@@ -221,13 +214,7 @@ fn fall_with(play: Play<'_>, known: bool, wides: &[Wide], cells: &mut Cells, liv
 {
     let circuit = play.circuit;
     keep_falls(play, known, cells, wides, live);
-    take(
-        &circuit.flops,
-        &play.plan.falling,
-        play.ports,
-        wides,
-        cells,
-    );
+    take(&circuit.flops, &play.plan.falling, play.ports, wides, cells);
 }
 
 // The falls of a pulse.

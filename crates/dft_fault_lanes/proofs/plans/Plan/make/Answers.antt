@@ -23,11 +23,11 @@ read_pulses-requires c = ap length c.deref_mut-2.ensures.value ∙ c.requires.ro
 pub flag_pulses-requires-clause-nets : goal.flag_pulses-requires-clause-nets
 flag_pulses-requires-clause-nets c = subst (λ (n : ℕ). AreSignals n c.args.nets.now) (sym (ap length c.deref_mut-3.ensures.value ∙ c.requires.room.pulsed)) c.requires.nets
 
-pub show_all-requires-clause-shown : goal.show_all-requires-clause-shown
-show_all-requires-clause-shown c = ap length c.deref_mut-4.ensures.value ∙ c.requires.room.rises
+pub show_all-requires : goal.show_all-requires
+show_all-requires c = record { shown = ap length c.deref_mut-4.ensures.value ∙ c.requires.room.rises }
 
-pub show_all-requires-2-clause-shown : goal.show_all-requires-2-clause-shown
-show_all-requires-2-clause-shown c = ap length c.deref_mut-5.ensures.value ∙ c.requires.room.falls
+pub show_all-requires-2 : goal.show_all-requires-2
+show_all-requires-2 c = record { shown = ap length c.deref_mut-5.ensures.value ∙ c.requires.room.falls }
 
 pub list_needs-self-requires-clause-marked : goal.list_needs-self-requires-clause-marked
 list_needs-self-requires-clause-marked c = ap length c.deref_mut-7.ensures.value ∙ refilled c.args.self.now.marked c.lower_unless.new.marked ∙ c.requires.room.marked
