@@ -97,9 +97,16 @@ fn patterns_of_one_capture_and_two_pass(rt: HostRuntime) -> Result<(), Fail> {
     Ok(())
 }
 
-// Whether a compilation under a configuration of this head is refused with this line.
-fn is_refused(alloc: Global, head: &str, cubes: &str, line: &str) -> Result<(), Unlike> {
-    let held = [("n", FIVE, ""), ("c", head, PAIR), ("p", cubes, "")];
+// Whether a compilation of a netlist under a configuration, by its head and its rest, is refused with this line.
+fn is_refused(
+    alloc: Global,
+    netlist: &str,
+    config: (&str, &str),
+    cubes: &str,
+    line: &str,
+) -> Result<(), Unlike> {
+    let (head, rest) = config;
+    let held = [("n", netlist, ""), ("c", head, rest), ("p", cubes, "")];
     let mut files = shelf(alloc, &held, None)?;
     prints(alloc, COMPILE, &mut files, Status::Refused, line)?;
     holds(alloc, &files, "o", "-", "")
@@ -110,7 +117,7 @@ fn a_cube_too_many_is_told(rt: HostRuntime) -> Result<(), Fail> {
     let mut cubes = String::new(rt.alloc());
     push_cubes(rt.alloc(), &mut cubes, 65_537, "clk\n", "clk\n")?;
     let line = "refused Q9 131073:1\n";
-    is_refused(rt.alloc(), OPEN_ONE, cubes.as_str(), line)?;
+    is_refused(rt.alloc(), FIVE, (OPEN_ONE, PAIR), cubes.as_str(), line)?;
     Ok(())
 }
 
@@ -121,6 +128,6 @@ static LONGEST: &str = "version = 1\ndomains = ['clk']\nwarm = 4093\nwindow = 1\
 fn patterns_past_their_room_are_told(rt: HostRuntime) -> Result<(), Fail> {
     let cubes = opposites(rt.alloc(), 1_985)?;
     let line = "refused P6 268554353\n";
-    is_refused(rt.alloc(), LONGEST, cubes.as_str(), line)?;
+    is_refused(rt.alloc(), FIVE, (LONGEST, PAIR), cubes.as_str(), line)?;
     Ok(())
 }
