@@ -1,7 +1,6 @@
 -- What the machine's calls do, from what they do to its lists.
-use Rattle.std.proofs.Common.{ℕ, zero, suc, Bool, not, true, false, List, [], ◌∷◌, ◌≡◌, ◌<◌, ◌≤◌, ◌+◌, ◌==◌, ◌||◌, ◌&&◌, inl, inr, Option, None, Some, is_none, length, map, drop, drop-cons, add-one, ◌≢◌, refl, sym, ap, ◌∙◌, subst, get_or, slice_set, get_or-set_same, get_or-set_other, arith, ◌⊎◌, slice_get}
-use Rattle.std.specs.Prelude.{if◌then◌else◌, replicate, slice_index_or}
-use Rattle.std.specs.List.{list_any}
+use Rattle.std.proofs.Common.{ℕ, zero, suc, Bool, not, true, false, List, [], ◌∷◌, ◌++◌, ◌≡◌, ◌<◌, ◌≤◌, ◌+◌, ◌==◌, ◌||◌, ◌&&◌, inl, inr, Option, None, Some, is_none, length, map, drop, drop-cons, add-one, ◌≢◌, refl, sym, ap, ◌∙◌, subst, get_or, slice_set, get_or-set_same, get_or-set_other, arith, ◌⊎◌, slice_get}
+use Rattle.std.specs.Prelude.{if◌then◌else◌, replicate}
 use Rattle.std.proofs.lemmas.Bool.Decides.{leb_tells, eqb_tells}
 use Rattle.std.specs.Global.{Vec}
 use Rattle.std.specs.Vec.{with_items}
@@ -11,14 +10,14 @@ use Rattle.dft_base.specs.declared.tri.Tri.TheVariants.{Unknown}
 use Rattle.dft_base.proofs.BitLemmas.{or_later}
 use Rattle.dft_netlist.specs.declared.ids.NetId.{NetId}
 use Rattle.dft_netlist.specs.Drivers.{Source}
-use Rattle.dft_netlist.specs.Logic.{Logic, Cell, Force, IsRising, no_cell}
+use Rattle.dft_netlist.specs.Logic.{Logic, Cell, Force}
 use Rattle.dft_netlist.specs.Settled.{TriSources, value_from, IsTriSettled}
 use Rattle.dft_netlist.specs.Runs.{takes}
 use Rattle.dft_logic.specs.declared.circuit.FlipFlop.{FlipFlop}
 use Rattle.dft_abstract.specs.Cycle.{Pulse, Half, tri_forced_by, tri_taken_by, next_value, falls_after, changes, AreViews, after_pulse, IsLeast}
 use Rattle.dft_cycle.specs.Machine.{Machine, value_at, is_one_of, ports_of, logic, acted, IsSet, at_strobe, IsStrobed, pulses, phase_from, pulse_from, IsPhase, IsPulsed}
 use Rattle.dft_logic.specs.Circuit.{Circuit, IsReady, logic_at, cell_of, cell_at, flag_at, base_of, leaves_from, IsCircuit}
-use Rattle.dft_cycle.specs.Views.{Rises, rank_of, Among, AreNext}
+use Rattle.dft_cycle.specs.Views.{AreFalling, Rises, rank_of, Among, AreNext}
 use Rattle.std.proofs.lemmas.Option.{slice_get-get_or}
 use Rattle.dft_registers.specs.declared.moves.Move.{Move}
 use Rattle.dft_registers.specs.Cells.{Contents, course}
@@ -199,22 +198,6 @@ pulsed_of m mid after pulsed rise fall =
       cells = all.1;
     }
 
--- no flip-flop of the list falls
-rises_in : (flops : List FlipFlop) (c d : ℕ) → list_any (λ flop. flop.falling) flops ≡ false → (slice_index_or (map cell_of flops) c (no_cell d)).falling ≡ false
-rises_in [] c d none = refl
-rises_in (f ∷ flops) zero d none = first f.falling (list_any (λ flop. flop.falling) flops) none where
-  first : (a b : Bool) → (a || b) ≡ false → a ≡ false
-  first false b h = refl
-  first true b h = absurd cc
-rises_in (f ∷ flops) (suc c) d none = rises_in flops c d (rest f.falling (list_any (λ flop. flop.falling) flops) none) where
-  rest : (a b : Bool) → (a || b) ≡ false → b ≡ false
-  rest false b h = h
-  rest true b h = absurd cc
-
-pub circuit_rises : (x : Circuit) → list_any (λ flop. flop.falling) x.flops ≡ false → IsRising (logic_at x)
-unfolding logic_at
-circuit_rises x none c = rises_in x.flops c c none
-
 -- ---- the clocks that pulse
 
 -- an entry that is 1 is one of the clocks
@@ -277,39 +260,39 @@ pulses_live clocks pulsed e count live up =
     let among = pulses_among clocks pulsed e up in
     subst (λ (n : ℕ). n < count) among.here (live among.place _ (slice_get-get_or clocks among.place (record { 0 = 0 }) among.before))
 
--- what holds of each domain that pulses
-pub pulses_step : (P : ℕ → Type 0) (clocks : List NetId) (pulsed : List Bool) (j e : ℕ) → j < length clocks → j < length pulsed → (get_or pulsed j false ≡ true → P (get_or clocks j (record { 0 = 0 })).0) →
-    P e ⊎ (pulses (drop j clocks) (drop j pulsed) e ≡ true) → P e ⊎ (pulses (drop (j + 1) clocks) (drop (j + 1) pulsed) e ≡ true)
-pulses_step P clocks pulsed j e a b here (inl found) = inl found
-pulses_step P clocks pulsed j e a b here (inr up) =
-    let at : ℕ = (get_or clocks j (record { 0 = 0 })).0 in
-    let rest : Bool = pulses (drop (j + 1) clocks) (drop (j + 1) pulsed) e in
-    let whole : ((get_or pulsed j false && (at == e)) || rest) ≡ true = sym (pulses_front clocks pulsed j e a b) ∙ up in
-    elim (eqb_tells at e) [
-      | inl q ↦ elim (hit (get_or pulsed j false) (at == e) rest q.0 whole) [
-        | inl first ↦ inl (subst P q.1 (here first))
-        | inr later ↦ inr later
-      ]
-      | inr q ↦ inr (miss (get_or pulsed j false) (at == e) rest q.0 whole)
-    ] where
-      hit : (b t r : Bool) → t ≡ true → ((b && t) || r) ≡ true → (b ≡ true) ⊎ (r ≡ true)
-      hit true true r h u = inl refl
-      hit false true r h u = inr u
-      hit true false r h u = absurd cc
-      hit false false r h u = absurd cc
+-- what holds of a clock whose entry is 1, and of no other
+pub pulses_by : (P : ℕ → Type 0) (clocks : List NetId) (pulsed : List Bool) (e : ℕ) → pulses clocks pulsed e ≡ true → ((place : ℕ) → place < length clocks → flag_at pulsed place ≡ true → P (get_or clocks place (record { 0 = 0 })).0) → P e
+pulses_by P [] pulsed e up each = absurd cc
+pulses_by P (clock ∷ clocks) [] e up each = absurd cc
+pulses_by P (clock ∷ clocks) (b ∷ pulsed) e up each = elim (eqb_tells clock.0 e) [
+  | inl q ↦ elim (hit b (clock.0 == e) (pulses clocks pulsed e) q.0 up) [
+    | inl first ↦ subst P q.1 (each 0 (omega arith) first)
+    | inr later ↦ pulses_by P clocks pulsed e later (λ place less. each (suc place) (omega (arith, less)))
+  ]
+  | inr q ↦ pulses_by P clocks pulsed e (miss b (clock.0 == e) (pulses clocks pulsed e) q.0 up) (λ place less. each (suc place) (omega (arith, less)))
+] where
+  hit : (b t r : Bool) → t ≡ true → ((b && t) || r) ≡ true → (b ≡ true) ⊎ (r ≡ true)
+  hit true true r h u = inl refl
+  hit false true r h u = inr u
+  hit true false r h u = absurd cc
+  hit false false r h u = absurd cc
 
-      miss : (b t r : Bool) → t ≡ false → ((b && t) || r) ≡ true → r ≡ true
-      miss true false r h u = u
-      miss false false r h u = u
-      miss true true r h u = absurd cc
-      miss false true r h u = absurd cc
+  miss : (b t r : Bool) → t ≡ false → ((b && t) || r) ≡ true → r ≡ true
+  miss true false r h u = u
+  miss false false r h u = u
+  miss true true r h u = absurd cc
+  miss false true r h u = absurd cc
 
-pub pulses_over : (P : ℕ → Type 0) (clocks : List NetId) (pulsed : List Bool) (j e : ℕ) → length pulsed ≤ j → P e ⊎ (pulses (drop j clocks) (drop j pulsed) e ≡ true) → P e
-pulses_over P clocks pulsed j e past (inl found) = found
-pulses_over P clocks pulsed j e past (inr up) = (let q = ap (λ (l : List Bool). pulses (drop j clocks) l e) (drop_all j pulsed past) in let n = no_flags (drop j clocks) e in absurd (cc)) where
-  no_flags : (clocks : List NetId) (e : ℕ) → pulses clocks [] e ≡ false
-  no_flags [] e = refl
-  no_flags (clock ∷ clocks) e = refl
+-- where no entry of the clocks that pulse may fall, their domains take their bits at rises
+pub pulsed_rise : (x : Circuit) (clocks : List NetId) (falls pulsed : List Bool) (e : ℕ) → AreFalling x clocks falls → ((place : ℕ) → flag_at pulsed place ≡ true → flag_at falls place ≡ false) → pulses clocks pulsed e ≡ true → Rises x e
+pulsed_rise x clocks falls pulsed e a off up = pulses_by (Rises x) clocks pulsed e up (λ place less at. a.rest place less (off place at))
+
+-- what holds of each entry, with one more
+pub each_more : (P : ℕ → Bool → Type 0) (flags : List Bool) (b : Bool) → P (length flags) b → ((k : ℕ) → k < length flags → P k (flag_at flags k)) → (k : ℕ) → k < length (flags ++ b ∷ []) → P k (flag_at (flags ++ b ∷ []) k)
+each_more P [] b here each zero less = here
+each_more P [] b here each (suc k) less = absurd (omega (arith, less))
+each_more P (f ∷ flags) b here each zero less = each 0 (omega arith)
+each_more P (f ∷ flags) b here each (suc k) less = each_more (λ j. P (suc j)) flags b here (λ j le. each (suc j) (omega (arith, le))) k (omega (arith, less))
 
 -- where the cells of all domains that pulse take their bits at rises, none changes in the falls
 pub domains_rest : (x : Circuit) (p : Pulse) → IsCircuit x → p.rising ≡ false → ((e : ℕ) → p.pulsed e ≡ true → e < length x.ops) → ((e : ℕ) → p.pulsed e ≡ true → Rises x e) → (c : ℕ) → changes (logic_at x) p c ≡ false

@@ -1,11 +1,10 @@
 -- What an `AbstractMachine` shows, and what holds of it.
-use Rattle.std.specs.Prelude.{ℕ, true, false, ◌≡◌, ◌<◌, Some, length, slice_get}
+use Rattle.std.specs.Prelude.{ℕ, true, ◌≡◌, ◌<◌, Some, length, slice_get}
 use Rattle.dft_netlist.specs.declared.ids.NetId.{NetId}
-use Rattle.dft_netlist.specs.Logic.{IsRising}
 use Rattle.dft_cycle.specs.declared.machine.AbstractMachine.TheInside.{Inside}
 use Rattle.dft_cycle.specs.Machine.{Machine, logic, is_one_of, value_at}
 use Rattle.dft_logic.specs.Circuit.{logic_at, flag_at}
-use Rattle.dft_cycle.specs.Views.{OwnsLatches, IsRoom}
+use Rattle.dft_cycle.specs.Views.{AreFalling, OwnsLatches, IsRoom}
 use Rattle.dft_cycle.specs.Plans.{ArePlans, LooseAreUnknown}
 use Rattle.dft_cycle.specs.Looks.{AreLooks}
 
@@ -15,8 +14,7 @@ machine_of d = record { netlist = d.design.now; clocks = d.clocks.items; inputs 
 -- the circuit is the design's, and each list has a place for each net or instance
 pub record IsMachine (d : Inside) : Type 0 where
   pub compiled : logic (machine_of d) ≡ logic_at d.circuit
-  -- where no flip-flop falls they all take their bits at rises
-  pub rests : d.falls ≡ false → IsRising (logic_at d.circuit)
+  pub falling : AreFalling d.circuit d.clocks.items d.falls.items
   pub owned : OwnsLatches d.circuit d.clocks.items
   pub live : (place : ℕ) (clock : NetId) → slice_get d.clocks.items place ≡ Some clock → clock.0 < length d.pulsed.items
   pub nets : length d.circuit.ops ≡ length d.design.now.nets

@@ -1,5 +1,5 @@
 -- How the views of a pulse are found: lock-ups by rounds, then next values.
-use Rattle.std.specs.Prelude.{map, ℕ, Bool, true, false, ◌≡◌, ◌<◌, ◌==◌, List, Option, None, Some, length, slice_index_or, if◌then◌else◌}
+use Rattle.std.specs.Prelude.{map, ℕ, Bool, true, false, ◌≡◌, ◌<◌, ◌==◌, List, Option, None, Some, get_or, length, slice_index_or, if◌then◌else◌}
 use Rattle.dft_base.specs.declared.tri.Tri.{Tri}
 use Rattle.dft_base.specs.declared.tri.Tri.TheVariants.{Zero, One, Unknown}
 use Rattle.dft_base.specs.Tri.{join, AboveTri}
@@ -93,6 +93,11 @@ pub record IsRoom (x : Circuit) (room : Room) : Type 0 where
 -- each cell of the domain takes its bit at a rise
 abbrev pub Rises : Circuit → (domain : ℕ) → Type 0
 Rises x e = (c : ℕ) → Has (list_at x.cells e) c → (cell_at (map cell_of x.flops) c).falling ≡ false
+
+-- for each clock whether a cell of its domain may not
+pub record AreFalling (x : Circuit) (clocks : List NetId) (falls : List Bool) : Type 0 where
+  pub count : length falls ≡ length clocks
+  pub rest : (place : ℕ) → place < length clocks → flag_at falls place ≡ false → Rises x (get_or clocks place (record { 0 = 0 })).0
 
 -- one domain pulses at most, and there is no lock-up
 pub record IsAlone (l : Logic) (pulsed : ℕ → Bool) : Type 0 where

@@ -3,11 +3,10 @@
 ghost use Rattle.std.specs.Prelude.{◌≡◌, ◌&&◌, ℕ, ◌<◌, length, map, replicate, true, false, Some, None, slice_get, IfOk, if◌then◌else◌};
 ghost use Rattle.dft_cycle.specs.Machine.{logic, AreNets, is_one_of, IsStart, IsSet, IsStrobed, IsPhase, IsPulsed, pulses, acted};
 ghost use Rattle.dft_cycle.specs.Machine as spec;
-ghost use Rattle.dft_cycle.specs.Views.{Rises, IsRoom};
+ghost use Rattle.dft_cycle.specs.Views.{AreFalling, Rises, IsRoom};
 ghost use Rattle.dft_cycle.specs.Looks.{AreLooks};
 ghost use Rattle.dft_cycle.specs.Plans.{ArePlans};
 ghost use Rattle.dft_registers.specs.Layout.{Layout};
-ghost use Rattle.std.specs.List.{list_any};
 ghost use Rattle.dft_netlist.specs.Runs.{takes};
 ghost use Rattle.dft_logic.specs.Needs.{AreSeen};
 ghost use Rattle.dft_logic.specs.Circuit.{cell_of, cell_at, force_at, flag_at as is_up};
@@ -35,7 +34,8 @@ pub struct AbstractMachine<'a> {
     design: &'a Design,
     clocks: Vec<NetId>,
     circuit: Circuit,
-    falls: bool,
+    // For each clock whether a cell of its domain takes its bit at a fall.
+    falls: Vec<bool>,
     inputs: Vec<Tri>,
     cells: Cells,
     shown: Vec<Tri>,
@@ -74,12 +74,11 @@ impl<'a> AbstractMachine<'a> {
         let circuit = compile(alloc, design, &pulsed)?;
         let clocks = Vec::from_slice(alloc, clocks)?;
         let lists = make_lists(alloc, &circuit, &clocks, nets)?;
-        let falls = can_fall(&circuit);
         Ok(AbstractMachine {
             design,
             clocks,
             circuit,
-            falls,
+            falls: lists.falls,
             inputs: lists.inputs,
             cells: lists.cells,
             shown: lists.shown,
@@ -228,10 +227,7 @@ impl<'a> AbstractMachine<'a> {
     {
         let circuit = &self.circuit;
         circuit.soundness();
-        if !self.falls {
-            return;
-        }
-        if some_fall(circuit, &self.clocks, pulsed) {
+        if some_fall(&self.falls, pulsed) {
             self.phase(false, pulsed);
         }
     }
@@ -326,25 +322,11 @@ fn mark(clocks: &[NetId], pulsed: &[bool], flags: &mut [bool])
     }
 }
 
-// Whether a flip-flop takes its bit at a fall.
-fn has_falling(flops: &[FlipFlop]) -> bool
-    ensures { result ≡ list_any (λ flop. flop.falling) flops.now }
-{
-    flops.iter().any(|flop| flop.falling)
-}
-
 // How many instances it has cells for.
 fn cell_count(circuit: &Circuit) -> usize
     ensures { result ≡ length circuit.now.flops }
 {
     circuit.flops.len()
-}
-
-// Whether one of its cells takes its bit at a fall.
-fn can_fall(circuit: &Circuit) -> bool
-    ensures { result ≡ list_any (λ flop. flop.falling) circuit.now.flops }
-{
-    has_falling(&circuit.flops)
 }
 
 // Whether the cell of an instance takes its bit at a fall.
@@ -370,20 +352,28 @@ fn falls_in(circuit: &Circuit, domain: NetId) -> bool
     false
 }
 
-// Whether a cell of a domain does, if the domain pulses.
-fn falls_at(circuit: &Circuit, up: bool, domain: NetId) -> bool
-    ensures { result ≡ false → up ≡ true → Rises circuit.now domain.0 }
+// For each clock whether a cell of its domain does.
+fn falling_clocks(
+    alloc: Global,
+    circuit: &Circuit,
+    clocks: &[NetId],
+) -> Result<Vec<bool>, AllocError>
+    ensures { IfOk result (λ falls. AreFalling circuit.now clocks.now falls.items) }
 {
-    up && falls_in(circuit, domain)
+    let mut falls = Vec::with_capacity(alloc, clocks.len())?;
+    for clock in clocks {
+        falls.push(falls_in(circuit, *clock))?;
+    }
+    Ok(falls)
 }
 
-// Whether a cell of a domain that pulses does.
-fn some_fall(circuit: &Circuit, clocks: &[NetId], pulsed: &[bool]) -> bool
-    requires { length pulsed.now ≡ length clocks.now }
-    ensures { result ≡ false → (e : ℕ) → pulses clocks.now pulsed.now e ≡ true → Rises circuit.now e }
+// Whether one of these clocks pulses.
+fn some_fall(falls: &[bool], pulsed: &[bool]) -> bool
+    requires { length pulsed.now ≡ length falls.now }
+    ensures { result ≡ false → (place : ℕ) → is_up pulsed.now place ≡ true → is_up falls.now place ≡ false }
 {
     for (place, up) in pulsed.iter().enumerate() {
-        if falls_at(circuit, *up, clocks[place]) {
+        if *up && falls[place] {
             return true;
         }
     }
@@ -411,10 +401,11 @@ fn taken(up: bool, next: Tri, old: Tri) -> Tri
     if up { next } else { old }
 }
 
-// What a machine keeps beside its circuit: the values of input ports, those of nets at the last strobe, those of cells, and what it
+// What a machine keeps beside its circuit: which clocks have cells that fall, the values of input ports, those of nets at the last strobe, those of cells, and what it
 // works with.
 #[derive(Drop)]
 struct Lists {
+    falls: Vec<bool>,
     inputs: Vec<Tri>,
     shown: Vec<Tri>,
     cells: Cells,
@@ -431,6 +422,7 @@ fn make_lists(
     nets: usize,
 ) -> Result<Lists, AllocError>
     requires { length circuit.now.ops ≡ nets }
+    ensures falls { IfOk result (λ lists. AreFalling circuit.now clocks.now lists.falls.items) }
     ensures inputs { IfOk result (λ lists. lists.inputs.items ≡ replicate nets Tri.Unknown) }
     ensures shown { IfOk result (λ lists. lists.shown.items ≡ replicate nets Tri.Unknown) }
     ensures cells { IfOk result (λ lists. lists.cells.values ≡ replicate (length circuit.now.flops) Tri.Unknown) }
@@ -438,6 +430,7 @@ fn make_lists(
     ensures looks { IfOk result (λ lists. AreLooks circuit.now lists.looks) }
     ensures plans { IfOk result (λ lists. (l : Layout) → ArePlans circuit.now clocks.now l lists.plans) }
 {
+    let falls = falling_clocks(alloc, circuit, clocks)?;
     let inputs = unknown(alloc, nets)?;
     let shown = unknown(alloc, nets)?;
     let cells = lay_out(alloc, circuit)?;
@@ -453,6 +446,7 @@ fn make_lists(
     };
     settle(circuit, &strobe_view(pulse), &mut room.values);
     Ok(Lists {
+        falls,
         inputs,
         shown,
         cells,

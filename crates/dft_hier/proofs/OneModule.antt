@@ -1,5 +1,5 @@
 -- A text of one module gives the design that it stands for alone, and what a text gives is over the cells that it was read over.
-use Rattle.std.proofs.Common.{◌≡◌, ℕ, zero, suc, ◌+◌, Bool, true, false, not, ◌||◌, cond, List, [], ◌∷◌, ◌++◌, length, map, drop, find, get_or, slice_get, Option, Some, None, option_map, Ok, Err, refl, sym, ap, ap₂, ◌∙◌, subst, arith, length-append, append-nil}
+use Rattle.std.proofs.Common.{◌≡◌, ℕ, zero, suc, ◌+◌, Bool, true, false, not, ◌||◌, cond, List, [], ◌∷◌, ◌++◌, length, map, drop, find, get_or, slice_get, Option, Some, None, option_map, Ok, Err, inl, inr, refl, sym, ap, ap₂, ◌∙◌, subst, arith, length-append, append-nil}
 use Rattle.std.specs.List.{list_any}
 use Rattle.std.specs.Str.{bytes_eq}
 use Rattle.std.proofs.lemmas.List.{drop_at, length-map, take_rest}
@@ -10,6 +10,7 @@ use Rattle.dft_cells.specs.declared.cell.Cell.{Cell}
 use Rattle.dft_cells.specs.Cells.{find_cell}
 use Rattle.dft_netlist.specs.declared.ids.NetId.{NetId}
 use Rattle.dft_netlist.specs.declared.error.NetlistError.{NetlistError}
+use Rattle.dft_netlist.specs.declared.error.NetlistError.TheVariants as netlist
 use Rattle.dft_netlist.specs.declared.instance.Signal.{Signal}
 use Rattle.dft_netlist.specs.declared.instance.Signal.TheVariants as signal
 use Rattle.dft_netlist.specs.declared.instance.Instance.{Instance}
@@ -30,14 +31,18 @@ use Rattle.dft_modules.specs.Laws.{AreNew}
 use Rattle.dft_modules.specs.Modules.{Module}
 use Rattle.dft_modules.specs.ModuleTexts.{module_said, port_said, ports_said, names_in_order, signal_by, join_said, cell_said}
 use Rattle.dft_verilog_draft.proofs.DeclareLemmas.{length-bit_names}
+use Rattle.dft_modules.specs.ModuleTexts.{modules_of}
+use Rattle.dft_verilog.specs.Built.{CannotBuild, IsBuilt, IsRefusedAs}
+use Rattle.dft_verilog.specs.TextsSaid.{IsAlone}
 use Rattle.dft_verilog.proofs.KeptModuleLemmas.{said_are_modules}
 use Rattle.dft_verilog.proofs.LoneModuleLemmas.{lone, says_lone}
 use Rattle.dft_verilog.proofs.SaidPartLemmas.{names_of_all}
 use Rattle.dft_hier.specs.Hierarchy.{subs_of, all_subs, find_module, has_instance_of}
 use Rattle.dft_hier.specs.Flat.{Giving, Parts, add_ports, add_instances, add_parts, flat_netlist, flat_parts, item_parts, moved, moved_instance, parts_within}
-use Rattle.dft_hier.specs.Laws.{GivenAreOver, OneModuleGives}
+use Rattle.dft_hier.specs.Laid.{told_of}
+use Rattle.dft_hier.specs.Laws.{GivenAreOver, Gives, OneModuleGives}
 use Rattle.dft_hier.specs.Moving.{with_joins}
-use Rattle.dft_hier.specs.Refusals.{IsBelow, Within as BelowWithin, Deeper as BelowDeeper, IsJoinable, first_misfit}
+use Rattle.dft_hier.specs.Refusals.{IsBelow, Within as BelowWithin, Deeper as BelowDeeper, IsJoinable, IsFlatRefused, Part as FlatPart, Whole as FlatWhole, CannotFlatten, first_misfit}
 use Rattle.dft_hier.proofs.FlattenLemmas.{map_same, ports_nets}
 use Rattle.dft_hier.proofs.OneForOne.{top_there}
 
@@ -289,19 +294,39 @@ given_are_over library text design gives =
 built_named : (t : Text) (d : Draft) (n : Netlist) → built d ≡ Ok n → n.name ≡ d.name
 built_named t d n is = (flat_same (alone t d ∷ []) d.library (alone t d) n (alone_built t d d.library refl ∙ is)).0
 
+-- a text of one module alone says that module
+pub alone_says : (library : List Cell) (text : Text) (d : Draft) → IsAlone library text d → modules_of library text ≡ Ok (alone text d ∷ [])
+alone_says library text d a = (says_lone library text d a.said a.named).modules
+
+-- what is built of it is the flat design
+pub alone_gives : (library : List Cell) (text : Text) (d : Draft) (design : Netlist) → IsAlone library text d → IsBuilt d design → Gives library text design
+alone_gives library text d design a b = record {
+  modules = alone text d ∷ [];
+  said = alone_says library text d a;
+  flat = record {
+    top = alone text d;
+    joinable = alone_joinable (alone text d) (alone_subs text d);
+    grown = b.grown;
+    parts = alone_built text d library a.library_is ∙ b.parts;
+    finished = b.finished;
+  };
+}
+
+-- and what cannot be built has none
+flat_refused : (library : List Cell) (text : Text) (d : Draft) (why : NetlistError) → IsAlone library text d → IsRefusedAs d why → IsFlatRefused (alone text d ∷ []) library why
+flat_refused library text d why a (inl refused) = FlatPart (alone_joinable (alone text d) (alone_subs text d)) (alone_built text d library a.library_is ∙ refused)
+flat_refused library text d why a (inr h) = FlatWhole (alone_joinable (alone text d) (alone_subs text d)) (alone_built text d library a.library_is ∙ h.1) h.2
+
+pub alone_refused : (library : List Cell) (text : Text) (d : Draft) (why : NetlistError) → IsAlone library text d → CannotBuild d why → CannotFlatten (alone text d ∷ []) library (told_of why)
+alone_refused library text d (netlist.MultipleDrivers net) a h = flat_refused library text d (netlist.MultipleDrivers net) a h
+alone_refused library text d (netlist.Loop net) a h = flat_refused library text d (netlist.Loop net) a h
+alone_refused library text d (netlist.DuplicateName name) a h = flat_refused library text d (netlist.DuplicateName name) a h
+alone_refused library text d (netlist.TooMany what limit) a h = flat_refused library text d (netlist.TooMany what limit) a h
+alone_refused library text d (netlist.Memory error) a h = tt
+
 pub one_module_gives : OneModuleGives
 one_module_gives library text design stands none =
     let d : Draft = stands.draft in
     let named : design.name ≡ d.name = ap (λ (n : Netlist). n.name) stands.finished.same ∙ built_named text d stands.grown stands.parts in
-    let says = says_lone library text d stands.said (ap (find_cell library) (sym named) ∙ none) in
-    record {
-      modules = alone text d ∷ [];
-      said = says.modules;
-      flat = record {
-        top = alone text d;
-        joinable = alone_joinable (alone text d) (alone_subs text d);
-        grown = stands.grown;
-        parts = alone_built text d library says.library_is ∙ stands.parts;
-        finished = stands.finished;
-      };
-    }
+    let new : find_cell library d.name ≡ None = ap (find_cell library) (sym named) ∙ none in
+    alone_gives library text d design (record { said = stands.said; named = new; library_is = (says_lone library text d stands.said new).library_is }) (record { grown = stands.grown; parts = stands.parts; finished = stands.finished })

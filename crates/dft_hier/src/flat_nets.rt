@@ -36,6 +36,9 @@ pub fn prefixed(alloc: Global, prefix: &[u8], name: &Name) -> Result<Name, Alloc
     requires { IsPrefix prefix.now }
     ensures { IfOk result (λ whole. whole ≡ prefix.now ++ name.now) }
 {
+    if prefix.is_empty() {
+        return name.copy(alloc);
+    }
     let mut bytes = Vec::from_slice(alloc, prefix)?;
     bytes.extend_from_slice(name.as_slice())?;
     Name::from_slice(alloc, &bytes)

@@ -153,8 +153,8 @@ fn built(
     Ok(builder)
 }
 
-// How a refusal of the flat netlist is told.
-fn told(error: NetlistError) -> HierError
+/// How a refusal of the flat netlist is told.
+pub fn told(error: NetlistError) -> HierError
     ensures { result ≡ told_of error }
 {
     match error {

@@ -2,3 +2,4 @@ pub mod NetlistRefusals
 pub mod Refused
 pub mod JoinedModules
 pub mod JoinedDesigns
+pub mod ReadLemmas

@@ -1,7 +1,9 @@
 ghost use Rattle.std.specs.Prelude.{◌≡◌};
+ghost use Rattle.dft_hier.specs.Laid.{told_of};
 ghost use Rattle.dft_netlist_reader.specs.declared.error.DesignError.TheVariants.{Modules, Text};
 
-use dft_hier::HierError;
+use dft_hier::{HierError, told};
+use dft_netlist::NetlistError;
 use dft_verilog::ModulesError;
 
 /// Why a netlist text stands for no design.
@@ -26,5 +28,13 @@ impl From<HierError> for DesignError {
 
     fn from(error: HierError) -> DesignError {
         DesignError::Modules(error)
+    }
+}
+
+impl From<NetlistError> for DesignError {
+    ghost from_gives = { λ error gives. gives ≡ Modules (told_of error) };
+
+    fn from(error: NetlistError) -> DesignError {
+        DesignError::Modules(told(error))
     }
 }

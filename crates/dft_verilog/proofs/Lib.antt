@@ -19,3 +19,5 @@ pub mod SaidModuleLemmas
 pub mod SoundModuleLemmas
 pub mod KeptModuleLemmas
 pub mod LoneModuleLemmas
+pub mod AloneLemmas
+pub mod TextLemmas

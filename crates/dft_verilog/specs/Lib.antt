@@ -6,3 +6,4 @@ pub mod Laws
 pub mod Passing
 pub mod SaidParts
 pub mod ModuleRefusals
+pub mod TextsSaid

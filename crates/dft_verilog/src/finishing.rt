@@ -226,9 +226,9 @@ fn built(
     Ok(builder)
 }
 
-// The design of what a module said, of which no part is refused, over its cells. Refused with `MultipleDrivers` for the
-// first net with two drivers, and else with `Loop` where the nets have no order.
-pub(crate) fn finished(
+/// The design of what a module said, of which no part is refused, over its cells, which are given once more. Refused with
+/// `MultipleDrivers` for the first net with two drivers, and else with `Loop` where the nets have no order.
+pub fn finished(
     alloc: Global,
     library: Library,
     draft: ModuleDraft<'_>,

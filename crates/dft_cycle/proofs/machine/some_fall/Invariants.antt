@@ -1,8 +1,7 @@
--- Of the domains that pulse those before this one take their bits at rises.
-use Rattle.std.proofs.Common.{ℕ, true, ◌≡◌, ◌⊎◌, drop}
-use Rattle.dft_cycle.specs.Machine.{pulses}
-use Rattle.dft_cycle.specs.Views.{Rises}
+-- None of the clocks before this one pulses and may fall.
+use Rattle.std.proofs.Common.{ℕ, true, false, ◌≡◌, ◌<◌}
+use Rattle.dft_logic.specs.Circuit.{flag_at}
 use Rattle.dft_cycle.proofs.machine.some_fall.Given as goal
 
 abbrev pub invariant-loop-place : goal.invariant-loop-place
-invariant-loop-place l = (e : ℕ) → pulses l.clocks l.pulsed e ≡ true → Rises l.circuit e ⊎ (pulses (drop l.place l.clocks) (drop l.place l.pulsed) e ≡ true)
+invariant-loop-place l = (place : ℕ) → place < l.place → flag_at l.pulsed place ≡ true → flag_at l.falls place ≡ false

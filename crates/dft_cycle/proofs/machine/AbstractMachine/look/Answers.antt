@@ -15,7 +15,7 @@ invariant_of-self c =
     let d = c.self.inside in
     record {
       compiled = i.compiled;
-      rests = i.rests;
+      falling = i.falling;
       owned = i.owned;
       live = i.live;
       nets = i.nets;
@@ -44,7 +44,7 @@ invariant_of-self-else-not-read c =
     let d = c.self.inside in
     record {
       compiled = i.compiled;
-      rests = i.rests;
+      falling = i.falling;
       owned = i.owned;
       live = i.live;
       nets = i.nets;

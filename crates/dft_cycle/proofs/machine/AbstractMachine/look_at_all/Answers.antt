@@ -18,7 +18,7 @@ invariant_of-self c =
     let d = c.self.inside in
     record {
       compiled = i.compiled;
-      rests = i.rests;
+      falling = i.falling;
       owned = i.owned;
       live = i.live;
       nets = i.nets;

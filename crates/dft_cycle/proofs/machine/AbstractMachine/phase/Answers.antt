@@ -78,7 +78,7 @@ invariant_of-self c =
     c.deref-in-Some.ensures.value row c.deref-in-Some-3.ensures.value c.put_all.ensures.put in
     record {
       compiled = i.compiled;
-      rests = i.rests;
+      falling = i.falling;
       owned = i.owned;
       live = λ place clock at. (let less = i.live place clock at in let e = refilled d.pulsed c.mark.new.flags in omega arith);
       nets = i.nets;
@@ -108,7 +108,7 @@ invariant_of-self-in-None c =
     let d = c.self.inside in
     record {
       compiled = i.compiled;
-      rests = i.rests;
+      falling = i.falling;
       owned = i.owned;
       live = λ place clock at. (let less = i.live place clock at in let e = refilled d.pulsed c.mark.new.flags in omega arith);
       nets = i.nets;

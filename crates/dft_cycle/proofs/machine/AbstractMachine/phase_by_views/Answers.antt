@@ -51,7 +51,7 @@ invariant_of-self c =
     let p : Pulse = record { rising = c.args.rising; ports = value_at c.deref-2.result.now; pulsed = flag_at c.deref-3.result.now; old = value_at d.cells.values } in
     record {
       compiled = i.compiled;
-      rests = i.rests;
+      falling = i.falling;
       owned = i.owned;
       live = λ place clock at. (let less = i.live place clock at in let e = refilled d.pulsed c.mark.new.flags in omega arith);
       nets = i.nets;

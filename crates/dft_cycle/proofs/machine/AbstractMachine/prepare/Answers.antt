@@ -7,8 +7,9 @@ use Rattle.dft_netlist.specs.declared.ids.NetId.{NetId}
 use Rattle.dft_netlist.specs.Logic.{Ports, Logic, logic_of}
 use Rattle.dft_cycle.specs.Machine.{logic, is_one_of, value_at}
 use Rattle.dft_cycle.specs.Plans.{ArePlans}
+use Rattle.dft_cycle.specs.Views.{AreFalling}
 use Rattle.dft_logic.specs.Circuit.{flag_at, logic_at}
-use Rattle.dft_cycle.proofs.MachineLemmas.{circuit_rises, unknown_all, refilled, filled, one_among, same_ports}
+use Rattle.dft_cycle.proofs.MachineLemmas.{unknown_all, refilled, filled, one_among, same_ports}
 use Rattle.dft_cycle.proofs.machine.AbstractMachine.prepare.Goals as goal
 
 pub invariant_of-result : goal.invariant_of-result
@@ -32,7 +33,7 @@ invariant_of-result c =
     let marks : length (with_items pulsed c.flag_clocks.new.flags).items ≡ length n.nets = refilled pulsed c.flag_clocks.new.flags ∙ down in
     record {
       compiled = ap L (sym (same_ports c.deref.result.now clocks same)) ∙ is.compiled;
-      rests = λ none. circuit_rises x (sym c.can_fall-falls.ensures ∙ none);
+      falling = subst (λ (l : List NetId). AreFalling x l c.in_ok-lists.lists.falls.items) c.deref-2.ensures.value c.in_ok-lists.ensures.falls;
       owned = λ k e high source h. one_among clocks e (sym (same e) ∙ is.clocked k e high source h);
       live = λ place clock at.
           (let S : List NetId → Type 0 = λ l. slice_get l place ≡ Some clock in

@@ -17,7 +17,7 @@ invariant_of-self c =
     let cells = c.act.new.cells in
     record {
       compiled = i.compiled;
-      rests = i.rests;
+      falling = i.falling;
       owned = i.owned;
       live = i.live;
       nets = i.nets;

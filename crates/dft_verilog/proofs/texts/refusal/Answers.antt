@@ -5,7 +5,7 @@ use Rattle.dft_modules.specs.declared.fault.ModulesFault.{ModulesFault}
 use Rattle.dft_modules.specs.declared.fault.ModulesFault.TheVariants as fault
 use Rattle.dft_netlist_text.specs.Steps.{refusal}
 use Rattle.dft_verilog.proofs.ModulesLemmas.{refused_in}
-use Rattle.dft_verilog.proofs.modules.refusal.Goals as goal
+use Rattle.dft_verilog.proofs.texts.refusal.Goals as goal
 
 pub returns : goal.returns
 returns c =

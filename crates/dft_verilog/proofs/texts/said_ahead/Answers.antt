@@ -12,13 +12,14 @@ use Rattle.dft_modules.specs.ModuleTexts.{next_module, modules_from}
 use Rattle.dft_verilog_module.specs.SaidModules.{said}
 use Rattle.dft_verilog.proofs.PassingLemmas.{passed_none}
 use Rattle.dft_verilog.proofs.ModulesLemmas.{modules_end, modules_more, reads_none}
-use Rattle.dft_verilog.proofs.modules.modules_ahead.Goals as goal
+use Rattle.dft_verilog.proofs.texts.said_ahead.Goals as goal
 
 pub turns-init : goal.turns-init
 turns-init c = record {
   same = first_of (search rules, grind (arith, common_steps));
   library = first_of (search rules, grind (arith, common_steps));
   passed = passed_none c.args.text.now c.unpassed-passed.result c.unpassed-passed.ensures.bytes c.unpassed-passed.ensures.place;
+  first = λ none. (first_of (search rules, grind (arith, common_steps)), refl);
 }
 
 pub returns-then-sees : goal.returns-then-sees
@@ -32,7 +33,7 @@ returns-then-sees c =
     let before : List Module = c.turns.modules.items in
     let read : next_module library c.turns.names ts ≡ Ok (m, us) = ap (λ (cells : List Cell). next_module cells c.turns.names ts) (sym c.turns.invariant.library) ∙ c.in_ok-said.ensures.read in
     let pushed : c.push.new.self.items ≡ before ++ made ∷ [] = c.in_ok-push.ensures.items in
-    let end : sees kind.End us ≡ true = sym c.sees.ensures.value ∙ c.if-sees.true in
+    let end : sees kind.End us ≡ true = sym c.sees-ended.ensures.value ∙ c.if-ended.true in
     one_more (λ n. modules_from n text library c.turns.names before ts) _ c.turns._turn c.turns-test.true c.turns.invariant.same
     ∙ modules_end _ text library c.turns.names before c.push.new.self.items m made ts us read c.in_ok-made.ensures.said pushed end
 
@@ -58,12 +59,13 @@ turns-preserved c =
     let before : List Module = c.turns.modules.items in
     let read : next_module library c.turns.names ts ≡ Ok (m, us) = ap (λ (cells : List Cell). next_module cells c.turns.names ts) (sym c.turns.invariant.library) ∙ c.in_ok-said.ensures.read in
     let pushed : c.push.new.self.items ≡ before ++ made ∷ [] = c.in_ok-push.ensures.items in
-    let goes : sees kind.End us ≡ false = sym c.sees.ensures.value ∙ c.if-sees.false in
+    let goes : sees kind.End us ≡ false = sym c.sees-ended.ensures.value ∙ c.if-ended.false in
     record {
       same = one_more (λ n. modules_from n text library c.turns.names before ts) _ c.turns._turn c.turns-test.true c.turns.invariant.same
           ∙ modules_more _ text library c.turns.names c.next_module.new.names before c.push.new.self.items m made ts us read c.in_ok-made.ensures.said pushed c.in_ok-said.ensures.names goes;
       library = c.into_library-library.ensures ∙ c.in_ok-said.ensures.library ∙ c.turns.invariant.library;
       passed = c.in_ok-made.ensures.passed;
+      first = λ none. absurd (pushed_some before made (sym pushed ∙ none));
     }
 
 pub returns : goal.returns
