@@ -1,5 +1,5 @@
 -- What one of several modules says without a module instance, it says as a lone module.
-use Rattle.std.proofs.Common.{◌≡◌, ℕ, zero, suc, ◌+◌, ◌≤◌, Bool, true, false, ◌&&◌, ◌||◌, cond, List, [], ◌∷◌, ◌++◌, length, is_some, Option, Some, None, Ok, Err, refl, sym, ap, ap₂, ◌∙◌, subst, arith, length-append}
+use Rattle.std.proofs.Common.{◌≡◌, ℕ, zero, suc, ◌≤◌, Bool, true, false, ◌&&◌, ◌||◌, cond, List, [], ◌∷◌, ◌++◌, length, is_some, Option, Some, None, Ok, Err, refl, sym, ap, ap₂, ◌∙◌, subst, arith, length-append}
 use Rattle.dft_base.specs.Lexing.{Text}
 use Rattle.dft_base.specs.Parser as parser
 use Rattle.dft_cells.specs.declared.cell.Cell.{Cell}
@@ -197,6 +197,11 @@ alone_said library text m us is none end =
     }
 
 -- ---- the first module of a text
+
+-- a list of no length is empty
+pub none_of : {A : Type 0} (xs : List A) → length xs ≡ 0 → xs ≡ []
+none_of [] h = refl
+none_of (x ∷ xs) h = absurd (omega (arith, h))
 
 -- behind others there is one module at least
 pub pushed_some : (before : List Module) (made : Module) → before ++ made ∷ [] ≡ [] → ⊥

@@ -164,11 +164,7 @@ fn lone_module(
 }
 
 // The modules that a text says.
-fn modules_said(
-    alloc: Global,
-    bytes: &[u8],
-    said: TextSaid<'_>,
-) -> Result<Vec<Module>, AllocError>
+fn modules_said(alloc: Global, bytes: &[u8], said: TextSaid<'_>) -> Result<Vec<Module>, AllocError>
     requires { length bytes.now ≤ MAX_TEXT }
     ensures { IfOk result (λ modules. modules.items ≡ modules_in bytes.now said.entry) }
 {
