@@ -1,5 +1,5 @@
 -- What a text stands for, or why it stands for none, by what was read of it.
-use Rattle.std.proofs.Common.{List, ◌≡◌}
+use Rattle.std.proofs.Common.{List}
 use Rattle.dft_base.specs.Lexing.{Text}
 use Rattle.dft_cells.specs.declared.cell.Cell.{Cell}
 use Rattle.dft_netlist.specs.declared.error.NetlistError.{NetlistError}
