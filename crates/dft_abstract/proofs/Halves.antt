@@ -3,6 +3,7 @@ use Rattle.std.proofs.Common.{ℕ, Bool, true, false, ◌&&◌, ◌≡◌, refl,
 use Rattle.std.specs.Prelude.{if◌then◌else◌}
 use Rattle.dft_base.specs.declared.tri.Tri.{Tri}
 use Rattle.dft_base.specs.declared.tri.Tri.TheVariants.{Unknown}
+use Rattle.dft_base.proofs.SumLemmas.{and_false}
 use Rattle.dft_netlist.specs.Logic.{Logic, IsRanked}
 use Rattle.dft_netlist.specs.Runs.{Vector, takes}
 use Rattle.dft_abstract.specs.Cycle.{Pulse, changes, next_value, after_pulse, rise_of, fall_of, Halves, AreHalves, AreClosed, AreLeast, after_halves}
@@ -26,10 +27,6 @@ with_true : (b : Bool) → (b && true) ≡ b
 with_true true = refl
 with_true false = refl
 
-with_false : (b : Bool) → (b && false) ≡ false
-with_false true = refl
-with_false false = refl
-
 by_edge : (l : Logic) (p : Pulse) (c : ℕ) (falling rising : Bool) → (l.cell c).falling ≡ falling → p.rising ≡ rising → changes l p c ≡ (p.pulsed (l.cell c).domain && takes rising falling)
 by_edge l p c falling rising f r = λ t. p.pulsed (l.cell c).domain && takes (r t) (f t)
 
@@ -38,14 +35,14 @@ pub rises_change : (l : Logic) (p : Pulse) (c : ℕ) → (l.cell c).falling ≡ 
 rises_change l p c f r = by_edge l p c false true f r ∙ with_true (p.pulsed (l.cell c).domain)
 
 pub falls_rest : (l : Logic) (p : Pulse) (c : ℕ) → (l.cell c).falling ≡ false → p.rising ≡ false → changes l p c ≡ false
-falls_rest l p c f r = by_edge l p c false false f r ∙ with_false (p.pulsed (l.cell c).domain)
+falls_rest l p c f r = by_edge l p c false false f r ∙ and_false (p.pulsed (l.cell c).domain)
 
 -- a falling one takes its value in the falls
 pub falls_change : (l : Logic) (p : Pulse) (c : ℕ) → (l.cell c).falling ≡ true → p.rising ≡ false → changes l p c ≡ p.pulsed (l.cell c).domain
 falls_change l p c f r = by_edge l p c true false f r ∙ with_true (p.pulsed (l.cell c).domain)
 
 pub rises_rest : (l : Logic) (p : Pulse) (c : ℕ) → (l.cell c).falling ≡ true → p.rising ≡ true → changes l p c ≡ false
-rises_rest l p c f r = by_edge l p c true true f r ∙ with_false (p.pulsed (l.cell c).domain)
+rises_rest l p c f r = by_edge l p c true true f r ∙ and_false (p.pulsed (l.cell c).domain)
 
 -- what takes no value in a phase stays
 pub rests : (l : Logic) (p : Pulse) (view : ℕ → ℕ → Tri) (c : ℕ) → changes l p c ≡ false → after_pulse l p view c ≡ p.old c

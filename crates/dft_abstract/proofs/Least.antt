@@ -55,7 +55,7 @@ views_monotone l rank p high low w u ranked hw lu over d net =
     (λ r ih d c e high source below. shown_monotone p.rising (p.pulsed e) (e == d) high (p.old c) _ _ _ _
     (source_monotone rank r (w d) (u d) source below (λ k less. ih k less d)) (source_monotone rank r (w e) (u e) source below (λ k less. ih k less e))) (suc (rank net)) net (omega arith) d
 
-forced_by_monotone : (f : Option Force) (ports : ℕ → Tri) (t u : Tri) → AboveTri t u → AboveTri (tri_forced_by f ports t) (tri_forced_by f ports u)
+pub forced_by_monotone : (f : Option Force) (ports : ℕ → Tri) (t u : Tri) → AboveTri t u → AboveTri (tri_forced_by f ports t) (tri_forced_by f ports u)
 forced_by_monotone None ports t u h = h
 forced_by_monotone (Some f) ports t u h = forced_monotone f.value (ports f.port) (ports f.port) t u (above_self (ports f.port)) h
 

@@ -1,10 +1,11 @@
 -- The values of a phase stand above the bits after every order of its edges.
-use Rattle.std.proofs.Common.{ℕ, Bool, true, false, not, ◌&&◌, List, [], ◌∷◌, ◌≡◌, ◌<◌, ◌+◌, ◌==◌, ◌⊎◌, inl, inr, zero, suc, refl, sym, ap, subst, arith, Option, None, Some, ◌∙◌, map}
+use Rattle.std.proofs.Common.{ℕ, Bool, true, false, not, ◌&&◌, List, [], ◌∷◌, ◌≡◌, ◌<◌, ◌+◌, ◌==◌, inl, inr, zero, suc, refl, sym, ap, subst, arith, Option, None, Some, ◌∙◌, map}
 use Rattle.std.specs.Prelude.{if◌then◌else◌}
-use Rattle.std.proofs.lemmas.Bool.{eqb-true, eq-eqb, cases_Bool}
+use Rattle.std.proofs.lemmas.Bool.{eqb-true, eq-eqb, cases_Bool, and_from, and_left}
 use Rattle.dft_base.specs.declared.tri.Tri.{Tri}
 use Rattle.dft_base.specs.declared.tri.Tri.TheVariants.{Zero, Unknown}
 use Rattle.dft_base.specs.Tri.{known, Above, AboveTri}
+use Rattle.dft_base.proofs.BitLemmas.{same_or_not, other_bit, first_false}
 use Rattle.dft_cells.proofs.Completions.{above_self, above_trans, join_left, join_right, forced_above, chosen_above, forced_again}
 use Rattle.dft_netlist.specs.Drivers.{Source}
 use Rattle.dft_netlist.specs.Logic.{Logic, Lockup, Cell, Force, Scan, IsRanked}
@@ -39,35 +40,13 @@ pub bit_choice : (b : Bool) (x y : Bool) (t : Tri) → (b ≡ true → Above t x
 bit_choice true x y t p q = p refl
 bit_choice false x y t p q = q refl
 
-two_bits : (a b : Bool) → (a ≡ b) ⊎ (a ≡ not b)
-two_bits true true = inl refl
-two_bits true false = inr refl
-two_bits false true = inr refl
-two_bits false false = inl refl
-
-no_flip : (b : Bool) → b ≡ not b → ⊥
-no_flip true e = cc
-no_flip false e = cc
-
-pub both : (a b : Bool) → a ≡ true → b ≡ true → (a && b) ≡ true
-both true b p q = q
-both false b p q = absurd cc
-
 pub of_both : (a b : Bool) → (a && b) ≡ true → (a ≡ true) × (b ≡ true)
 of_both true b h = (refl, h)
 of_both false b h = absurd cc
 
-not_first : (a b : Bool) → (a && b) ≡ false → b ≡ true → a ≡ false
-not_first true b h is = absurd (let q : true ≡ false = sym is ∙ h in cc)
-not_first false b h is = refl
-
-only_second : (a b : Bool) → a ≡ true → (a && b) ≡ b
+pub only_second : (a b : Bool) → a ≡ true → (a && b) ≡ b
 only_second true b h = refl
 only_second false b h = absurd cc
-
-never : (a b : Bool) → a ≡ false → (a && b) ≡ false
-never false b h = refl
-never true b h = absurd cc
 
 -- ---- what holds after some of the edges of a phase
 
@@ -130,7 +109,7 @@ flop_above l p poss view s closed holds d before c =
     tri_choice (changes l p c) _ _ _
     (λ ch. tri_choice (e == d) _ _ _
     (λ is. holds.others c (λ again. there p s e d before is ∙ coming l p c again))
-    (λ is_not. elim (two_bits (s.high e) p.rising) [
+    (λ is_not. elim (same_or_not (s.high e) p.rising) [
       | inl came ↦ above_trans _ _ _ (closed.next c ch) (holds.moved c ch came)
       | inr comes ↦ above_trans _ _ _ (closed.old c) (holds.others c (λ again. comes))
     ]))
@@ -188,7 +167,7 @@ edge_keeps l p view now d seen before pulsed holds =
     λ e source is. source_all (sources_of now) now.moment.seen (view e) source (λ k. seen e k (there p s e d at is)) in
     let turn : ℕ → Bool = λ c. (l.cell c).domain == d && takes p.rising (l.cell c).falling in
     let takes_it : (c : ℕ) → changes l p c ≡ true → takes p.rising (l.cell c).falling ≡ true = λ c ch. (of_both (p.pulsed (l.cell c).domain) (takes p.rising (l.cell c).falling) ch).1 in
-    let elsewhere : (c : ℕ) → turn c ≡ false → changes l p c ≡ true → ((l.cell c).domain == d) ≡ false = λ c no ch. not_first ((l.cell c).domain == d) (takes p.rising (l.cell c).falling) no (takes_it c ch) in
+    let elsewhere : (c : ℕ) → turn c ≡ false → changes l p c ≡ true → ((l.cell c).domain == d) ≡ false = λ c no ch. first_false ((l.cell c).domain == d) (takes p.rising (l.cell c).falling) no (takes_it c ch) in
     record {
       ports = holds.ports;
       quiet = λ e rests. elim (cases_Bool (e == d)) [
@@ -202,7 +181,7 @@ edge_keeps l p view now d seen before pulsed holds =
           (λ no. holds.moved c ch (rw (elsewhere c no ch) at came));
       others = λ c comes. bit_choice (turn c) _ _ _
           (λ now_it. (let two = of_both ((l.cell c).domain == d) (takes p.rising (l.cell c).falling) now_it in
-          absurd (no_flip p.rising (rw two.0 at (comes (both (p.pulsed (l.cell c).domain) (takes p.rising (l.cell c).falling) (ap p.pulsed (eqb-true (l.cell c).domain d two.0) ∙ pulsed) two.1))))))
+          absurd (other_bit p.rising (rw two.0 at (comes (and_from (p.pulsed (l.cell c).domain) (takes p.rising (l.cell c).falling) (ap p.pulsed (eqb-true (l.cell c).domain d two.0) ∙ pulsed) two.1))))))
           (λ no. holds.others c (λ ch. rw (elsewhere c no ch) at (comes ch)));
     }
 
@@ -257,8 +236,8 @@ edges_above l rank p poss view now (e ∷ es) ranked closed old holds settled on
 pub start_holds : (l : Logic) (p : Pulse) (view : ℕ → ℕ → Tri) (s : State) → ((k : ℕ) → s.ports k ≡ p.ports k) → StandsAt (level_before p) p.old s → Holds l p view s
 start_holds l p view s ports stands = record {
   ports = ports;
-  quiet = λ e rests. stands.levels e ∙ never (p.pulsed e) (not p.rising) rests;
-  moved = λ c ch came. absurd (no_flip p.rising (sym came ∙ stands.levels (l.cell c).domain ∙ coming l p c ch));
+  quiet = λ e rests. stands.levels e ∙ and_left (p.pulsed e) (not p.rising) rests;
+  moved = λ c ch came. absurd (other_bit p.rising (sym came ∙ stands.levels (l.cell c).domain ∙ coming l p c ch));
   others = λ c comes. stands.above c;
 }
 

@@ -1,8 +1,9 @@
 -- A vector: its strobe, and its two phases, the rises and the falls, in any orders.
-use Rattle.std.proofs.Common.{ℕ, Bool, true, false, ◌&&◌, ◌≡◌, refl, Option, sym, subst, ◌∙◌, map}
+use Rattle.std.proofs.Common.{ℕ, Bool, true, false, refl, Option, sym, subst, ◌∙◌, map}
 use Rattle.std.specs.Prelude.{if◌then◌else◌}
 use Rattle.dft_base.specs.declared.tri.Tri.{Tri}
 use Rattle.dft_base.specs.Tri.{Above, AboveTri}
+use Rattle.dft_base.proofs.SumLemmas.{and_false}
 use Rattle.dft_netlist.specs.Drivers.{Source}
 use Rattle.dft_netlist.specs.Logic.{Logic, Force, IsRanked}
 use Rattle.dft_netlist.specs.Settled.{value_from}
@@ -40,10 +41,6 @@ either_stays : (b : Bool) (f : Option Force) (ports : ℕ → Tri) (t u : Tri) �
 either_stays true f ports t u h = again f ports t
 either_stays false f ports t u h = h
 
-no_level : (b : Bool) → (b && false) ≡ false
-no_level true = refl
-no_level false = refl
-
 -- the values after a phase are those that resets and sets leave
 after_forced : (l : Logic) (p : Pulse) (view : ℕ → ℕ → Tri) → IsForced l p → IsForced l (falls_after l p view)
 after_forced l p view old c =
@@ -57,7 +54,7 @@ rises_stand l rank x old now t poss view ranked stands turn closed =
     let p : Pulse = rise_of l x old in
     let first : Now = at_strobe l x now t in
     let split = AreSteps-append l first (map (edge_step true) t.rises) (map (edge_step false) t.falls) turn.steps.1 in
-    let begun : StandsAt (level_before p) p.old first.state = record { above = set_above l x old now t stands; levels = λ e. stands.low e ∙ sym (no_level (x.pulsed e)) } in
+    let begun : StandsAt (level_before p) p.old first.state = record { above = set_above l x old now t stands; levels = λ e. stands.low e ∙ sym (and_false (x.pulsed e)) } in
     phase_above l rank p poss view first t.rises ranked closed (λ c. again (l.cell c).force x.ports (old c)) (λ k. refl) begun turn.steps.0 turn.rises split.0
 
 -- and after its falls, from any values above the bits after the rises that are those that resets and sets leave
@@ -70,7 +67,7 @@ falls_stand l rank x old now t poss view ranked turn forced risen closed =
     let split = AreSteps-append l first (map (edge_step true) t.rises) (map (edge_step false) t.falls) turn.steps.1 in
     let fallen : StandsAt (level_after q) (after_pulse l q view) (after l middle (map (edge_step false) t.falls)).state =
     phase_above l rank q poss view middle t.falls ranked closed forced (ports_stay l first true t.rises) risen (last_settled l first true t.rises turn.steps.0 split.0) turn.falls split.1 in
-    let result : Stands (after_pulse l q view) (after l middle (map (edge_step false) t.falls)).state = record { above = fallen.above; low = λ e. fallen.levels e ∙ no_level (x.pulsed e) } in
+    let result : Stands (after_pulse l q view) (after l middle (map (edge_step false) t.falls)).state = record { above = fallen.above; low = λ e. fallen.levels e ∙ and_false (x.pulsed e) } in
     subst (λ (n : Now). Stands (after_pulse l q view) n.state) (sym (after-append l first (map (edge_step true) t.rises) (map (edge_step false) t.falls))) result
 
 -- the values after the rises are those that resets and sets leave

@@ -43,7 +43,7 @@ stopped_of limit option gives name (Some h) (Refused refusal) loaded = file_stop
 stopped_of limit option gives name (Some h) ReadFault loaded = tt
 stopped_of limit option gives name (Some h) OutOfMemory loaded = tt
 
-no_fault : {A : Type 0} (gives : Result A Refusal → Type 0) (r : Result A Stop) → IsGiven gives r → r ≡ Err ReadFault → ⊥
+pub no_fault : {A : Type 0} (gives : Result A Refusal → Type 0) (r : Result A Stop) → IsGiven gives r → r ≡ Err ReadFault → ⊥
 no_fault gives (Ok value) given is = cc
 no_fault gives (Err (Refused refusal)) given is = cc
 no_fault gives (Err ReadFault) given is = given

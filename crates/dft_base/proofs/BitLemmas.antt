@@ -1,6 +1,7 @@
 -- Bits, and tests joined by && and ||.
-use Rattle.std.proofs.Common.{Bool, true, false, ◌≡◌, refl, ◌&&◌, sym, true≢false}
+use Rattle.std.proofs.Common.{Bool, true, false, ◌≡◌, refl, ◌&&◌, sym, true≢false, arith, inl, inr, not, ◌∙◌, ◌⊎◌}
 use Rattle.std.specs.Prelude.{◌||◌}
+use Rattle.dft_base.specs.Solutions.{xor}
 
 pub or_false : (b : Bool) → b || false ≡ b
 or_false true = refl
@@ -49,3 +50,54 @@ same_tests false false to from = refl
 pub or_not : (a b : Bool) → b ≡ false → (a || b) ≡ a
 or_not true b e = refl
 or_not false b e = e
+
+pub not_true : (b : Bool) → not b ≡ true → b ≡ false
+not_true true is = sym is
+not_true false is = refl
+
+pub same_bit : (a b : Bool) → not (xor a b) ≡ true → a ≡ b
+same_bit = grind arith
+
+pub or_right : (x y : Bool) → y ≡ true → (x || y) ≡ true
+or_right true y e = refl
+or_right false y e = e
+
+pub both_down : (a b : Bool) → (a || b) ≡ false → (a ≡ false) × (b ≡ false)
+both_down true b is = absurd cc
+both_down false b is = (refl, is)
+
+pub bit_same : (a : Bool) → not (xor a a) ≡ true
+bit_same true = refl
+bit_same false = refl
+
+pub not_itself : (b : Bool) → not b ≡ true → b ≡ true → ⊥
+not_itself true a b = absurd cc
+not_itself false a b = absurd cc
+
+pub same_or_not : (a b : Bool) → (a ≡ b) ⊎ (a ≡ not b)
+same_or_not true true = inl refl
+same_or_not true false = inr refl
+same_or_not false true = inr refl
+same_or_not false false = inl refl
+
+pub other_bit : (b : Bool) → b ≡ not b → ⊥
+other_bit true e = cc
+other_bit false e = cc
+
+pub first_false : (a b : Bool) → (a && b) ≡ false → b ≡ true → a ≡ false
+first_false true b h is = absurd (let q : true ≡ false = sym is ∙ h in cc)
+first_false false b h is = refl
+
+pub not_of : (b : Bool) → (b ≡ true → ⊥) → not b ≡ true
+not_of true fails = absurd (fails refl)
+not_of false fails = refl
+
+pub xor_same : (x y : Bool) → xor x y ≡ false → x ≡ y
+xor_same true true is = refl
+xor_same true false is = cc
+xor_same false true is = cc
+xor_same false false is = refl
+
+pub with_true : (b : Bool) → b ≡ (b && true)
+with_true true = refl
+with_true false = refl

@@ -1,12 +1,16 @@
 -- Lists: elements by their place, ranges, and what is past the end.
-use Rattle.std.proofs.Common.{◌≡◌, ℕ, zero, suc, List, [], ◌∷◌, ◌++◌, Some, slice_get, ◌+◌, length, ap, arith, ◌∙◌, ◌<◌, refl, map, drop, ◌≤◌, inl, inr, sym, subst, false, replicate, get_or, ◌-◌, Bool, ◌⊎◌, true, not, cond, ltb, None, option_map}
-use Rattle.std.proofs.lemmas.List.{drop_more, get_or_past, get_or-replicate, length-replicate}
-use Rattle.std.proofs.lemmas.Option.{slice_get_within, get_or_from_slice_get}
-use Rattle.std.specs.List.{AllByRecursion, range_with_len}
-use Rattle.std.proofs.lemmas.Bool.{cases_lt}
-use Rattle.std.proofs.lemmas.Bool.Decides.{nat_tests}
+use Rattle.std.proofs.Common.{◌≡◌, ℕ, zero, suc, List, [], ◌∷◌, ◌++◌, Some, slice_get, ◌+◌, length, ap, arith, ◌∙◌, ◌<◌, refl, map, drop, ◌≤◌, inl, inr, sym, subst, false, replicate, get_or, ◌-◌, Bool, ◌⊎◌, true, not, cond, ltb, None, option_map, find, flat_map, take, ◌||◌, set, ◌==◌}
+use Rattle.std.proofs.lemmas.List.{drop_more, get_or_past, get_or-replicate, length-replicate, append-nil, at_drop_all, drop_all, take_all, with_items_is, get_or-set_other, get_or-set_same}
+use Rattle.std.proofs.lemmas.Option.{slice_get_within, get_or_from_slice_get, same_Some}
+use Rattle.std.specs.List.{AllByRecursion, range_with_len, list_any}
+use Rattle.std.specs.Global.{Vec}
+use Rattle.std.specs.Vec.{with_items}
+use Rattle.std.proofs.lemmas.Bool.{cases_lt, cases_eq}
+use Rattle.std.proofs.lemmas.Bool.Decides.{nat_tests, leb_tells}
 use Rattle.dft_base.specs.Ranges.{going_up}
 use Rattle.dft_base.specs.Solutions.{bit_at}
+use Rattle.dft_base.proofs.NumberLemmas.{one_left, other_test, same_number}
+use Rattle.dft_base.proofs.BitLemmas.{or_false, or_true}
 
 pub get_left : {X : Type 0} (xs ys : List X) (k : ℕ) (x : X) → slice_get xs k ≡ Some x → slice_get (xs ++ ys) k ≡ Some x
 get_left [] ys k x h = absurd (cc)
@@ -98,3 +102,67 @@ cons_by false n len = inner (ltb n len) refl
     inner : (s : Bool) → ltb n len ≡ s → cond (ltb (1 + n) (suc len)) (Some (1 + n)) None ≡ option_map suc (cond s (Some n) None)
     inner true is = let e : ltb (1 + n) (suc len) ≡ true = grind (arith, nat_tests) in let m : 1 + n ≡ suc n = omega arith in rw (e, m) refl
     inner false is = let e : ltb (1 + n) (suc len) ≡ false = grind (arith, nat_tests) in rw e refl
+
+pub same_all : {X : Type 0} (n i : ℕ) (x : X) → get_or (replicate n x) i x ≡ x
+same_all n i x = elim (leb_tells n i) [
+  | inl far ↦ get_or_past (replicate n x) i x (let e = length-replicate n x in omega (arith, far.1, e))
+  | inr near ↦ get_or-replicate n i x x near.1
+]
+
+pub refilled_length : {X : Type 0} (v : Vec X) (ws : List X) → length (with_items v ws).items ≡ length v.items
+refilled_length v ws = sym (with_items v ws).ok.0 ∙ v.ok.0
+
+pub refilled_items : {X : Type 0} (v : Vec X) (ws rs : List X) → length ws ≡ length rs → rs ≡ v.items → (with_items v ws).items ≡ ws
+refilled_items v ws rs a e = with_items_is v ws (a ∙ ap length e ∙ sym v.ok.0)
+
+-- the first of the parts that are left
+pub flat_on : {X : Type 0} (f : ℕ → List X) (k total : ℕ) → k < total → flat_map f (range_with_len k (total - k)) ≡ f k ++ flat_map f (range_with_len (k + 1) (total - (k + 1)))
+flat_on f k total less = ap (λ (m : ℕ). flat_map f (range_with_len k m)) (one_left k total less)
+
+pub flat_over : {X : Type 0} (f : ℕ → List X) (k total : ℕ) → total ≤ k → flat_map f (range_with_len k (total - k)) ≡ []
+flat_over f k total past = let none : total - k ≡ 0 = omega arith in ap (λ (m : ℕ). flat_map f (range_with_len k m)) none
+
+-- an item of a list with one more is among the others, or the last
+pub get_push : {X : Type 0} (xs : List X) (y p : X) (k : ℕ) → slice_get (xs ++ y ∷ []) k ≡ Some p → (slice_get xs k ≡ Some p) ⊎ ((k ≡ length xs) × (y ≡ p))
+get_push [] y p zero at = inr (refl, same_Some y p at)
+get_push [] y p (suc k) at = absurd (let f : ⊥ = cc in f)
+get_push (x ∷ xs) y p zero at = inl at
+get_push (x ∷ xs) y p (suc k) at = pushed_next xs y p k (get_push xs y p k at) where
+  pushed_next : {X : Type 0} (xs : List X) (y p : X) (k : ℕ) → (slice_get xs k ≡ Some p) ⊎ ((k ≡ length xs) × (y ≡ p)) → (slice_get xs k ≡ Some p) ⊎ ((suc k ≡ suc (length xs)) × (y ≡ p))
+  pushed_next xs y p k (inl there) = inl there
+  pushed_next xs y p k (inr last) = inr (ap suc last.0, last.1)
+
+pub zeros_case : (n i : ℕ) → (i < n) ⊎ (n ≤ i) → get_or {A = ℕ} (replicate n 0) i 0 ≡ 0
+zeros_case n i (inl less) = get_or-replicate n i 0 0 less
+zeros_case n i (inr past) = let size = length-replicate {A = ℕ} n 0 in get_or_past (replicate n 0) i 0 (omega arith)
+
+pub find_over : {X : Type 0} (p : X → Bool) (xs : List X) (k : ℕ) → length xs ≤ k → find p (drop k xs) ≡ None
+find_over p xs k past = at_drop_all (find p) xs k past
+
+-- what was put over the whole list is there
+pub take_new : (old new : List Bool) (count : ℕ) → count ≡ length old → length new ≡ length old → take count (new ++ drop (length new) old) ≡ new
+take_new old new count size same =
+    let none : drop (length new) old ≡ [] = drop_all (length new) old (omega arith) in
+    ap (λ (rest : List Bool). take count (new ++ rest)) none ∙ ap (take count) (append-nil new) ∙ take_all count new (omega arith)
+
+pub any_map : {A B : Type 0} (test : B → Bool) (g : A → B) (xs : List A) → list_any test (map g xs) ≡ list_any (λ x. test (g x)) xs
+any_map test g [] = refl
+any_map test g (x ∷ xs) = ap (λ (b : Bool). test (g x) || b) (any_map test g xs)
+
+-- a mark more
+pub marked : (marks : List Bool) (k i : ℕ) → k < length marks → get_or (set marks k true) i false ≡ (get_or marks i false || (k == i))
+marked marks k i live = elim (cases_eq i k) [
+  | inl e ↦ ap (λ (j : ℕ). get_or (set marks k true) j false) e ∙ get_or-set_same marks k true false live ∙ sym (ap (λ (j : ℕ). get_or marks i false || (k == j)) e ∙ ap (λ (b : Bool). get_or marks i false || b) (same_number k) ∙ or_true (get_or marks i false))
+  | inr apart ↦ get_or-set_other marks k i true false apart ∙ sym (ap (λ (b : Bool). get_or marks i false || b) (other_test i k apart) ∙ or_false (get_or marks i false))
+]
+
+-- a place behind the first of two lists
+pub record Behind {X : Type 0} (front back : List X) (k : ℕ) (x : X) : Type 0 where
+  pub place : ℕ
+  pub number : k ≡ length front + place
+  pub here : slice_get back place ≡ Some x
+
+pub at_either : {X : Type 0} (xs ys : List X) (k : ℕ) (x : X) → slice_get (xs ++ ys) k ≡ Some x → (slice_get xs k ≡ Some x) ⊎ Behind xs ys k x
+at_either [] ys k x h = inr (record { place = k; number = omega arith; here = h })
+at_either (y ∷ xs) ys zero x h = inl h
+at_either (y ∷ xs) ys (suc k) x h = elim (at_either xs ys k x h) [ inl a ↦ inl a | inr b ↦ inr (record { place = b.place; number = (let e = b.number in omega arith); here = b.here }) ]

@@ -4,6 +4,7 @@ use Rattle.std.specs.Prelude.{not}
 use Rattle.std.specs.List.{list_all, range_with_len}
 use Rattle.std.proofs.lemmas.Option.{none-some, same_Some}
 use Rattle.std.proofs.lemmas.Bool.{not-true, and_parts, and_from}
+use Rattle.dft_base.proofs.NumberLemmas.{same_or_past}
 use Rattle.dft_netlist.specs.declared.ids.InstanceId.{InstanceId}
 use Rattle.dft_netlist.specs.Netlist.{Netlist}
 use Rattle.dft_config.specs.declared.config.RingConfig.{RingConfig}
@@ -19,12 +20,6 @@ use Rattle.dft_certify.proofs.SumLemmas.{are_sums, each_sum, later_none, later_p
 
 -- ---- columns
 
-low_split : (a b : ℕ) → a ≤ b → (a ≡ b) ⊎ (a + 1 ≤ b)
-low_split zero zero le = inl refl
-low_split zero (suc b) le = inr (omega arith)
-low_split (suc a) zero le = absurd (omega (arith, le))
-low_split (suc a) (suc b) le = elim (low_split a b (omega (arith, le))) [ inl same ↦ inl (ap suc same) | inr less ↦ inr (omega (arith, less)) ]
-
 off_by : (test : ℕ → Bool) (from c : ℕ) → (from ≡ c) ⊎ (from + 1 ≤ c) → not (test from) ≡ true → (from + 1 ≤ c → test c ≡ false) → test c ≡ false
 off_by test from c (inl same) here more = ap test (sym same) ∙ not-true (test from) here
 off_by test from c (inr less) here more = more less
@@ -33,7 +28,7 @@ all_off : (test : ℕ → Bool) (from count : ℕ) → list_all (λ c. not (test
 all_off test from zero e c low high = absurd (omega (arith, low, high))
 all_off test from (suc count) e c low high =
     let parts = and_parts (not (test from)) (list_all (λ k. not (test k)) (range_with_len (from + 1) count)) e in
-    off_by test from c (low_split from c low) parts.0 (λ less. all_off test (from + 1) count parts.1 c less (omega (arith, high)))
+    off_by test from c (same_or_past from c low) parts.0 (λ less. all_off test (from + 1) count parts.1 c less (omega (arith, high)))
 
 off_all : (test : ℕ → Bool) (from count : ℕ) → ((c : ℕ) → from ≤ c → c < from + count → test c ≡ false) → list_all (λ c. not (test c)) (range_with_len from count) ≡ true
 off_all test from zero off = refl

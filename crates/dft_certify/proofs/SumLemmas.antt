@@ -4,6 +4,7 @@ use Rattle.std.specs.Prelude.{◌&&◌, not, if◌then◌else◌}
 use Rattle.std.proofs.lemmas.Bool.{eq-eqb, eqb-true, or_parts, not-true, and_parts, and_from, not_from_false, or_from, or_left, or_right}
 use Rattle.std.proofs.lemmas.Option.{none-some, same_Some}
 use Rattle.dft_base.specs.Solutions.{xor}
+use Rattle.dft_base.proofs.BitLemmas.{same_bit, bit_same}
 use Rattle.dft_netlist.specs.declared.ids.InstanceId.{InstanceId}
 use Rattle.dft_netlist.specs.Netlist.{Netlist}
 use Rattle.dft_config.specs.declared.config.RingConfig.{RingConfig}
@@ -15,15 +16,6 @@ use Rattle.dft_certify.specs.declared.error.CertifyError.{CertifyError}
 use Rattle.dft_certify.specs.declared.error.CertifyError.TheVariants.{K2}
 use Rattle.dft_certify.specs.Certifying.{and_cell, at_cell, has_cell, has_variables, is_care, is_sum, or_later, place_of_line, same_variable, same_variables, scanned_named, sum_refusal, sums_refusal}
 use Rattle.dft_certify.specs.Laws.{IsSumOf}
-
--- ---- tests
-
-same_bit : (a b : Bool) → not (xor a b) ≡ true → a ≡ b
-same_bit = grind arith
-
-bit_same : (a : Bool) → not (xor a a) ≡ true
-bit_same true = refl
-bit_same false = refl
 
 -- ---- variables
 

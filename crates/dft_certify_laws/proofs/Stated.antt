@@ -13,6 +13,7 @@ use Rattle.dft_merge.specs.Placement.{equations_from, equations_of}
 use Rattle.dft_merge.specs.Rows.{CellRows}
 use Rattle.dft_merge.specs.Systems.{IsSystem, IsKept}
 use Rattle.dft_merge.proofs.SystemLemmas.{system_none, system_solvable, system_taken}
+use Rattle.dft_cube_reports.proofs.LineLemmas.{Below, both_below, if_below}
 
 -- ---- sums over positions
 
@@ -37,29 +38,14 @@ odd_picked f (suc m) picks es =
 
 -- ---- positions that differ
 
-Below : (b : ℕ) → List ℕ → Type 0
-Below b [] = Unit {0}
-Below b (x ∷ xs) = (x < b) × Below b xs
-
 pub Differ : List ℕ → Type 0
 Differ [] = Unit {0}
 Differ (x ∷ xs) = ((k : ℕ) → slice_get xs k ≡ Some x → ⊥) × Differ xs
 
-below_append : (b : ℕ) (xs ys : List ℕ) → Below b xs → Below b ys → Below b (xs ++ ys)
-unfolding Below
-below_append b [] ys h g = g
-below_append b (x ∷ xs) ys h g = (h.0, below_append b xs ys h.1 g)
-
-below_one : (b : ℕ) (t : Bool) (id : ℕ) → id < b → Below b (cond t (id ∷ []) [])
-unfolding Below
-below_one b true id less = (less, tt)
-below_one b false id less = tt
-
 below_ids : (b m : ℕ) (picks : ℕ → Bool) (es : List Equation) → ((j : ℕ) → j < m → (equation_at es j).id < b) → Below b (ids_to m picks es)
-unfolding Below
 below_ids b zero picks es under = tt
 below_ids b (suc m) picks es under =
-    below_append b (ids_to m picks es) (cond (picks m) ((equation_at es m).id ∷ []) []) (below_ids b m picks es (λ j less. under j (omega (arith, less)))) (below_one b (picks m) (equation_at es m).id (under m (omega arith)))
+    both_below b (ids_to m picks es) (cond (picks m) ((equation_at es m).id ∷ []) []) (below_ids b m picks es (λ j less. under j (omega (arith, less)))) (if_below b (equation_at es m).id (picks m) (under m (omega arith)))
 
 first_push : (x y : ℕ) (xs : List ℕ) (k : ℕ) → x < y → ((j : ℕ) → slice_get xs j ≡ Some x → ⊥) → slice_get (xs ++ y ∷ []) k ≡ Some x → ⊥
 first_push x y [] zero less none at = (let same = same_Some y x at in omega (arith, less, same))
@@ -68,7 +54,7 @@ first_push x y (z ∷ xs) zero less none at = none zero at
 first_push x y (z ∷ xs) (suc k) less none at = first_push x y xs k less (λ j there. none (suc j) there) at
 
 differ_push : (y : ℕ) (xs : List ℕ) → Below y xs → Differ xs → Differ (xs ++ y ∷ [])
-unfolding Below Differ
+unfolding Differ
 differ_push y [] below differ = ((λ k at. none-some y at), tt)
 differ_push y (x ∷ xs) below differ = ((λ k at. first_push x y xs k below.0 differ.0 at), differ_push y xs below.1 differ.1)
 

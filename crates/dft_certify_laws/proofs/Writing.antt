@@ -8,11 +8,11 @@ use Rattle.dft_base.specs.Solutions.{bit_at, xor}
 use Rattle.dft_base.proofs.TextLemmas.{same_text, bytes_eq-self}
 use Rattle.dft_netlist.specs.declared.ids.InstanceId.{InstanceId}
 use Rattle.dft_netlist.specs.declared.instance.Instance.{Instance}
-use Rattle.dft_netlist.specs.declared.named.Named.TheVariants.{Instance as AnInstance}
 use Rattle.dft_netlist.specs.Names.{find_instance, find_instance_from, has_this_name, instance_name}
 use Rattle.dft_netlist.specs.Netlist.{Netlist}
 use Rattle.dft_netlist.specs.Sound.{IsNetlist}
-use Rattle.dft_netlist.proofs.FindLemmas.{this_name, is_this_name, not_first_instance}
+use Rattle.dft_netlist.proofs.FindLemmas.{this_name}
+use Rattle.dft_netlist.proofs.ListingLemmas.{found_by}
 use Rattle.dft_config.specs.Config.{Config}
 use Rattle.dft_config.specs.declared.config.RingConfig.{RingConfig}
 use Rattle.dft_config.specs.Range.{IsInRange}
@@ -56,23 +56,6 @@ first_at false from x rest name k is more h = let r = more h in (suc r.0, r.1 �
 named_at : (from : ℕ) (instances : List Instance) (name : Text) (k : InstanceId) → find_instance_from from instances name ≡ Some k → (j : ℕ) × (k.0 ≡ from + j) × (option_and_then instance_name (slice_get instances j) ≡ Some name)
 named_at from [] name k h = absurd (none-some k h)
 named_at from (x ∷ rest) name k h = first_at (has_this_name x.name name) from x rest name k refl (named_at (suc from) rest name k) h
-
-never_missed : (from : ℕ) (instances : List Instance) (name : Text) (j : ℕ) → option_and_then instance_name (slice_get instances j) ≡ Some name → find_instance_from from instances name ≡ None → ⊥
-never_missed from [] name j has none = none-some name has
-never_missed from (x ∷ rest) name zero has none =
-    let f : true ≡ false = sym (is_this_name x.name name has) ∙ (not_first_instance (has_this_name x.name name) (record { 0 = from }) (find_instance_from (suc from) rest name) none).0 in cc
-never_missed from (x ∷ rest) name (suc j) has none = never_missed (suc from) rest name j has (not_first_instance (has_this_name x.name name) (record { 0 = from }) (find_instance_from (suc from) rest name) none).1
-
-one_named : (a b : InstanceId) → AnInstance a ≡ AnInstance b → a ≡ b
-one_named a b same = cc
-
-found_by : (n : Netlist) (name : Text) (cell : InstanceId) (o : Option InstanceId) → IsNetlist n → find_instance n name ≡ o → option_and_then instance_name (slice_get n.instances cell.0) ≡ Some name → find_instance n name ≡ Some cell
-found_by n name cell None sound is has = absurd (never_missed 0 n.instances name cell.0 has is)
-found_by n name cell (Some other) sound is has =
-    let r = named_at 0 n.instances name other is in
-    let at : other.0 ≡ r.0 = r.1 ∙ omega arith in
-    let own : option_and_then instance_name (slice_get n.instances other.0) ≡ Some name = ap (λ (j : ℕ). option_and_then instance_name (slice_get n.instances j)) at ∙ r.2 in
-    is ∙ ap Some (one_named other cell (sound.names name (AnInstance other) (AnInstance cell) own has))
 
 -- ---- scanned cells
 

@@ -1,6 +1,7 @@
 -- With scan off the nets of the original have the same bits.
 use Rattle.std.proofs.Common.{ℕ, zero, suc, Bool, true, false, List, [], ◌∷◌, ◌≡◌, ◌==◌, ◌<◌, refl, sym, ap, arith, map, ◌∙◌, Option, None, Some, ◌&&◌}
 use Rattle.std.specs.Prelude.{if◌then◌else◌, not}
+use Rattle.std.proofs.lemmas.Bool.{and_left}
 use Rattle.dft_base.specs.declared.tri.Tri.TheVariants.{Zero}
 use Rattle.dft_base.specs.Tri.{completed}
 use Rattle.dft_cells.specs.Gates.{bit_of}
@@ -103,10 +104,6 @@ not_picked a x y z e f = rw e f
 
 -- ---- events
 
-no_turn : (a b : Bool) → a ≡ false → (a && b) ≡ false
-no_turn false b h = refl
-no_turn true b h = absurd cc
-
 edge_alike : (original written : Logic) (p : Places) (now its : Now) (d : ℕ) (rising : Bool) → Contains original written p → AreAlike p now.state its.state → AreFreeAlike p now.moment its.moment → now.moment.seen p.enable ≡ false →
     ((net : ℕ) → net < p.size → now.moment.seen (p.moved net) ≡ its.moment.seen net) → AreAlike p (edge written now (p.moved d) rising) (edge original its d rising)
 edge_alike original written p now its d rising has alike free low same = record {
@@ -125,7 +122,7 @@ added_alike original written p now its k rising has alike added = record {
   ports = alike.ports;
   off = alike.off;
   flops = λ c is. not_picked ((written.cell c).domain == k && takes rising (written.cell c).falling) (next_bit (written.cell c) now) (now.state.flops c) (its.state.flops c)
-      (no_turn ((written.cell c).domain == k) (takes rising (written.cell c).falling) (ap (λ e. e == k) (has.flops c is).domain ∙ added (original.cell c).domain)) (alike.flops c is);
+      (and_left ((written.cell c).domain == k) (takes rising (written.cell c).falling) (ap (λ e. e == k) (has.flops c is).domain ∙ added (original.cell c).domain)) (alike.flops c is);
   high = λ e. not_picked (p.moved e == k) rising (now.state.high (p.moved e)) (its.state.high e) (added e) (alike.high e);
 }
 

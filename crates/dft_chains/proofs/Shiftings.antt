@@ -6,6 +6,7 @@ use Rattle.std.proofs.lemmas.Option.{none-some, same_Some, slice_get_within, sli
 use Rattle.dft_base.specs.declared.tri.Tri.{Tri}
 use Rattle.dft_base.specs.declared.tri.Tri.TheVariants.{Zero, One, Unknown}
 use Rattle.dft_base.specs.Tri.{known, Above}
+use Rattle.dft_base.proofs.BitLemmas.{or_true}
 use Rattle.dft_cells.specs.FlipFlops.{tri_forced, tri_chosen}
 use Rattle.dft_cells.proofs.TriLemmas.{forced_one, chosen_one}
 use Rattle.dft_netlist.specs.declared.ids.InstanceId.{InstanceId}
@@ -24,10 +25,6 @@ use Rattle.dft_chains.specs.Hardware.{ChainNets, ScanNets, ActsByPort, IsScanCel
 use Rattle.dft_chains.specs.Shifts.{IsShift, LinkLaw, EntryLaw, IsShifted, ShiftInRuns, AreShifts, AreShifted, ShiftExperiment, at_strobe, EndsShow, EndsShowBefore}
 
 -- ---- values
-
-or_true : (b : Bool) → (b || true) ≡ true
-or_true true = refl
-or_true false = refl
 
 pub own_choice : (a b : Bool) (x y : Tri) → b ≡ true → (if a then (if b then x else y) else x) ≡ x
 own_choice true true x y h = refl

@@ -22,15 +22,12 @@ use Rattle.dft_config_out_laws.specs.Tables.{injector_numbers, items_of, number_
 le-leb : (a b : ℕ) → a ≤ b → nat_le a b ≡ true
 le-leb a b e = grind (arith, nat_tests)
 
-within_is : (k : Key) (low high n : ℕ) → low ≤ n → n ≤ high → within k low high (pos n) ≡ Ok n
-within_is k low high n a b = (λ i. or_outside k (pos n) (if le-leb low n a i && le-leb n high b i then Some n else None))
+pub within_count : (k : Key) (low high n : ℕ) → low ≤ n → n ≤ high → within k low high (pos n) ≡ Ok n
+within_count k low high n a b = (λ i. or_outside k (pos n) (if le-leb low n a i && le-leb n high b i then Some n else None))
 
 pub number_is : (k : Key) (low high n : ℕ) → low ≤ n → n ≤ high → number k low high (Some (number_data n)) ≡ Ok n
 unfolding number
-number_is k low high n a b = within_is k low high n a b
-
-pub within_count : (k : Key) (low high n : ℕ) → low ≤ n → n ≤ high → within k low high (pos n) ≡ Ok n
-within_count = within_is
+number_is k low high n a b = within_count k low high n a b
 
 below_is : (k : Key) (bound n : ℕ) → n < bound → below k bound (pos n) ≡ Ok n
 below_is k bound n less = (λ i. or_outside k (pos n) (if lt-ltb n bound less i then Some n else None))

@@ -3,7 +3,7 @@ use Rattle.std.proofs.Common.{◌≡◌, ℕ, zero, suc, ◌+◌, ◌<◌, ◌�
 use Rattle.std.specs.List.{list_all, list_any, range_with_len}
 use Rattle.std.proofs.lemmas.Bool.{cases_lt}
 use Rattle.dft_base.specs.Solutions.{bit_at, xor}
-use Rattle.dft_base.proofs.BitLemmas.{and_first, and_second}
+use Rattle.dft_base.proofs.BitLemmas.{and_first, and_second, bit_same, not_itself, not_of}
 use Rattle.dft_equations.specs.LoadRows.{AreWide, IsCell, LoadRows, row_of, rows_of}
 use Rattle.dft_configure.specs.Good.{AreGood, HasVariable, has_bits, is_good, is_good_cell, is_good_chain, same_bits, stands_above, stands_in}
 use Rattle.dft_configure.proofs.PairLemmas.{differ_at}
@@ -58,17 +58,13 @@ some_passes p n k less is = by (list_any p (range_with_len 0 n)) refl
 
 -- ---- rows
 
-itself : (b : Bool) → not (xor b b) ≡ true
-itself true = refl
-itself false = refl
-
 all_pass : (p : ℕ → Bool) (from n : ℕ) → ((k : ℕ) → p k ≡ true) → list_all p (range_with_len from n) ≡ true
 all_pass p from zero each = refl
 all_pass p from (suc n) each = (λ i. each from i && all_pass p (from + 1) n each i)
 
 same_rows : (columns : ℕ) (row other : List Bool) → row ≡ other → same_bits columns (bit_at row) (bit_at other) ≡ true
 same_rows columns row other is =
-    ap (λ (r : List Bool). same_bits columns (bit_at row) (bit_at r)) (sym is) ∙ all_pass (λ column. not (xor (bit_at row column) (bit_at row column))) 0 columns (λ k. itself (bit_at row k))
+    ap (λ (r : List Bool). same_bits columns (bit_at row) (bit_at r)) (sym is) ∙ all_pass (λ column. not (xor (bit_at row column) (bit_at row column))) 0 columns (λ k. bit_same (bit_at row k))
 
 -- ---- cells
 
@@ -79,23 +75,19 @@ good_cell rows chain place good cell =
 has_some : (rows : LoadRows) (chain place : ℕ) → is_good rows ≡ true → IsCell rows chain place → HasVariable rows.columns (row_of rows chain place)
 has_some rows chain place good cell = any_in (bit_at (row_of rows chain place)) rows.columns (and_first (has_bits rows.columns (bit_at (row_of rows chain place))) _ (good_cell rows chain place good cell))
 
-not_true : (b : Bool) → not b ≡ true → b ≡ true → ⊥
-not_true true a b = absurd cc
-not_true false a b = absurd cc
-
 -- an earlier cell has another load equation
 above : (rows : LoadRows) (chain place other spot : ℕ) → is_good rows ≡ true → IsCell rows chain place → IsCell rows other spot → other < chain → row_of rows chain place ≡ row_of rows other spot → ⊥
 above rows chain place other spot good cell too less is =
     let row = row_of rows chain place in
     let rest = and_second (has_bits rows.columns (bit_at row)) _ (good_cell rows chain place good cell) in
     let here = some_passes (λ k. same_bits rows.columns (bit_at row) (bit_at (row_of rows other k))) (length (rows_of rows other)) spot too.1 (same_rows rows.columns row (row_of rows other spot) is) in
-    not_true (stands_above rows chain place) (and_first (not (stands_above rows chain place)) _ rest) (some_passes (λ k. stands_in rows row k (length (rows_of rows k))) chain other less here)
+    not_itself (stands_above rows chain place) (and_first (not (stands_above rows chain place)) _ rest) (some_passes (λ k. stands_in rows row k (length (rows_of rows k))) chain other less here)
 
 beside : (rows : LoadRows) (chain place spot : ℕ) → is_good rows ≡ true → IsCell rows chain place → spot < place → row_of rows chain place ≡ row_of rows chain spot → ⊥
 beside rows chain place spot good cell less is =
     let row = row_of rows chain place in
     let rest = and_second (has_bits rows.columns (bit_at row)) _ (good_cell rows chain place good cell) in
-    not_true (stands_in rows row chain place) (and_second (not (stands_above rows chain place)) _ rest)
+    not_itself (stands_in rows row chain place) (and_second (not (stands_above rows chain place)) _ rest)
     (some_passes (λ k. same_bits rows.columns (bit_at row) (bit_at (row_of rows chain k))) place spot less (same_rows rows.columns row (row_of rows chain spot) is))
 
 order : (m n : ℕ) → (m < n) ⊎ ((n < m) ⊎ (m ≡ n))
@@ -133,14 +125,6 @@ below_pass p from (suc n) each =
 pub all_below : (p : ℕ → Bool) (n : ℕ) → ((k : ℕ) → k < n → p k ≡ true) → list_all p (range_with_len 0 n) ≡ true
 all_below p n each = below_pass p 0 n (λ k less. (let at : 0 + k ≡ k = omega arith in ap p at ∙ each k less))
 
-never : (b : Bool) → (b ≡ true → ⊥) → not b ≡ true
-never true fails = absurd (fails refl)
-never false fails = refl
-
-untrue : (b : Bool) → not b ≡ true → b ≡ true → ⊥
-untrue true a is = absurd cc
-untrue false a is = absurd cc
-
 -- two cells whose load equations differ do not pass for the same
 apart_rows : (rows : LoadRows) (chain place other spot : ℕ) → AreWide rows.columns rows.chains → IsCell rows chain place → IsCell rows other spot → (row_of rows chain place ≡ row_of rows other spot → ⊥) →
     same_bits rows.columns (bit_at (row_of rows chain place)) (bit_at (row_of rows other spot)) ≡ true → ⊥
@@ -149,7 +133,7 @@ apart_rows rows chain place other spot wide cell too apart same =
     let second : length (row_of rows other spot) ≡ rows.columns = wide other spot too.0 too.1 in
     let at = differ_at (row_of rows chain place) (row_of rows other spot) (width ∙ sym second) apart in
     let less : at.0 < rows.columns = omega (arith, width, at.1.0) in
-    untrue (xor (bit_at (row_of rows chain place) at.0) (bit_at (row_of rows other spot) at.0)) (all_in (λ column. not (xor (bit_at (row_of rows chain place) column) (bit_at (row_of rows other spot) column))) rows.columns at.0 same less) at.1.1
+    not_itself (xor (bit_at (row_of rows chain place) at.0) (bit_at (row_of rows other spot) at.0)) (all_in (λ column. not (xor (bit_at (row_of rows chain place) column) (bit_at (row_of rows other spot) column))) rows.columns at.0 same less) at.1.1
 
 cell_tested : (rows : LoadRows) (chain place : ℕ) → AreWide rows.columns rows.chains → AreGood rows → IsCell rows chain place → is_good_cell rows chain place ≡ true
 cell_tested rows chain place wide good cell =
@@ -157,7 +141,7 @@ cell_tested rows chain place wide good cell =
     let some = good.some chain place cell in
     let there = some_passes (bit_at row) rows.columns some.0 some.1.0 some.1.1 in
     let no_above : not (stands_above rows chain place) ≡ true =
-    never (stands_above rows chain place) (λ is.
+    not_of (stands_above rows chain place) (λ is.
     (let other = any_in (λ k. stands_in rows row k (length (rows_of rows k))) chain is in
     let spot = any_in (λ k. same_bits rows.columns (bit_at row) (bit_at (row_of rows other.0 k))) (length (rows_of rows other.0)) other.1.1 in
     let first = cell.0 in
@@ -165,7 +149,7 @@ cell_tested rows chain place wide good cell =
     let live : other.0 < length rows.chains = omega (arith, first, lower) in
     apart_rows rows chain place other.0 spot.0 wide cell (live, spot.1.0) (λ e. (let same = (good.differ chain place other.0 spot.0 cell (live, spot.1.0) e).0 in absurd (omega (arith, same, lower)))) spot.1.1)) in
     let no_beside : not (stands_in rows row chain place) ≡ true =
-    never (stands_in rows row chain place) (λ is.
+    not_of (stands_in rows row chain place) (λ is.
     (let spot = any_in (λ k. same_bits rows.columns (bit_at row) (bit_at (row_of rows chain k))) place is in
     let within = cell.1 in
     let lower = spot.1.0 in

@@ -4,6 +4,7 @@ use Rattle.std.proofs.lemmas.Bool.Decides.{nat_tests}
 use Rattle.dft_base.specs.Solutions.{Equation, Holds, Solves, bit_at, sum_over, xor}
 use Rattle.dft_base.proofs.NumberLemmas.{same_number}
 use Rattle.dft_base.proofs.SumLemmas.{and_false, sum_add, sum_one, sum_same, xor_false}
+use Rattle.dft_base.proofs.BitLemmas.{xor_same}
 use Rattle.dft_equations.specs.LoadRows.{AreWide, LoadRows, row_of}
 use Rattle.dft_configure.specs.Good.{AreGood, HasVariable, OneIsLoaded, PairsAreLoaded, TwoAreLoaded, care_bit}
 
@@ -68,16 +69,10 @@ by_bits n row other bit second c false false less here there apart one two = abs
 abbrev pub DiffersAt : List Bool → List Bool → Type 0
 DiffersAt row other = (c : ℕ) × ((c < length row) × (xor (bit_at row c) (bit_at other c) ≡ true))
 
-same_from : (x y : Bool) → xor x y ≡ false → x ≡ y
-same_from true true is = refl
-same_from true false is = cc
-same_from false true is = cc
-same_from false false is = refl
-
 differ_step : (b x y : Bool) (row other : List Bool) → xor x y ≡ b → (x ∷ row ≡ y ∷ other → ⊥) → ((row ≡ other → ⊥) → DiffersAt row other) → DiffersAt (x ∷ row) (y ∷ other)
 differ_step true x y row other is apart rest = (zero, (omega arith, is))
 differ_step false x y row other is apart rest =
-    let later = rest (λ same. apart (λ i. same_from x y is i ∷ same i)) in
+    let later = rest (λ same. apart (λ i. xor_same x y is i ∷ same i)) in
     let less : suc later.0 < length (x ∷ row) = omega (arith, later.1.0) in
     (suc later.0, (less, later.1.1))
 

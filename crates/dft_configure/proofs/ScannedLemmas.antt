@@ -1,11 +1,14 @@
 -- As many flip-flops are counted as are scanned.
-use Rattle.std.proofs.Common.{◌≡◌, ℕ, ◌+◌, ◌==◌, Bool, true, false, cond, ◌&&◌, ◌||◌, List, [], ◌∷◌, length, map, filter, count_by, Option, None, Some, is_some, option_map, option_and_then, refl, sym, ◌∙◌, ap, zero-add}
+use Rattle.std.proofs.Common.{◌≡◌, ℕ, ◌+◌, ◌==◌, Bool, true, false, cond, ◌&&◌, ◌||◌, List, [], ◌∷◌, length, map, filter, count_by, Option, None, Some, is_some, option_and_then, refl, sym, ◌∙◌, ap, zero-add}
 use Rattle.std.specs.Prelude.{nat_lt, if◌then◌else◌}
 use Rattle.std.specs.List.{list_any, position_from, range_with_len}
 use Rattle.std.proofs.lemmas.Bool.{eqb-true}
 use Rattle.std.proofs.lemmas.Iterator.Adapters.{position_from-zero}
 use Rattle.std.proofs.lemmas.List.Sums.{sum_by-cons}
 use Rattle.dft_base.specs.Lexing.{Text}
+use Rattle.dft_base.proofs.BitLemmas.{and_first, with_true}
+use Rattle.dft_base.proofs.SumLemmas.{and_false}
+use Rattle.dft_base.proofs.OptionLemmas.{some_mapped}
 use Rattle.dft_cells.specs.declared.kind.Role.TheVariants as role
 use Rattle.dft_config.specs.Config.{Config}
 use Rattle.dft_netlist.specs.declared.ids.NetId.{NetId}
@@ -50,13 +53,9 @@ among_chosen : (q : ℕ → Bool) (p : ℕ) (xs : List ℕ) → list_any (λ oth
 among_chosen q p [] any = absurd cc
 among_chosen q p (x ∷ xs) any = any_more q p x xs (q x) refl any (among_chosen q p xs)
 
-left_true : (a b : Bool) → (a && b) ≡ true → a ≡ true
-left_true true b is = refl
-left_true false b is = absurd cc
-
 pub used : (uses : ℕ → ℕ) (nets port : ℕ) → is_among (most_used uses nets) (Some port) ≡ true → nat_lt 0 (uses port) ≡ true
 unfolding most_used
-used uses nets port among = left_true (nat_lt 0 (uses port)) _ (among_chosen (is_most_used uses nets) port (range_with_len 0 nets) among)
+used uses nets port among = and_first (nat_lt 0 (uses port)) _ (among_chosen (is_most_used uses nets) port (range_with_len 0 nets) among)
 
 clean_by : (n : Netlist) (p q : ℕ) (b : Bool) → is_clean n q ≡ b → is_port p (if b then Some q else None) ≡ true → is_clean n p ≡ true
 clean_by n p q true is port = ap (is_clean n) (sym (eqb-true q p port)) ∙ is
@@ -97,10 +96,6 @@ place_same n names nets chosen net are is =
 
 -- ---- the clock
 
-some_mapped : (f : ℕ → ℕ × Bool) (o : Option ℕ) → is_some (option_map f o) ≡ is_some o
-some_mapped f None = refl
-some_mapped f (Some x) = refl
-
 among_clean : (n : Netlist) (port : ℕ) (b : Bool) → is_clean n port ≡ b → is_among (domains_of n) (if b then Some port else None) ≡ is_among (domains_of n) (Some port)
 among_clean n port true is = refl
 among_clean n port false is = not_among (is_among (domains_of n) (Some port)) refl where
@@ -120,13 +115,9 @@ pin_same n config roots (Some source) = clock_same n config roots (clock_root_of
 
 -- ---- the reset
 
-and_true : (b : Bool) → b ≡ (b && true)
-and_true true = refl
-and_true false = refl
-
 root_same : (n : Netlist) (config : Config) (roots : HasRoots n config) (r : Root) → (can_hold (Some r) && is_kept_at (resets_of n (domains_of n)) (port_of_root (Some r))) ≡ is_held n config.resets r
 root_same n config roots (Port net) = sym (place_same n config.resets roots.resets (resets_of n (domains_of n)) net roots.resets_named roots.held)
-root_same n config roots (Constant bit) = sym (and_true bit)
+root_same n config roots (Constant bit) = sym (with_true bit)
 root_same n config roots Other = refl
 
 held_same : (n : Netlist) (config : Config) (roots : HasRoots n config) (reset preset : Option Source) →
@@ -143,17 +134,13 @@ scanned_is (Some clock) false scans = refl
 scanned_is (Some clock) true false = refl
 scanned_is (Some clock) true true = refl
 
-and_false : (b : Bool) → (b && false) ≡ false
-and_false true = refl
-and_false false = refl
-
 taken_by : (may scans can : Bool) (domains : List ℕ) (clock : Option ℕ) (kept : Bool) (shown : Option (ℕ × Bool)) (held : Bool) → is_among domains clock ≡ is_some shown → (can && kept) ≡ held →
     (is_among domains (if (may && scans) && can then clock else None) && kept) ≡ is_scanned (if may then judged_by shown held scans false else None)
 taken_by false scans can domains clock kept shown held among holds = refl
 taken_by true false can domains clock kept shown held among holds = sym (scanned_is shown held false ∙ ap (λ (b : Bool). is_some shown && b) (and_false held) ∙ and_false (is_some shown))
 taken_by true true false domains clock kept shown held among holds = sym (scanned_is shown held true ∙ ap (λ (b : Bool). is_some shown && (b && true)) (sym holds) ∙ and_false (is_some shown))
 taken_by true true true domains clock kept shown held among holds =
-    (λ i. among i && holds i) ∙ ap (λ (b : Bool). is_some shown && b) (and_true held) ∙ sym (scanned_is shown held true)
+    (λ i. among i && holds i) ∙ ap (λ (b : Bool). is_some shown && b) (with_true held) ∙ sym (scanned_is shown held true)
 
 taken_same : (n : Netlist) (config : Config) (i : ℕ) → HasRoots n config → is_taken n (domains_of n) (resets_of n (domains_of n)) i ≡ is_scanned (judged n config i)
 unfolding open_clock

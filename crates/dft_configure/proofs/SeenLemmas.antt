@@ -3,8 +3,9 @@ use Rattle.std.proofs.Common.{◌≡◌, ℕ, zero, suc, ◌+◌, ◌<◌, ◌�
 use Rattle.std.specs.Ordering.{eq_by_cmp, nat_cmp}
 use Rattle.std.specs.Cmp.{unsigned_tied}
 use Rattle.std.proofs.lemmas.Bool.{cases_lt}
-use Rattle.std.proofs.lemmas.Bool.Decides.{nat_tests}
 use Rattle.dft_base.specs.Solutions.{bit_at, xor}
+use Rattle.dft_base.proofs.BitLemmas.{same_bit}
+use Rattle.dft_base.proofs.NumberLemmas.{same_number}
 use Rattle.dft_equations.specs.LoadRows.{IsCell, LoadRows, row_of, rows_of}
 use Rattle.dft_decompressor.specs.Stamps.{carried}
 use Rattle.dft_configure.specs.Good.{is_alone, same_bits, stands_above, stands_in}
@@ -12,12 +13,6 @@ use Rattle.dft_configure.specs.Seen.{AreSeen, stamp_at, stamp_upto}
 use Rattle.dft_configure.proofs.GoodLemmas.{all_in, any_in}
 
 -- ---- the same bits have the same stamp
-
-bits_same : (a b : Bool) → not (xor a b) ≡ true → a ≡ b
-bits_same true true is = refl
-bits_same true false is = sym is
-bits_same false true is = is
-bits_same false false is = refl
 
 stamps_same : (n : ℕ) (bits others : ℕ → Bool) → ((k : ℕ) → k < n → bits k ≡ others k) → stamp_upto n bits ≡ stamp_upto n others
 stamps_same zero bits others each = refl
@@ -28,7 +23,7 @@ stamps_same (suc n) bits others each =
 
 same_stamp : (columns : ℕ) (bits others : ℕ → Bool) → same_bits columns bits others ≡ true → stamp_upto columns bits ≡ stamp_upto columns others
 same_stamp columns bits others same =
-    stamps_same columns bits others (λ k less. bits_same (bits k) (others k) (all_in (λ column. not (xor (bits column) (others column))) columns k same less))
+    stamps_same columns bits others (λ k less. same_bit (bits k) (others k) (all_in (λ column. not (xor (bits column) (others column))) columns k same less))
 
 -- ---- a stamp that was not seen
 
@@ -73,9 +68,6 @@ added : (b old : Bool) → b ≡ true → cond b true old ≡ true
 added true old is = refl
 added false old is = absurd cc
 
-itself : (n : ℕ) → (n == n) ≡ true
-itself n = grind (arith, nat_tests)
-
 -- one more
 pub seen_more : (rows : LoadRows) (chain place : ℕ) (old new : ℕ → Bool) (stamp : ℕ) → stamp ≡ stamp_at rows chain place → ((q : ℕ) → new q ≡ cond (eq_by_cmp nat_cmp stamp q) true (old q)) → AreSeen rows chain place old →
     AreSeen rows chain (place + 1) new
@@ -88,7 +80,7 @@ seen_more rows chain place old new stamp is updates before other spot cell (inr 
       let here : spot ≡ place = omega (arith, most, lower) in
       let q = stamp_at rows other spot in
       let same : stamp ≡ q = is ∙ (λ i. stamp_at rows (sym at.0 i) (sym here i)) in
-      updates q ∙ added (eq_by_cmp nat_cmp stamp q) (old q) (unsigned_tied stamp q ∙ ap (λ (n : ℕ). stamp == n) (sym same) ∙ itself stamp))
+      updates q ∙ added (eq_by_cmp nat_cmp stamp q) (old q) (unsigned_tied stamp q ∙ ap (λ (n : ℕ). stamp == n) (sym same) ∙ same_number stamp))
 ]
 
 -- after the last cell of a chain comes the next chain

@@ -11,7 +11,7 @@ use Rattle.dft_decompressor.specs.Rings.{AreInjectors, IsInjector, injector_at, 
 use Rattle.dft_decompressor.specs.Sizes.{sizes}
 use Rattle.dft_decompressor.specs.StageSets.{same_set, threes}
 use Rattle.dft_decompressor.proofs.OneLemmas.{fit_one, injectors_one, phases_one}
-use Rattle.dft_configure_laws.proofs.MoveLemmas.{same_is}
+use Rattle.dft_decompressor.proofs.SetLemmas.{same_is}
 use Rattle.dft_configure_laws.specs.Examples.{MovesOfEight, PhasesOfEight, RingOfEight, RunsOfEight, added, bits_after, on_one_channel, on_two_channels, phase_sets}
 
 -- ---- the ring

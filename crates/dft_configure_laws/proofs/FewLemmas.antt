@@ -24,6 +24,7 @@ use Rattle.dft_load_laws.specs.Loading.{AreRows, rows_of}
 use Rattle.dft_load_laws.proofs.Bringing.{bits_load}
 use Rattle.dft_configure.specs.Good.{AreGood}
 use Rattle.dft_configure.proofs.PairLemmas.{pairs_loaded}
+use Rattle.dft_load_laws.proofs.Sums.{length_at}
 use Rattle.dft_configure_laws.specs.Pairs.{AreFew, FewAreLoaded, FewAreSolvable, IsChained}
 
 -- ---- lists of care bits
@@ -41,11 +42,6 @@ sums_load columns row bits (x ∷ cells) all (suc k) given there = sums_load col
 rows_scan : (row : CellRows) (cells : List (InstanceId × Bool)) → AllByRecursion (λ given. is_none (row given.0) ≡ false) cells → first_unscanned row cells ≡ None
 rows_scan row [] all = refl
 rows_scan row (x ∷ cells) all = ap (λ (b : Bool). if b then Some x.0 else first_unscanned row cells) all.0 ∙ rows_scan row cells all.1
-
-length_at : (chains : List (List InstanceId)) (chain : ℕ) (cells : List InstanceId) → slice_get chains chain ≡ Some cells → slice_index (map length chains) chain ≡ length cells
-length_at [] chain cells at = absurd (none-some cells at)
-length_at (x ∷ chains) zero cells at = ap (λ (xs : List InstanceId). length xs) (same_Some x cells at)
-length_at (x ∷ chains) (suc chain) cells at = length_at chains chain cells at
 
 -- ---- the rows of the planned chains
 

@@ -9,13 +9,15 @@ use Rattle.std.proofs.lemmas.List.{ext_get_or}
 use Rattle.std.proofs.lemmas.List.FromFn.{get_or-map-range_with_len, length-map-range_with_len}
 use Rattle.dft_base.specs.Solutions.{bit_at, sum_over, sum_to, xor}
 use Rattle.dft_base.proofs.NumberLemmas.{same_number as number_same}
-use Rattle.dft_base.proofs.SumLemmas.{and_false, sum_add, sum_one, sum_same, weighed, weighed_add, weighed_zero, xor_false}
+use Rattle.dft_base.proofs.SumLemmas.{sum_add, sum_one, sum_same, weighed, weighed_add, weighed_zero, xor_false}
+use Rattle.dft_base.proofs.BitLemmas.{not_true}
 use Rattle.dft_config.specs.declared.config.Tap.{Tap}
-use Rattle.dft_config.specs.declared.config.Injector.{Injector}
 use Rattle.dft_config.specs.declared.config.RingConfig.{RingConfig}
 use Rattle.dft_config.specs.Range.{IsSet, all_differ, has, same_number}
-use Rattle.dft_config.specs.Ring.{injected, step, sum_of, tapped}
+use Rattle.dft_config.specs.Ring.{step, sum_of, tapped}
+use Rattle.dft_equations.proofs.ImpulseLemmas.{injected_none}
 use Rattle.dft_decompressor.specs.StageSets.{bits_of, moved, moved_bit, moves_from, moves_of, same_set, set_itself}
+use Rattle.dft_decompressor.proofs.SetLemmas.{same_is}
 use Rattle.dft_configure_laws.specs.Moves.{ApartIsPlain, Foretells, HasItsTaps, MovesAreSums, move_of, quiet, quiet_after}
 
 -- taps between the stages of a ring
@@ -85,10 +87,6 @@ tapped_same n (tap ∷ taps) bits state within =
 
 -- ---- a cycle
 
-none_injected : (injectors : List Injector) (stage : ℕ) → injected injectors (λ channel. false) stage ≡ false
-none_injected [] stage = refl
-none_injected (injector ∷ injectors) stage = (λ i. xor (and_false (injector.stage == stage) i) (none_injected injectors stage i))
-
 parted : (a b c : Bool) → (a && xor b c) ≡ xor (a && b) (c && a)
 parted = grind arith
 
@@ -97,7 +95,7 @@ taken_by : (ring : RingConfig) (state : ℕ → Bool) (k : ℕ) → k < ring.sta
 unfolding step
 taken_by ring state k less =
     let inside : nat_lt k ring.stages ≡ true = grind (arith, nat_tests) in
-    (λ i. inside i && xor (state ((k + 1) % ring.stages)) (xor (tapped ring.taps state k) (none_injected ring.injectors k i)))
+    (λ i. inside i && xor (state ((k + 1) % ring.stages)) (xor (tapped ring.taps state k) (injected_none ring.injectors k i)))
     ∙ ap (xor (state ((k + 1) % ring.stages))) (xor_false (tapped ring.taps state k))
 
 -- a bit of the moved set
@@ -144,10 +142,6 @@ among_is : (set : List ℕ) (stage : ℕ) → list_any (λ other. other == stage
 among_is [] stage = refl
 among_is (x ∷ set) stage = ap (λ (b : Bool). (x == stage) || b) (among_is set stage)
 
-not_true : (b : Bool) → not b ≡ true → b ≡ false
-not_true true is = sym is
-not_true false is = refl
-
 -- The sum over listed stages, each of them once, is that over their set.
 listed_sum : (n : ℕ) (set : List ℕ) (state : ℕ → Bool) → All (λ (stage : ℕ). stage < n) set → all_differ same_number set ≡ true → sum_of state set ≡ weighed n state (λ k. list_any (λ other. other == k) set)
 listed_sum n [] state below differ = sym (weighed_zero n state)
@@ -173,19 +167,6 @@ moves_sum ring set state cycles within is most =
     ∙ moves_sum_from ring state cycles ring.stages (bits_of ring.stages set) within (length-map-range_with_len (λ stage. list_any (λ other. other == stage) set) 0 ring.stages) most
 
 -- ---- sets that are apart
-
--- bits that are the same are one
-same_bit : (a b : Bool) → not (xor a b) ≡ true → a ≡ b
-same_bit true true is = refl
-same_bit true false is = sym is
-same_bit false true is = is
-same_bit false false is = refl
-
-pub same_is : (a b : List Bool) → same_set a b ≡ true → a ≡ b
-same_is [] [] is = refl
-same_is [] (b ∷ more) is = absurd cc
-same_is (a ∷ rest) [] is = absurd cc
-same_is (a ∷ rest) (b ∷ more) is = let parts = and_parts (not (xor a b)) (same_set rest more) is in λ i. same_bit a b parts.0 i ∷ same_is rest more parts.1 i
 
 same_self : (a : List Bool) → same_set a a ≡ true
 same_self [] = refl

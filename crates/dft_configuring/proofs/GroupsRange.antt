@@ -3,21 +3,19 @@ use Rattle.std.proofs.Common.{◌≡◌, ℕ, zero, suc, ◌+◌, ◌%◌, ◌<�
 use Rattle.std.specs.List.{AllByRecursion, list_any, range_with_len}
 use Rattle.std.proofs.Math.Nat.{mod-eq_of_lt, mod-lt}
 use Rattle.std.proofs.lemmas.Bool.{eq-eqb}
-use Rattle.std.proofs.lemmas.Bool.Decides.{nat_tests}
 use Rattle.std.proofs.lemmas.List.Elements.{All-from_recursion}
 use Rattle.std.proofs.lemmas.List.FromFn.{length-map-range_with_len}
+use Rattle.dft_base.proofs.BitLemmas.{or_right}
+use Rattle.dft_base.proofs.NumberLemmas.{same_or_past}
 use Rattle.dft_config.specs.Range.{IsCompactorInRange, IsSet, all_differ, has, same_number}
 use Rattle.dft_configure.specs.Compacting.{group_of, groups_of, is_of}
+use Rattle.dft_insert.proofs.FrameSingle.{differ_down}
 
 -- ---- chosen numbers of a range
 
--- no number before it is there
-apart_by : (a k : ℕ) → k < a → (a == k) ≡ false
-apart_by a k less = grind (arith, nat_tests, less)
-
 none_by : (p : ℕ → Bool) (a n k : ℕ) (b : Bool) → k < a → has same_number (filter p (range_with_len (a + 1) n)) k ≡ false →
     has same_number (cond b (a ∷ filter p (range_with_len (a + 1) n)) (filter p (range_with_len (a + 1) n))) k ≡ false
-none_by p a n k true less rest = ap (λ (c : Bool). c || has same_number (filter p (range_with_len (a + 1) n)) k) (apart_by a k less) ∙ rest
+none_by p a n k true less rest = ap (λ (c : Bool). c || has same_number (filter p (range_with_len (a + 1) n)) k) (differ_down a k less) ∙ rest
 none_by p a n k false less rest = rest
 
 none_before : (p : ℕ → Bool) (a n k : ℕ) → k < a → has same_number (filter p (range_with_len a n)) k ≡ false
@@ -42,26 +40,12 @@ pub chosen_below : (p : ℕ → Bool) (a n top : ℕ) → a + n ≤ top → AllB
 chosen_below p a zero top most = tt
 chosen_below p a (suc n) top most = below_by p a n top (p a) (omega (arith, most)) (chosen_below p (a + 1) n top (omega (arith, most)))
 
--- a chosen number is there
-or_right : (x y : Bool) → y ≡ true → (x || y) ≡ true
-or_right true y e = refl
-or_right false y e = e
-
 has_by : (p : ℕ → Bool) (a n k : ℕ) (b : Bool) → p a ≡ b → p k ≡ true → (a ≡ k) ⊎ (has same_number (filter p (range_with_len (a + 1) n)) k ≡ true) →
     has same_number (cond b (a ∷ filter p (range_with_len (a + 1) n)) (filter p (range_with_len (a + 1) n))) k ≡ true
 has_by p a n k true here is (inl same) = ap (λ (c : Bool). c || has same_number (filter p (range_with_len (a + 1) n)) k) (eq-eqb a k same)
 has_by p a n k true here is (inr rest) = or_right (a == k) (has same_number (filter p (range_with_len (a + 1) n)) k) rest
 has_by p a n k false here is (inl same) = absurd (let e : false ≡ true = sym here ∙ ap p same ∙ is in cc)
 has_by p a n k false here is (inr rest) = rest
-
-pub same_or_past : (a k : ℕ) → a ≤ k → (a ≡ k) ⊎ (a + 1 ≤ k)
-same_or_past zero zero most = inl refl
-same_or_past zero (suc k) most = inr (omega arith)
-same_or_past (suc a) zero most = absurd (omega (arith, most))
-same_or_past (suc a) (suc k) most = elim (same_or_past a k (omega (arith, most))) [
-  | inl same ↦ inl (ap suc same)
-  | inr past ↦ inr (omega (arith, past))
-]
 
 chosen_has : (p : ℕ → Bool) (a n k : ℕ) → a ≤ k → k < a + n → p k ≡ true → has same_number (filter p (range_with_len a n)) k ≡ true
 chosen_has p a zero k low high is = absurd (omega (arith, low, high))

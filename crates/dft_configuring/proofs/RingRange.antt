@@ -17,19 +17,19 @@ use Rattle.dft_decompressor.specs.Rings.{AreInjectors, around, injector_at, inje
 use Rattle.dft_decompressor.specs.Sizes.{sizes}
 use Rattle.dft_decompressor.specs.StageSets.{threes, threes_after, threes_with}
 use Rattle.dft_configuring.specs.Made.{IsRing}
-use Rattle.dft_configuring.proofs.GroupsRange.{each_on, same_or_past}
+use Rattle.dft_configuring.proofs.GroupsRange.{each_on}
 use Rattle.rand_pcg.specs.Lcg.{Lcg}
+use Rattle.std.proofs.lemmas.Bool.{and_right}
+use Rattle.dft_base.proofs.ListLemmas.{all_append}
+use Rattle.dft_base.proofs.NumberLemmas.{more_apart, same_or_past}
+use Rattle.dft_base.proofs.BitLemmas.{both_down}
 
 -- ---- lists
-
-each_append : {X : Type 0} (P : X → Type 0) (xs ys : List X) → AllByRecursion P xs → AllByRecursion P ys → AllByRecursion P (xs ++ ys)
-each_append P [] ys first second = second
-each_append P (x ∷ xs) ys first second = (first.0, each_append P xs ys first.1 second)
 
 each_flat : {X : Type 0} (P : X → Type 0) (f : ℕ → List X) (a n : ℕ) → ((k : ℕ) → a ≤ k → k < a + n → AllByRecursion P (f k)) → AllByRecursion P (flat_map f (range_with_len a n))
 each_flat P f a zero each = tt
 each_flat P f a (suc n) each =
-    each_append P (f a) (flat_map f (range_with_len (a + 1) n)) (each a (omega arith) (omega arith)) (each_flat P f (a + 1) n (λ k low high. each k (omega (arith, low)) (omega (arith, high))))
+    all_append P (f a) (flat_map f (range_with_len (a + 1) n)) (each a (omega arith) (omega arith)) (each_flat P f (a + 1) n (λ k low high. each k (omega (arith, low)) (omega (arith, high))))
 
 some_by : {X : Type 0} (f : ℕ → List X) (a n k : ℕ) → 0 < length (f k) → (a ≡ k) ⊎ (0 < length (flat_map f (range_with_len (a + 1) n))) → 0 < length (flat_map f (range_with_len a (suc n)))
 some_by f a n k some (inl same) =
@@ -56,14 +56,11 @@ found_good P p (y ∷ xs) x all is = found_by P p y x (find p xs) (p y) refl all
 
 -- ---- phase sets
 
-less_apart : (a b : ℕ) → a < b → (b == a) ≡ false
-less_apart a b less = grind (arith, nat_tests, less)
-
 three_set : (stages a b c : ℕ) → a < b → b < c → c < stages → IsSet stages (a ∷ b ∷ c ∷ [])
 three_set stages a b c first second last = record {
   some = omega arith;
   below = All-from_recursion (λ n. n < stages) (a ∷ b ∷ c ∷ []) (omega (arith, first, second, last), (omega (arith, second, last), (last, tt)));
-  differ = (λ i. not (less_apart a b first i || (less_apart a c (omega (arith, first, second)) i || false)) && (not (less_apart b c second i || false) && true));
+  differ = (λ i. not (more_apart a b first i || (more_apart a c (omega (arith, first, second)) i || false)) && (not (more_apart b c second i || false) && true));
 }
 
 threes_sets : (stages : ℕ) → AllByRecursion (IsSet stages) (threes stages)
@@ -90,7 +87,7 @@ pass_sets : (wish : Wish) (left : ℕ) (random : Lcg) (taken all : List (List �
 pass_sets wish left random taken all least (Full count) good = good
 pass_sets wish left random taken all least Ended good = good
 pass_sets wish (suc left) random taken all least (Takes less may rest) good =
-    pass_sets wish left (next_state random) (taken ++ next_set wish random ∷ []) all least rest (each_append (IsSet wish.stages) taken (next_set wish random ∷ []) good (next_is wish random least, tt))
+    pass_sets wish left (next_state random) (taken ++ next_set wish random ∷ []) all least rest (all_append (IsSet wish.stages) taken (next_set wish random ∷ []) good (next_is wish random least, tt))
 pass_sets wish (suc left) random taken all least (Leaves less may rest) good = pass_sets wish left (next_state random) taken all least rest good
 
 abbrev HaveSets : (stages chains : ℕ) → Option (List (List ℕ)) → Type 0
@@ -161,27 +158,19 @@ count_some channels (suc each) number less = omega arith
 channel_less : (channels each number : ℕ) → number < channels * each → number / each < channels
 channel_less channels each number less = (div-lt_iff_lt-mul (count_some channels each number less)).1 less
 
-or_false : (a b : Bool) → (a || b) ≡ false → (a ≡ false) × (b ≡ false)
-or_false true b is = absurd cc
-or_false false b is = (refl, is)
-
 turned : (a b : ℕ) → (a == b) ≡ false → (b == a) ≡ false
 turned a b is = grind (arith, nat_tests, is)
-
-and_false : (a b : Bool) → b ≡ false → (a && b) ≡ false
-and_false true b is = is
-and_false false b is = refl
 
 none_same : (x : Injector) (xs : List Injector) → ((k : ℕ) → k < length xs → (x.stage == (injector_at xs k).stage) ≡ false) → has same_injector xs x ≡ false
 none_same x [] apart = refl
 none_same x (y ∷ xs) apart =
-    (λ i. and_false (y.channel == x.channel) (y.stage == x.stage) (turned x.stage y.stage (apart 0 (omega arith))) i || none_same x xs (λ k less. apart (suc k) (omega (arith, less))) i)
+    (λ i. and_right (y.channel == x.channel) (y.stage == x.stage) (turned x.stage y.stage (apart 0 (omega arith))) i || none_same x xs (λ k less. apart (suc k) (omega (arith, less))) i)
 
 differ_all : (xs : List Injector) → ((k : ℕ) → k < length xs → is_held (take k xs) (injector_at xs k).stage ≡ false) → all_differ same_injector xs ≡ true
 differ_all [] apart = refl
 differ_all (x ∷ xs) apart =
     let split : (k : ℕ) → k < length xs → ((x.stage == (injector_at xs k).stage) ≡ false) × (is_held (take k xs) (injector_at xs k).stage ≡ false) =
-    λ k less. or_false (x.stage == (injector_at xs k).stage) (is_held (take k xs) (injector_at xs k).stage) (apart (suc k) (omega (arith, less))) in
+    λ k less. both_down (x.stage == (injector_at xs k).stage) (is_held (take k xs) (injector_at xs k).stage) (apart (suc k) (omega (arith, less))) in
     (λ i. not (none_same x xs (λ k less. (split k less).0) i) && differ_all xs (λ k less. (split k less).1) i)
 
 module _ (stages inputs : ℕ) (injectors : List Injector) (some : 1 ≤ stages) (are : AreInjectors stages inputs injectors) where

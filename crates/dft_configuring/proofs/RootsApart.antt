@@ -6,14 +6,13 @@ use Rattle.std.specs.Str.{bytes_eq}
 use Rattle.std.proofs.lemmas.Bool.{eq-eqb, eqb-true}
 use Rattle.std.proofs.lemmas.List.Elements.{All-from_recursion}
 use Rattle.std.proofs.lemmas.Map.Keys.{any_passes_from_place}
+use Rattle.dft_base.proofs.BitLemmas.{and_first}
 use Rattle.dft_cells.specs.declared.kind.Kind.{Kind}
 use Rattle.dft_cells.specs.declared.kind.Kind.TheVariants.{Buf, Inv, And, Nand, Or, Nor, Xor, Xnor, Mux2, Table, Tie0, Tie1, Dff, Dffr, Dffs, Sdff, Sdffr, Sdffs, Lockup, Opaque}
 use Rattle.dft_cells.specs.declared.kind.Role.{Role}
 use Rattle.dft_cells.specs.declared.kind.Role.TheVariants as role
 use Rattle.dft_config.specs.Range.{has}
 use Rattle.dft_netlist.specs.declared.instance.Instance.{Instance}
-use Rattle.dft_netlist.specs.declared.instance.Signal.{Signal}
-use Rattle.dft_netlist.specs.declared.instance.Signal.TheVariants as signal
 use Rattle.dft_netlist.specs.Netlist.{Netlist}
 use Rattle.dft_netlist.specs.Drivers.{Connection, Loose, Net, Source, Tied, connections_of, kind_at, kind_of, pins_at, pins_of, shape_of, source_of}
 use Rattle.dft_netlist.specs.ClockRoots.{ClockRoot}
@@ -22,8 +21,9 @@ use Rattle.dft_netlist.specs.Sound.{IsNetlist}
 use Rattle.dft_netlist.specs.Traces.{Root, Port, Constant, Other, root_of, root_of_driver, root_within}
 use Rattle.dft_netlist.proofs.ClockWalks.{traced_clock}
 use Rattle.dft_netlist.proofs.GateDrivers.{driven_live}
-use Rattle.dft_rules.specs.Refusals.{is_data_of, is_joined_to, takes, takes_data, uses_data}
+use Rattle.dft_rules.specs.Refusals.{is_data_of, takes, takes_data, uses_data}
 use Rattle.dft_rules.specs.Rules.{may_be_scanned}
+use Rattle.dft_rules.proofs.ReadingLemmas.{joined_net}
 use Rattle.dft_configure.specs.Roots.{can_hold, clean_clock, domains_of, hold_root, is_among, is_clean, is_fit, is_port, is_tapped, open_clock, open_reset, open_resets, port_of_clock, port_of_root, port_shown, resets_of, root_of_either, uses}
 use Rattle.dft_configure.proofs.GoodLemmas.{some_passes}
 use Rattle.dft_configure.proofs.ScannedLemmas.{domain_clean, one_counted, used}
@@ -88,11 +88,6 @@ is_net (Some (Tied bit)) = false
 is_net (Some (Loose instance pin)) = false
 is_net None = false
 
-joined : (i pin net : ℕ) (to : Signal) → Some (source_of i pin to) ≡ Some (Net net) → is_joined_to net to ≡ true
-joined i pin net (signal.Net other) is = eq-eqb other.0 net (ap net_in is)
-joined i pin net (signal.Constant bit) is = let never : false ≡ true = ap is_net is in absurd cc
-joined i pin net signal.Unconnected is = let never : false ≡ true = ap is_net is in absurd cc
-
 pin_taken : (r : Role) (taken : (other : Role) → same_role r other ≡ true → takes_data other ≡ true) (i net : ℕ) (cs : List Connection) → pin_of r i cs ≡ Some (Net net) → list_any (takes net) cs ≡ true
 pin_taken r taken i net [] is = let never : false ≡ true = ap is_net is in absurd cc
 pin_taken r taken i net (c ∷ cs) is = by (same_role r c.role) refl is (pin_taken r taken i net cs)
@@ -105,7 +100,7 @@ pin_taken r taken i net (c ∷ cs) is = by (same_role r c.role) refl is (pin_tak
     or_right false b e = e
 
     by : (t : Bool) → same_role r c.role ≡ t → (if t then Some (source_of i c.pin c.to) else pin_of r i cs) ≡ Some (Net net) → (pin_of r i cs ≡ Some (Net net) → list_any (takes net) cs ≡ true) → (takes net c || list_any (takes net) cs) ≡ true
-    by true same at later = or_left (takes net c) (list_any (takes net) cs) (λ j. taken c.role same j && joined i c.pin net c.to at j)
+    by true same at later = or_left (takes net c) (list_any (takes net) cs) (λ j. taken c.role same j && joined_net i c.pin net c.to at j)
     by false same at later = or_right (takes net c) (list_any (takes net) cs) (later at)
 
 -- ---- the net of a root is a net
@@ -155,13 +150,9 @@ then_among : (domains : List ℕ) (o : Option ℕ) (b : Bool) → is_among domai
 then_among domains o true at = refl
 then_among domains o false at = absurd cc
 
-left_true : (a b : Bool) → (a && b) ≡ true → a ≡ true
-left_true true b is = refl
-left_true false b is = absurd cc
-
 open_judged : (n : Netlist) (domains : List ℕ) (i : ℕ) → is_among domains (open_clock n i) ≡ true → may_be_scanned (kind_at n i) ≡ true
 unfolding open_clock
-open_judged n domains i among = left_true _ _ (left_true _ _ (then_among domains (clean_clock n i) (is_fit n i && can_hold (hold_root n i)) among))
+open_judged n domains i among = and_first _ _ (and_first _ _ (then_among domains (clean_clock n i) (is_fit n i && can_hold (hold_root n i)) among))
 
 reset_unclean : (n : Netlist) (port : ℕ) → IsNetlist n → is_among (resets_of n (domains_of n)) (Some port) ≡ true → is_clean n port ≡ false
 unfolding resets_of

@@ -23,7 +23,7 @@ use Rattle.dft_cube_reports.specs.Outcomes.{cell_name, cube_report, cube_reports
 
 -- ---- the positions of a certificate
 
-abbrev Below : ℕ → List ℕ → Type 0
+abbrev pub Below : ℕ → List ℕ → Type 0
 Below b [] = Unit {0}
 Below b (k ∷ ks) = (k < b) × Below b ks
 
@@ -31,7 +31,7 @@ abbrev IdsBelow : ℕ → List Equation → Type 0
 IdsBelow b [] = Unit {0}
 IdsBelow b (e ∷ es) = (e.id < b) × IdsBelow b es
 
-both_below : (b : ℕ) (xs ys : List ℕ) → Below b xs → Below b ys → Below b (xs ++ ys)
+pub both_below : (b : ℕ) (xs ys : List ℕ) → Below b xs → Below b ys → Below b (xs ++ ys)
 both_below b [] ys h g = g
 both_below b (x ∷ xs) ys h g = (h.0, both_below b xs ys h.1 g)
 
@@ -44,7 +44,7 @@ id_below b [] j h less = absurd (omega (arith, less))
 id_below b (e ∷ es) zero h less = h.0
 id_below b (e ∷ es) (suc j) h less = id_below b es j h.1 (omega (arith, less))
 
-if_below : (b id : ℕ) (t : Bool) → id < b → Below b (cond t (id ∷ []) [])
+pub if_below : (b id : ℕ) (t : Bool) → id < b → Below b (cond t (id ∷ []) [])
 if_below b id true less = (less, tt)
 if_below b id false less = tt
 

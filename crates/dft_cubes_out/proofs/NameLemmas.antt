@@ -1,5 +1,5 @@
 -- What the names in written cubes stand for.
-use Rattle.std.proofs.Common.{◌≡◌, ℕ, zero, suc, ◌+◌, ◌<◌, Bool, true, false, cond, List, [], ◌∷◌, length, Option, None, Some, slice_get, refl, sym, ap, ◌∙◌, arith, true≢false, ltb}
+use Rattle.std.proofs.Common.{◌≡◌, ℕ, zero, suc, ◌+◌, ◌<◌, Bool, true, false, List, [], ◌∷◌, length, Option, None, Some, slice_get, refl, sym, ap, ◌∙◌, arith, true≢false, ltb}
 use Rattle.std.specs.Prelude.{◌||◌, not, position}
 use Rattle.std.specs.List.{list_any, position_or_len}
 use Rattle.std.specs.Option.{option_and_then}
@@ -9,38 +9,23 @@ use Rattle.std.proofs.lemmas.Bool.{and_parts}
 use Rattle.std.proofs.lemmas.Option.{none-some}
 use Rattle.dft_base.specs.Lexing.{Text}
 use Rattle.dft_base.proofs.TextLemmas.{same_text, bytes_eq-self}
+use Rattle.dft_base.proofs.BitLemmas.{not_true}
 use Rattle.dft_netlist.specs.declared.ids.NetId.{NetId}
 use Rattle.dft_netlist.specs.declared.ids.InstanceId.{InstanceId}
-use Rattle.dft_netlist.specs.declared.instance.Instance.{Instance}
-use Rattle.dft_netlist.specs.declared.named.Named.TheVariants.{Net, Instance as AnInstance}
+use Rattle.dft_netlist.specs.declared.named.Named.TheVariants.{Net}
 use Rattle.dft_netlist.specs.Netlist.{Netlist}
 use Rattle.dft_netlist.specs.Sound.{IsNetlist}
 use Rattle.dft_netlist.specs.Drivers.{driver, kind_at}
 use Rattle.dft_netlist.specs.Connections.{is_input, input_net}
-use Rattle.dft_netlist.specs.Names.{find_instance, find_instance_from, find_net, find_net_from, has_this_name, instance_name}
-use Rattle.dft_netlist.proofs.FindLemmas.{instance_at, is_this_name, not_first_instance, not_found}
+use Rattle.dft_netlist.specs.Names.{find_instance, find_net, instance_name}
+use Rattle.dft_netlist.proofs.FindLemmas.{not_found, found_at}
+use Rattle.dft_netlist.proofs.ListingLemmas.{found_by}
 use Rattle.dft_config.specs.Range.{all_differ, has}
 use Rattle.dft_rules.specs.Rules.{flip_flop_named, is_net, may_be_scanned}
+use Rattle.dft_rules.proofs.ReadingLemmas.{is_itself}
 use Rattle.dft_cubes.specs.Cubes.{is_among}
 
 -- ---- instances
-
-never_missed : (from : ℕ) (instances : List Instance) (name : Text) (j : ℕ) → option_and_then instance_name (slice_get instances j) ≡ Some name → find_instance_from from instances name ≡ None → ⊥
-never_missed from [] name j is none = none-some name is
-never_missed from (x ∷ rest) name zero is none =
-    true≢false (sym (is_this_name x.name name is) ∙ (not_first_instance (has_this_name x.name name) (record { 0 = from }) (find_instance_from (suc from) rest name) none).0)
-never_missed from (x ∷ rest) name (suc j) is none = never_missed (suc from) rest name j is (not_first_instance (has_this_name x.name name) (record { 0 = from }) (find_instance_from (suc from) rest name) none).1
-
-one_instance : (a b : InstanceId) → AnInstance a ≡ AnInstance b → a ≡ b
-one_instance a b same = cc
-
-found_by : (n : Netlist) (name : Text) (cell : InstanceId) (o : Option InstanceId) → IsNetlist n → find_instance n name ≡ o → option_and_then instance_name (slice_get n.instances cell.0) ≡ Some name → find_instance n name ≡ Some cell
-found_by n name cell None sound is named = absurd (never_missed 0 n.instances name cell.0 named is)
-found_by n name cell (Some other) sound is named =
-    let r = instance_at 0 n.instances name other is in
-    let at : other.0 ≡ r.0 = r.1 ∙ omega arith in
-    let own : option_and_then instance_name (slice_get n.instances other.0) ≡ Some name = ap (λ (j : ℕ). option_and_then instance_name (slice_get n.instances j)) at ∙ r.2 in
-    is ∙ ap Some (one_instance other cell (sound.names name (AnInstance other) (AnInstance cell) own named))
 
 -- the flip-flop with the name of a cell is the cell
 pub cell_found : (n : Netlist) (name : Text) (cell : InstanceId) → IsNetlist n → option_and_then instance_name (slice_get n.instances cell.0) ≡ Some name → may_be_scanned (kind_at n cell.0) ≡ true → flip_flop_named n name ≡ Some cell
@@ -48,24 +33,13 @@ cell_found n name cell sound named kind = rw (found_by n name cell (find_instanc
 
 -- ---- nets
 
-abbrev IsAt : (from : ℕ) → List Text → (name : Text) → NetId → Type 0
-IsAt from nets name k = (j : ℕ) × (k.0 ≡ from + j) × (slice_get nets j ≡ Some name)
-
-first_at : (t : Bool) (from : ℕ) (x : Text) (nets : List Text) (name : Text) (k : NetId) → bytes_eq x name ≡ t → (find_net_from (suc from) nets name ≡ Some k → IsAt (suc from) nets name k) → cond t (Some (record { 0 = from })) (find_net_from (suc from) nets name) ≡ Some k → IsAt from (x ∷ nets) name k
-first_at true from x nets name k is rest h = let e : record { 0 = from } ≡ k = cc in (0, sym (ap (λ (i : NetId). i.0) e) ∙ omega arith, ap Some (same_text x name is))
-first_at false from x nets name k is rest h = let r = rest h in (suc r.0, r.1 ∙ omega arith, r.2)
-
-net_at : (from : ℕ) (nets : List Text) (name : Text) (k : NetId) → find_net_from from nets name ≡ Some k → IsAt from nets name k
-net_at from [] name k h = absurd (none-some k h)
-net_at from (x ∷ nets) name k h = first_at (bytes_eq x name) from x nets name k refl (net_at (suc from) nets name k) h
-
 one_net : (a b : NetId) → Net a ≡ Net b → a ≡ b
 one_net a b same = cc
 
 net_by : (n : Netlist) (name : Text) (net : NetId) (o : Option NetId) → IsNetlist n → find_net n name ≡ o → slice_get n.nets net.0 ≡ Some name → find_net n name ≡ Some net
 net_by n name net None sound is named = absurd (not_found 0 n.nets name is net.0 named)
 net_by n name net (Some other) sound is named =
-    let r = net_at 0 n.nets name other is in
+    let r = found_at 0 n.nets name other is in
     let at : other.0 ≡ r.0 = r.1 ∙ omega arith in
     let own : slice_get n.nets other.0 ≡ Some name = ap (slice_get n.nets) at ∙ r.2 in
     is ∙ ap Some (one_net other net (sound.names name (Net other) (Net net) own named))
@@ -73,9 +47,6 @@ net_by n name net (Some other) sound is named =
 -- the input's bit with the name of a net that an input drives is the net
 pub port_found : (n : Netlist) (name : Text) (net : NetId) → IsNetlist n → slice_get n.nets net.0 ≡ Some name → is_input (driver n net.0) ≡ true → input_net n name ≡ Some net
 port_found n name net sound named input = rw (net_by n name net (find_net n name) sound refl named, input) refl
-
-is_itself : (net : NetId) → is_net net.0 (Some net) ≡ true
-is_itself net = grind (arith, nat_tests)
 
 or_parts : (a b : Bool) → a || b ≡ false → (a ≡ false) × (b ≡ false)
 or_parts true b h = absurd (let f : ⊥ = cc in f)
@@ -104,10 +75,6 @@ has_at : (xs : List Text) (name : Text) (k : ℕ) → slice_get xs k ≡ Some na
 has_at [] name k at = absurd (none-some name at)
 has_at (x ∷ xs) name zero at = let e : x ≡ name = cc in rw (ap (λ (t : Text). bytes_eq t name) e ∙ bytes_eq-self name) refl
 has_at (x ∷ xs) name (suc k) at = or_on (bytes_eq x name) (has bytes_eq xs name) (has_at xs name k at)
-
-not_true : (t : Bool) → not t ≡ true → t ≡ false
-not_true true h = absurd (true≢false (sym h))
-not_true false h = refl
 
 -- where a name differs from one that stands before it
 abbrev IsPlace : List Text → (name : Text) → (k : ℕ) → Type 0

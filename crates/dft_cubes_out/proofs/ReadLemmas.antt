@@ -8,6 +8,7 @@ use Rattle.std.proofs.lemmas.Bool.Decides.{nat_tests}
 use Rattle.std.proofs.lemmas.Option.{none-some}
 use Rattle.dft_base.specs.Lexing.{Text}
 use Rattle.dft_base.proofs.TextLemmas.{same_text}
+use Rattle.dft_base.proofs.ListLemmas.{get_left}
 use Rattle.dft_cells.specs.WellFormed.{has_name}
 use Rattle.dft_netlist.specs.declared.ids.NetId.{NetId}
 use Rattle.dft_netlist.specs.declared.ids.InstanceId.{InstanceId}
@@ -37,11 +38,6 @@ within [] k x at = absurd (none-some x at)
 within (y ∷ xs) zero x at = omega arith
 within (y ∷ xs) (suc k) x at = let lt = within xs k x at in omega (arith, lt)
 
-in_front : {A : Type 0} (xs ys : List A) (k : ℕ) (x : A) → slice_get xs k ≡ Some x → slice_get (xs ++ ys) k ≡ Some x
-in_front [] ys k x at = absurd (none-some x at)
-in_front (y ∷ xs) ys zero x at = at
-in_front (y ∷ xs) ys (suc k) x at = in_front xs ys k x at
-
 behind : {A : Type 0} (xs ys : List A) (x : A) → slice_get (xs ++ x ∷ ys) (length xs) ≡ Some x
 behind [] ys x = refl
 behind (y ∷ xs) ys x = behind xs ys x
@@ -65,7 +61,7 @@ Once {A} same xs = (j k : ℕ) (a b : A) → slice_get xs j ≡ Some a → slice
 none_by : {A : Type 0} (same : A → A → Bool) (before more : List A) (x : A) (t : Bool) → list_any (λ y. same y x) before ≡ t → Once same (before ++ x ∷ more) → t ≡ false
 none_by same before more x true is once =
     let r = found_in (λ y. same y x) before is in
-    let at : r.0 ≡ length before = once r.0 (length before) r.1 x (in_front before (x ∷ more) r.0 r.1 r.2) (behind before more x) r.3 in
+    let at : r.0 ≡ length before = once r.0 (length before) r.1 x (get_left before (x ∷ more) r.0 r.1 r.2) (behind before more x) r.3 in
     let lt = within before r.0 r.1 r.2 in
     absurd (omega (arith, at, lt))
 none_by same before more x false is once = refl
@@ -77,7 +73,7 @@ named : (o : Option Text) → IsSome o → o ≡ Some (name_of o)
 named None some = absurd (let f : ⊥ = cc in f)
 named (Some name) some = refl
 
-there : (names : List Text) (k : ℕ) → k < length names → slice_get names k ≡ Some (name_of (slice_get names k))
+pub there : (names : List Text) (k : ℕ) → k < length names → slice_get names k ≡ Some (name_of (slice_get names k))
 there [] k lt = absurd (omega (arith, lt))
 there (x ∷ names) zero lt = refl
 there (x ∷ names) (suc k) lt = there names k (omega (arith, lt))

@@ -11,6 +11,7 @@ use Rattle.dft_cells.specs.FlipFlops.{tri_forced}
 use Rattle.dft_netlist.specs.Logic.{Cell, Force, Meaning, Input, Clock, Gate, Joined, Flop, Lockup, Free}
 use Rattle.dft_netlist.specs.Settled.{value_from, value_given, inverse}
 use Rattle.dft_netlist.specs.Orders.{Has}
+use Rattle.dft_netlist.proofs.ListingLemmas.{has_front}
 use Rattle.dft_logic.specs.declared.circuit.Op.{Op}
 use Rattle.dft_logic.specs.declared.circuit.Op.TheVariants as op
 use Rattle.dft_logic.specs.declared.settling.View.{View}
@@ -24,7 +25,6 @@ use Rattle.dft_cycle.proofs.NextLemmas.{by_hit, by_miss}
 use Rattle.dft_cycle.proofs.RoundLemmas.{latch_hits, latch_misses}
 use Rattle.dft_logic.proofs.Compiled.{latch_live}
 use Rattle.dft_logic.proofs.Settlings.{IsGiven}
-use Rattle.dft_cycle.proofs.Sweepings.{has_front}
 
 -- ---- writing by a list
 

@@ -4,7 +4,7 @@ use Rattle.std.specs.Prelude.{if◌then◌else◌, replicate}
 use Rattle.std.proofs.lemmas.Bool.Decides.{leb_tells, eqb_tells}
 use Rattle.std.specs.Global.{Vec}
 use Rattle.std.specs.Vec.{with_items}
-use Rattle.std.proofs.lemmas.List.{get_or_past, drop_all, with_items_is}
+use Rattle.std.proofs.lemmas.List.{get_or_past, drop_all}
 use Rattle.dft_base.specs.declared.tri.Tri.{Tri}
 use Rattle.dft_base.specs.declared.tri.Tri.TheVariants.{Unknown}
 use Rattle.dft_base.proofs.BitLemmas.{or_later}
@@ -19,6 +19,7 @@ use Rattle.dft_cycle.specs.Machine.{Machine, value_at, is_one_of, ports_of, logi
 use Rattle.dft_logic.specs.Circuit.{Circuit, IsReady, logic_at, cell_of, cell_at, flag_at, base_of, leaves_from, IsCircuit}
 use Rattle.dft_cycle.specs.Views.{AreFalling, Rises, rank_of, Among, AreNext}
 use Rattle.std.proofs.lemmas.Option.{slice_get-get_or}
+use Rattle.dft_base.proofs.ListLemmas.{refilled_items}
 use Rattle.dft_registers.specs.declared.moves.Move.{Move}
 use Rattle.dft_registers.specs.Cells.{Contents, course}
 use Rattle.dft_logic.specs.declared.takings.Taking.{Taking}
@@ -40,17 +41,11 @@ use Rattle.dft_logic.proofs.TakingLemmas.{next_loose}
 
 -- ---- the elements of a vector that was filled anew
 
-pub refilled : {X : Type 0} (v : Vec X) (ws : List X) → length (with_items v ws).items ≡ length v.items
-refilled v ws = sym (with_items v ws).ok.0 ∙ v.ok.0
-
-pub filled : {X : Type 0} (v : Vec X) (ws rs : List X) → length ws ≡ length rs → rs ≡ v.items → (with_items v ws).items ≡ ws
-filled v ws rs a e = with_items_is v ws (a ∙ ap length e ∙ sym v.ok.0)
-
 pub clear_kept : (v : Vec Bool) (ws rs : List Bool) → length ws ≡ length rs → rs ≡ v.items → ((k : ℕ) → flag_at ws k ≡ false) → (k : ℕ) → flag_at (with_items v ws).items k ≡ false
-clear_kept v ws rs a e clear k = ap (λ (l : List Bool). flag_at l k) (filled v ws rs a e) ∙ clear k
+clear_kept v ws rs a e clear k = ap (λ (l : List Bool). flag_at l k) (refilled_items v ws rs a e) ∙ clear k
 
 pub ready_kept : (x : Circuit) (v : Vec Tri) (ws rs : List Tri) → length ws ≡ length rs → rs ≡ v.items → IsReady x ws → IsReady x (with_items v ws).items
-ready_kept x v ws rs a e ready = subst (IsReady x) (sym (filled v ws rs a e)) ready
+ready_kept x v ws rs a e ready = subst (IsReady x) (sym (refilled_items v ws rs a e)) ready
 
 -- ---- a strobe
 
@@ -307,11 +302,6 @@ domains_rest x p is down live rise c = by (p.pulsed (cell_at (map cell_of x.flop
 
 -- ---- the start
 
-pub down_all : (count e : ℕ) → flag_at (replicate count false) e ≡ false
-down_all zero e = refl
-down_all (suc count) zero = refl
-down_all (suc count) (suc e) = down_all count e
-
 pub unknown_all : (count e : ℕ) → value_at (replicate count Unknown) e ≡ Unknown
 unknown_all zero e = refl
 unknown_all (suc count) zero = refl
@@ -378,7 +368,7 @@ pulses_one (clock ∷ clocks) (b ∷ pulsed) e up = go b (clock.0 == e) (pulses 
 pub flags_one : (clocks : List NetId) (pulsed : List Bool) (v : Vec Bool) (ws : List Bool) (cs : List NetId) (rs : List Bool) → length ws ≡ length rs → rs ≡ v.items → cs ≡ clocks →
     ((e : ℕ) → flag_at ws e ≡ pulses cs pulsed e) → (e : ℕ) → flag_at (with_items v ws).items e ≡ true → is_one_of clocks e ≡ true
 flags_one clocks pulsed v ws cs rs a b named marks e up =
-    pulses_one clocks pulsed e (sym (ap (λ (l : List NetId). pulses l pulsed e) named) ∙ sym (marks e) ∙ sym (ap (λ (l : List Bool). flag_at l e) (filled v ws rs a b)) ∙ up)
+    pulses_one clocks pulsed e (sym (ap (λ (l : List NetId). pulses l pulsed e) named) ∙ sym (marks e) ∙ sym (ap (λ (l : List Bool). flag_at l e) (refilled_items v ws rs a b)) ∙ up)
 
 -- flags are lowered one after another
 pub lower_more : (nets : List NetId) (flags : List Bool) (j : ℕ) (d : NetId) → j < length nets → (get_or nets j d).0 < length flags → ((e : ℕ) → flag_at flags e ≡ true → is_one_of (drop j nets) e ≡ true) →
@@ -443,7 +433,7 @@ put_passed x p old plan row rs new takings moves found t r m put =
 -- ---- loose flip-flops stay Unknown
 
 pub loose_kept : (x : Circuit) (v : Vec Tri) (ws rs : List Tri) → length ws ≡ length rs → rs ≡ v.items → LooseAreUnknown x (value_at ws) → LooseAreUnknown x (value_at (with_items v ws).items)
-loose_kept x v ws rs a e loose = subst (λ (l : List Tri). LooseAreUnknown x (value_at l)) (sym (filled v ws rs a e)) loose
+loose_kept x v ws rs a e loose = subst (λ (l : List Tri). LooseAreUnknown x (value_at l)) (sym (refilled_items v ws rs a e)) loose
 
 -- past the end there is no value
 loose_within : (x : Circuit) (new : List Tri) → length new ≡ length x.flops → ((c : ℕ) → c < length x.flops → is_loose (cell_at (map cell_of x.flops) c) ≡ true → value_at new c ≡ Unknown) →

@@ -6,8 +6,7 @@ use Rattle.std.proofs.lemmas.List.{at_drop_more, at_drop_all}
 use Rattle.std.proofs.lemmas.List.FromFn.{map-range_with_len_more}
 use Rattle.std.proofs.lemmas.List.Sums.{count_by_more_no, count_by_more_yes}
 use Rattle.std.proofs.lemmas.Grind.{flat_map-append}
-use Rattle.dft_base.proofs.ListLemmas.{range_split}
-use Rattle.dft_base.proofs.NumberLemmas.{one_left}
+use Rattle.dft_base.proofs.ListLemmas.{range_split, flat_on, flat_over}
 
 -- one value of a function more
 pub pushed : {X : Type 0} (f : ℕ → X) (k : ℕ) (before after : List X) (x : X) → after ≡ before ++ x ∷ [] → before ≡ map f (range_with_len 0 k) → x ≡ f k → after ≡ map f (range_with_len 0 (k + 1))
@@ -61,25 +60,18 @@ range_more a n = range_split a n 1
 pub parts_more : {X : Type 0} (f : ℕ → List X) (a n : ℕ) → flat_map f (range_with_len a (n + 1)) ≡ flat_map f (range_with_len a n) ++ (f (a + n) ++ [])
 parts_more f a n = ap (flat_map f) (range_more a n) ∙ flat_map-append f (range_with_len a n) ((a + n) ∷ [])
 
--- the first of the parts that are left
-pub parts_left : {X : Type 0} (f : ℕ → List X) (k total : ℕ) → k < total → flat_map f (range_with_len k (total - k)) ≡ f k ++ flat_map f (range_with_len (k + 1) (total - (k + 1)))
-parts_left f k total less = ap (λ (m : ℕ). flat_map f (range_with_len k m)) (one_left k total less)
-
-pub parts_none : {X : Type 0} (f : ℕ → List X) (k total : ℕ) → total ≤ k → flat_map f (range_with_len k (total - k)) ≡ []
-parts_none f k total past = let none : total - k ≡ 0 = omega arith in ap (λ (m : ℕ). flat_map f (range_with_len k m)) none
-
 -- the item of a rank stands in the first part that is left, or behind it, or there is none
 pub rank_here : {X : Type 0} (f : ℕ → List X) (k total left : ℕ) (found : Option X) → k < total → left < length (f k) → slice_get (flat_map f (range_with_len k (total - k))) left ≡ found → slice_get (f k) left ≡ found
 rank_here f k total left found less within rest =
-    sym (slice_get_front (f k) (flat_map f (range_with_len (k + 1) (total - (k + 1)))) left within) ∙ sym (ap (λ l. slice_get l left) (parts_left f k total less)) ∙ rest
+    sym (slice_get_front (f k) (flat_map f (range_with_len (k + 1) (total - (k + 1)))) left within) ∙ sym (ap (λ l. slice_get l left) (flat_on f k total less)) ∙ rest
 
 pub rank_on : {X : Type 0} (f : ℕ → List X) (k total left : ℕ) (found : Option X) → k < total → length (f k) ≤ left → slice_get (flat_map f (range_with_len k (total - k))) left ≡ found →
     slice_get (flat_map f (range_with_len (k + 1) (total - (k + 1)))) (left - length (f k)) ≡ found
 rank_on f k total left found less past rest =
-    sym (slice_get_back (f k) (flat_map f (range_with_len (k + 1) (total - (k + 1)))) left past) ∙ sym (ap (λ l. slice_get l left) (parts_left f k total less)) ∙ rest
+    sym (slice_get_back (f k) (flat_map f (range_with_len (k + 1) (total - (k + 1)))) left past) ∙ sym (ap (λ l. slice_get l left) (flat_on f k total less)) ∙ rest
 
 pub rank_over : {X : Type 0} (f : ℕ → List X) (k total left : ℕ) (found : Option X) → total ≤ k → slice_get (flat_map f (range_with_len k (total - k))) left ≡ found → None ≡ found
-rank_over f k total left found past rest = sym (ap (λ l. slice_get l left) (parts_none f k total past)) ∙ rest
+rank_over f k total left found past rest = sym (ap (λ l. slice_get l left) (flat_over f k total past)) ∙ rest
 
 -- ---- items that are counted
 

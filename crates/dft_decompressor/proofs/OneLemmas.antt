@@ -1,10 +1,11 @@
 -- Phase sets, the size of a ring and its injectors are one.
-use Rattle.std.proofs.Common.{ℕ, zero, suc, ◌≡◌, ◌<◌, ◌≤◌, Bool, true, false, true≢false, List, [], ◌∷◌, ◌++◌, length, Option, None, Some, refl, sym, ap, arith, ◌∙◌, subst}
+use Rattle.std.proofs.Common.{ℕ, zero, suc, ◌≡◌, ◌<◌, ◌≤◌, List, [], ◌∷◌, ◌++◌, length, Option, None, Some, refl, sym, ap, arith, ◌∙◌, subst}
 use Rattle.std.specs.Prelude.{take}
 use Rattle.std.proofs.Math.Seq.{take-suc}
 use Rattle.std.proofs.lemmas.List.{take_all}
 use Rattle.std.proofs.lemmas.Option.{none-some, same_Some}
 use Rattle.rand_pcg.specs.Lcg.{Lcg}
+use Rattle.dft_base.proofs.BitLemmas.{true_false}
 use Rattle.dft_config.specs.declared.config.Injector.{Injector}
 use Rattle.dft_decompressor.specs.declared.fits.Fitting.{Fitting}
 use Rattle.dft_decompressor.specs.Fits.{FirstFit, NoSize, TooSmall, Fits, HasNone}
@@ -16,9 +17,6 @@ not_fewer count chains e less = omega (arith, e, less)
 
 not_less : (a b : ℕ) → a < b → b ≤ a → ⊥
 not_less a b less more = omega (arith, less, more)
-
-not_both : (b : Bool) → b ≡ true → b ≡ false → ⊥
-not_both b yes_it no_it = true≢false (sym yes_it ∙ no_it)
 
 -- ---- phase sets
 
@@ -32,9 +30,9 @@ pass_one wish left random taken a b Ended (Full q) = refl
 pass_one wish left random taken a b Ended Ended = refl
 pass_one wish left random taken a b (Takes {left = more} p r s) (Full q) = absurd (not_fewer (length taken) wish.chains q p)
 pass_one wish left random taken a b (Takes {left = more} p r s) (Takes q t u) = pass_one wish more (next_state random) (taken ++ next_set wish random ∷ []) a b s u
-pass_one wish left random taken a b (Takes {left = more} p r s) (Leaves q t u) = absurd (not_both (may_follow wish.stages wish.bound taken (next_set wish random)) r t)
+pass_one wish left random taken a b (Takes {left = more} p r s) (Leaves q t u) = absurd (true_false (may_follow wish.stages wish.bound taken (next_set wish random)) r t)
 pass_one wish left random taken a b (Leaves {left = more} p r s) (Full q) = absurd (not_fewer (length taken) wish.chains q p)
-pass_one wish left random taken a b (Leaves {left = more} p r s) (Takes q t u) = absurd (not_both (may_follow wish.stages wish.bound taken (next_set wish random)) t r)
+pass_one wish left random taken a b (Leaves {left = more} p r s) (Takes q t u) = absurd (true_false (may_follow wish.stages wish.bound taken (next_set wish random)) t r)
 pass_one wish left random taken a b (Leaves {left = more} p r s) (Leaves q t u) = pass_one wish more (next_state random) taken a b s u
 
 -- a pass is full, or short

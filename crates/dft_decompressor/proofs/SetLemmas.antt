@@ -4,6 +4,7 @@ use Rattle.std.proofs.lemmas.Bool.{and_parts}
 use Rattle.std.proofs.lemmas.List.{at_drop_more, at_drop_all}
 use Rattle.dft_base.specs.Solutions.{xor}
 use Rattle.dft_base.proofs.NumberLemmas.{one_left}
+use Rattle.dft_base.proofs.BitLemmas.{same_bit, bit_same}
 use Rattle.dft_config.specs.declared.config.Tap.{Tap}
 use Rattle.dft_decompressor.specs.StageSets.{moved, moves_from, same_set}
 use Rattle.dft_decompressor.specs.Stamps.{stamp_of}
@@ -24,17 +25,13 @@ moves_all taps n k last before after all past pushed rest =
 
 -- ---- sets that are the same
 
-self_same : (b : Bool) → not (xor b b) ≡ true
-self_same true = refl
-self_same false = refl
-
 -- the stages from one on are compared
 pub same_on : (a b : List Bool) (k : ℕ) → k < length a → length a ≡ length b → get_or a k false ≡ get_or b k false → same_set (drop k a) (drop k b) ≡ same_set a b → same_set (drop (k + 1) a) (drop (k + 1) b) ≡ same_set a b
 same_on a b k less lengths is rest =
     let within : k < length b = omega arith in
     sym (at_drop_more (λ l. same_set l (drop k b)) a k false less ∙ at_drop_more (λ l. same_set (get_or a k false ∷ drop (k + 1) a) l) b k false within
     ∙ ap (λ (x : Bool). not (xor x (get_or b k false)) && same_set (drop (k + 1) a) (drop (k + 1) b)) is
-    ∙ ap (λ (x : Bool). x && same_set (drop (k + 1) a) (drop (k + 1) b)) (self_same (get_or b k false)))
+    ∙ ap (λ (x : Bool). x && same_set (drop (k + 1) a) (drop (k + 1) b)) (bit_same (get_or b k false)))
     ∙ rest
 
 other_bit : (a b : Bool) → xor a b ≡ true → not (xor a b) ≡ false
@@ -67,19 +64,13 @@ same_lengths (a ∷ rest) (b ∷ more) apart = by (not (xor a b)) (same_lengths 
 
 -- ---- stamps
 
-bits_same : (a b : Bool) → not (xor a b) ≡ true → a ≡ b
-bits_same true true is = refl
-bits_same true false is = sym is
-bits_same false true is = is
-bits_same false false is = refl
-
 -- sets that are the same are equal
-same_is : (a b : List Bool) → same_set a b ≡ true → a ≡ b
+pub same_is : (a b : List Bool) → same_set a b ≡ true → a ≡ b
 same_is [] [] is = refl
 same_is [] (b ∷ more) is = absurd cc
 same_is (a ∷ rest) [] is = absurd cc
 same_is (a ∷ rest) (b ∷ more) is =
-    let parts = and_parts (not (xor a b)) (same_set rest more) is in λ i. bits_same a b parts.0 i ∷ same_is rest more parts.1 i
+    let parts = and_parts (not (xor a b)) (same_set rest more) is in λ i. same_bit a b parts.0 i ∷ same_is rest more parts.1 i
 
 -- sets with other stamps are not the same
 pub stamps_differ : (a b : List Bool) → (stamp_of a ≡ stamp_of b → ⊥) → false ≡ same_set a b

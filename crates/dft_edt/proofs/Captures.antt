@@ -20,6 +20,7 @@ use Rattle.dft_abstract.specs.Laws.{next_from}
 use Rattle.dft_abstract.proofs.Forces.{by_twice}
 use Rattle.dft_abstract.proofs.Phases.{of_both}
 use Rattle.dft_abstract.proofs.OneDomain.{flop_old}
+use Rattle.dft_abstract.proofs.Least.{forced_by_monotone}
 use Rattle.dft_chains.specs.ScanOff.{moved_source, moved_force, moved_meaning, Places, IsWithin, IsForceWithin, IsEnabledBy, KeepsFlop}
 use Rattle.dft_edt.specs.Captures.{Covers, ContainingCovers, WideningCovers, StandsOver, StrobeLaw, AllIn, IsClockFree, IsCapture, after_edge, CaptureLaw}
 use Rattle.dft_chains.proofs.Staying.{net_stays}
@@ -240,10 +241,6 @@ module _ (original written : Logic) (rank : ℕ → ℕ) (p : Places) (d : ℕ) 
 
 -- ---- the rise and the fall
 
-forced_up : (f : Option Force) (ports : ℕ → Tri) (t u : Tri) → AboveTri t u → AboveTri (tri_forced_by f ports t) (tri_forced_by f ports u)
-forced_up None ports t u h = h
-forced_up (Some f) ports t u h = forced_monotone f.value (ports f.port) (ports f.port) t u (above_self (ports f.port)) h
-
 forced_edge : (b : Bool) (f : Option Force) (ports : ℕ → Tri) (t old : Tri) → tri_forced_by f ports (if b then tri_forced_by f ports t else old) ≡ (if b then tri_forced_by f ports t else tri_forced_by f ports old)
 forced_edge true f ports t old = by_twice f ports t
 forced_edge false f ports t old = refl
@@ -262,7 +259,7 @@ capture_law original written rank p d y x its risen old h values later free rank
     let same : tri_forced_by f y.ports (after_edge original y d true values its c) ≡ after_edge original y d true values (rise_of original y its).old c =
     forced_edge (((original.cell c).domain == d) && takes true (original.cell c).falling) f y.ports next (its c) in
     trans (tri_forced_by f y.ports (risen c)) (after_edge original y d true values (rise_of original y its).old c) (between c)
-    (subst (λ t. AboveTri (tri_forced_by f y.ports (risen c)) t) same (forced_up f y.ports (risen c) (after_edge original y d true values its c) (caught.above c))) (up c flop)) in
+    (subst (λ t. AboveTri (tri_forced_by f y.ports (risen c)) t) same (forced_by_monotone f y.ports (risen c) (after_edge original y d true values its c) (caught.above c))) (up c flop)) in
     edge_over original written rank p d y x ranked has capture over.ports false between h.fall.poss h.fall.view halves.fall risen later caught.second moved free (λ k o. clear_open original free k (original.net k) clear o refl)
     (λ k o is_clock. absurd (clear.clocks k o is_clock)) cell (after_edge original y d true values (rise_of original y its).old) is (up cell is) among
 

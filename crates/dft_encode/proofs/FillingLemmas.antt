@@ -1,9 +1,10 @@
 -- One pattern more.
-use Rattle.std.proofs.Common.{◌≡◌, ℕ, zero, suc, ◌+◌, ◌<◌, ◌≤◌, ◌⊎◌, inl, inr, List, [], ◌∷◌, ◌++◌, length, map, take, Option, None, Some, refl, sym, subst, ap, ◌∙◌, length-take, zero-add, arith}
+use Rattle.std.proofs.Common.{◌≡◌, ℕ, ◌+◌, ◌<◌, ◌≤◌, ◌⊎◌, inl, inr, List, [], ◌∷◌, ◌++◌, length, map, take, Option, None, Some, refl, sym, subst, ap, ◌∙◌, length-take, zero-add, arith}
 use Rattle.std.specs.Prelude.{slice_get, count_by, IfSome}
 use Rattle.std.proofs.lemmas.List.{take_more, map_push, length-map}
 use Rattle.std.proofs.lemmas.List.Sums.{sum_by-append}
-use Rattle.std.proofs.lemmas.Option.{get_or_from_slice_get, slice_get_within, same_Some}
+use Rattle.std.proofs.lemmas.Option.{get_or_from_slice_get, slice_get_within}
+use Rattle.dft_base.proofs.ListLemmas.{get_push}
 use Rattle.dft_netlist.specs.Netlist.{Netlist}
 use Rattle.dft_config.specs.Config.{Config}
 use Rattle.dft_cubes.specs.Domains.{captures_of}
@@ -19,16 +20,6 @@ use Rattle.dft_encode.specs.declared.found.Found.{Found}
 use Rattle.dft_encode.specs.Compiled.{IsPattern, merged_of}
 use Rattle.dft_encode.specs.Counts.{is_set, masked_in}
 use Rattle.dft_encode.specs.Finding.{HasPatterns, FitsFound, data_found, last_found}
-
--- an item of a list with one more is among the others, or the last
-pub pushed : {X : Type 0} (xs : List X) (y p : X) (k : ℕ) → slice_get (xs ++ y ∷ []) k ≡ Some p → (slice_get xs k ≡ Some p) ⊎ ((k ≡ length xs) × (y ≡ p))
-pushed [] y p zero at = inr (refl, same_Some y p at)
-pushed [] y p (suc k) at = absurd (let f : ⊥ = cc in f)
-pushed (x ∷ xs) y p zero at = inl at
-pushed (x ∷ xs) y p (suc k) at = pushed_next xs y p k (pushed xs y p k at) where
-  pushed_next : {X : Type 0} (xs : List X) (y p : X) (k : ℕ) → (slice_get xs k ≡ Some p) ⊎ ((k ≡ length xs) × (y ≡ p)) → (slice_get xs k ≡ Some p) ⊎ ((suc k ≡ suc (length xs)) × (y ≡ p))
-  pushed_next xs y p k (inl there) = inl there
-  pushed_next xs y p k (inr last) = inr (ap suc last.0, last.1)
 
 last_push : (before : Option PatternData) (patterns : List PatternData) (p : PatternData) → last_of before (patterns ++ p ∷ []) ≡ Some p
 last_push before [] p = refl
@@ -88,7 +79,7 @@ one_found f number g h l m found has at is fits small same added last masked =
       patterns = has.patterns ++ p ∷ [];
       are = record {
         merged = map_push merged_of has.patterns p ∙ ap (λ (ms : List Merged). ms ++ found.merged ∷ []) has.are.merged ∙ sym more;
-        each = λ k q there. each_case f.loads.now.design f.loads.now.config f.loads.now.plan f.merger.now.loads.rows has.patterns p q number k length_is has.are.each is (pushed has.patterns p q k there);
+        each = λ k q there. each_case f.loads.now.design f.loads.now.config f.loads.now.plan f.merger.now.loads.rows has.patterns p q number k length_is has.are.each is (get_push has.patterns p q k there);
       };
       lists = in_list l.config f.loads.now.config l.plan f.loads.now.plan g.last l m found has.patterns has.config has.plan (added has.patterns) has.lists has.last;
       last = ap (last_found f.loads.now.config f.loads.now.plan) last ∙ sym (last_push None has.patterns p);

@@ -7,6 +7,7 @@ use Rattle.std.proofs.lemmas.List.FromFn.{length-enumerate_from, length-map-rang
 use Rattle.std.proofs.lemmas.Option.{slice_get_within}
 use Rattle.dft_base.specs.declared.tri.Tri.{Tri}
 use Rattle.dft_base.specs.Solutions.{bit_at, IsChosen}
+use Rattle.dft_base.proofs.ListLemmas.{get_push}
 use Rattle.dft_netlist.specs.declared.ids.InstanceId.{InstanceId}
 use Rattle.dft_netlist.specs.Netlist.{Netlist}
 use Rattle.dft_netlist.proofs.NotesLemmas.{item_at}
@@ -35,7 +36,6 @@ use Rattle.dft_encode.specs.declared.found.Found.{Found}
 use Rattle.dft_encode.specs.declared.loads.Load.{Load}
 use Rattle.dft_encode.specs.Compiled.{IsPattern}
 use Rattle.dft_encode.specs.Finding.{AreLoaded, AreLoads, Captured, FitsFound, IsFinder, IsLoad, IsLoaded, data_found}
-use Rattle.dft_encode.proofs.FillingLemmas.{pushed}
 use Rattle.dft_stitch.proofs.ChainLimits.{blocks_count}
 
 -- ---- bits
@@ -54,7 +54,7 @@ load_case f first number k loads new l count each is (inr last) = subst (IsLoad 
 
 -- one load more
 pub loads_more : (f : Finder) (first number : ℕ) (loads more : List Load) (new : Load) → length loads ≡ number → AreLoads f first loads → IsLoad f (first + number) new → more ≡ loads ++ new ∷ [] → AreLoads f first more
-loads_more f first number loads more new count each is pushes = subst (AreLoads f first) (sym pushes) (λ k l at. load_case f first number k loads new l count each is (pushed loads new l k at))
+loads_more f first number loads more new count each is pushes = subst (AreLoads f first) (sym pushes) (λ k l at. load_case f first number k loads new l count each is (get_push loads new l k at))
 
 -- ---- captures
 
@@ -68,7 +68,7 @@ loaded_case merged first number k loads patterns new p count each is (inr last) 
 pub loaded_more : (merged : List Merged) (first number : ℕ) (loads : List Load) (patterns more : List Pattern) (new : Pattern) → length patterns ≡ number → ((j : ℕ) (q : Pattern) → slice_get patterns j ≡ Some q → IsLoaded merged first loads j q) → IsLoaded merged first loads number new →
     more ≡ patterns ++ new ∷ [] → (k : ℕ) (p : Pattern) → slice_get more k ≡ Some p → IsLoaded merged first loads k p
 loaded_more merged first number loads patterns more new count each is pushes k p at =
-    loaded_case merged first number k loads patterns new p count each is (pushed patterns new p k (subst (λ (ps : List Pattern). slice_get ps k ≡ Some p) pushes at))
+    loaded_case merged first number k loads patterns new p count each is (get_push patterns new p k (subst (λ (ps : List Pattern). slice_get ps k ≡ Some p) pushes at))
 
 -- a capture of the pattern at a place is one of its merged cubes and its load
 capture_of : (f : Finder) (first k : ℕ) (loads : List Load) (p : Pattern) (l : Load) (r : Response) (merged : Merged) → IsFinder f → IsLoaded f.merger.now.patterns first loads k p → slice_get loads k ≡ Some l → slice_get f.merger.now.patterns (first + k) ≡ Some merged →

@@ -59,7 +59,7 @@ tapped_none : (taps : List Tap) (stage : ℕ) → tapped taps (λ i. false) stag
 tapped_none [] stage = refl
 tapped_none (tap ∷ taps) stage = λ t. xor (and_false (tap.to == stage) t) (tapped_none taps stage t)
 
-injected_none : (injectors : List Injector) (stage : ℕ) → injected injectors (λ j. false) stage ≡ false
+pub injected_none : (injectors : List Injector) (stage : ℕ) → injected injectors (λ j. false) stage ≡ false
 injected_none [] stage = refl
 injected_none (injector ∷ injectors) stage = λ t. xor (and_false (injector.stage == stage) t) (injected_none injectors stage t)
 

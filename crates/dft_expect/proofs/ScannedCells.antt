@@ -1,12 +1,10 @@
 -- A cell of the chains is modelled: on the clock that its clock pin shows, with its data input and no scan pins. And no instance is a lock-up.
-use Rattle.std.proofs.Common.{ℕ, zero, suc, ◌+◌, ◌≡◌, Bool, true, false, List, [], ◌∷◌, cond, map, position, inl, inr, Option, None, Some, is_some, option_and_then, option_map, slice_get, refl, sym, subst, ap, ◌∙◌}
+use Rattle.std.proofs.Common.{ℕ, zero, suc, ◌≡◌, Bool, true, false, List, [], ◌∷◌, map, inl, inr, Option, None, Some, is_some, option_and_then, option_map, slice_get, refl, sym, subst, ap, ◌∙◌}
 use Rattle.std.specs.Prelude.{if◌then◌else◌, IsTrue}
-use Rattle.std.specs.List.{position_from, AllByRecursion}
-use Rattle.std.proofs.lemmas.Iterator.Adapters.{position_from-zero}
+use Rattle.std.specs.List.{AllByRecursion}
 use Rattle.std.proofs.lemmas.Option.{none-some, same_Some}
 use Rattle.std.proofs.lemmas.Map.Keys.{any_passes_from_place}
 use Rattle.dft_base.specs.Lexing.{Text}
-use Rattle.dft_base.proofs.OptionLemmas.{some_of}
 use Rattle.dft_cells.specs.declared.kind.Kind.{Kind}
 use Rattle.dft_cells.specs.declared.kind.Kind.TheVariants as kind
 use Rattle.dft_cells.specs.declared.kind.Role.{Role}
@@ -21,45 +19,25 @@ use Rattle.dft_netlist.specs.declared.instance.Signal.{Signal}
 use Rattle.dft_netlist.specs.Netlist.{Netlist}
 use Rattle.dft_netlist.specs.Drivers.{Source, connections_from, gate_roles, kind_of, kind_at, pins_at, pins_of, shape_of, shape_of_cell, source_of}
 use Rattle.dft_netlist.specs.Sound.{IsCellOf, is_primitive}
-use Rattle.dft_netlist.specs.Traces.{Root, Port, Constant, Other, root_of}
 use Rattle.dft_netlist.specs.ClockRoots.{ClockRoot, clock_root_of}
-use Rattle.dft_netlist.specs.Logic.{Ports, Force, Scan, Cell, same_role, pin_of, or_loose, domain_at, force_of, forcing, scan_of, modelled, modelled_of, flip_flop}
+use Rattle.dft_netlist.specs.Logic.{Ports, Force, Scan, Cell, same_role, pin_of, or_loose, domain_at, forcing, scan_of, modelled, modelled_of, flip_flop}
 use Rattle.dft_netlist.specs.Logic as logic
 use Rattle.dft_config.specs.Config.{Config}
 use Rattle.dft_config.specs.Range.{IsInRange}
 use Rattle.dft_netlist.specs.Connections.{input_net}
-use Rattle.dft_rules.specs.Rules.{is_net, place_of_port, place_of_root, place_of_clock, clock_of_source, clocked_by, is_held, are_held, are_held_at, scan_cell_of, is_kept, may_be_scanned, judged_by}
+use Rattle.dft_rules.specs.Rules.{is_net, place_of_port, place_of_clock, clock_of_source, clocked_by, is_held, are_held_at, scan_cell_of, is_kept, may_be_scanned, judged_by}
 use Rattle.dft_expect.specs.Captures.{config_ports}
 use Rattle.dft_rules.specs.declared.judged.Judged.TheVariants.{Scanned}
 use Rattle.dft_rules.specs.declared.error.RuleError.TheVariants.{LockupPresent}
 use Rattle.dft_rules.specs.Refusals.{first_present, present, present_as}
 use Rattle.dft_rules.proofs.CheckLemmas.{none_first, none_present}
 use Rattle.dft_rules.proofs.Scannable.{scannable_flop}
+use Rattle.dft_rules.proofs.ClockedFlops.{position_at, force_pins}
 use Rattle.dft_stitch.specs.Chains.{plan_of}
 use Rattle.dft_stitch.specs.Plans.{cell_at}
 use Rattle.dft_stitch.specs.Laws.{IsScanned}
 use Rattle.dft_stitch.proofs.OnceLemmas.{cells_scanned}
 use Rattle.dft_expect.specs.Capturing.{CanCapture}
-
--- ---- places of names
-
--- the item at a number, from one on, passes a test
-record IsAt {A : Type 0} (test : A → Bool) (from : ℕ) (xs : List A) (number : ℕ) : Type 0 where
-  pub place : ℕ
-  pub item : A
-  pub at : slice_get xs place ≡ Some item
-  pub passes : test item ≡ true
-
-position_by : {A : Type 0} (test : A → Bool) (from number : ℕ) (x : A) (xs : List A) (b : Bool) → test x ≡ b → (position_from test (from + 1) xs ≡ Some number → IsAt test (from + 1) xs number) → cond b (Some from) (position_from test (from + 1) xs) ≡ Some number → IsAt test from (x ∷ xs) number
-position_by test from number x xs true is more e = record { place = zero; item = x; at = refl; passes = is }
-position_by test from number x xs false is more e = let it = more e in record { place = suc it.place; item = it.item; at = it.at; passes = it.passes }
-
-position_item : {A : Type 0} (test : A → Bool) (from number : ℕ) (xs : List A) → position_from test from xs ≡ Some number → IsAt test from xs number
-position_item test from number [] e = absurd (none-some number e)
-position_item test from number (x ∷ xs) e = position_by test from number x xs (test x) refl (position_item test (from + 1) number xs) e
-
-position_at : {A : Type 0} (test : A → Bool) (number : ℕ) (xs : List A) → position test xs ≡ Some number → IsAt test 0 xs number
-position_at test number xs e = position_item test 0 number xs (sym (position_from-zero test xs) ∙ e)
 
 -- ---- a scanned flip-flop
 
@@ -116,23 +94,6 @@ clocked n config i place e = clocked_pin n config i place (pin_of role.Clock i (
 domain_is : (n : Netlist) (config : Config) (i : ℕ) (c : IsClocked n config i) → domain_at n (config_ports n config) (pin_of role.Clock i (pins_of n i)) ≡ Some c.clock
 domain_is n config i c =
     ap (domain_at n (config_ports n config)) c.pin ∙ ap (logic.domain_of (config_ports n config)) c.root ∙ ap (λ (b : Bool). if b then Some c.clock else None) c.is
-
--- ---- its reset or set
-
-force_root : (n : Netlist) (config : Config) (value : Bool) (r : Root) → is_held n config.resets r ≡ true → (force : Option Force) × (force_of (config_ports n config) value r ≡ Some force)
-force_root n config value (Port net) e =
-    let some = some_of (place_of_root n config.resets (Port net)) e in
-    let it = position_at (λ name. is_net net (input_net n name)) some.0 config.resets some.1 in
-    let reset : (config_ports n config).is_reset net ≡ true = any_passes_from_place (λ name. is_net net (input_net n name)) config.resets it.place it.item it.at it.passes in
-    (Some (record { port = net; value = value }), ap (λ b. if b then Some (Some (record { port = net; value = value })) else None) reset)
-force_root n config value (Constant true) e = (None, refl)
-force_root n config value (Constant false) e = absurd cc
-force_root n config value Other e = absurd cc
-
-force_pins : (n : Netlist) (config : Config) (reset preset : Option Source) → are_held n config.resets reset preset ≡ true → (force : Option Force) × (forcing n (config_ports n config) reset preset ≡ Some force)
-force_pins n config (Some reset) preset e = force_root n config false (root_of n reset) e
-force_pins n config None (Some preset) e = force_root n config true (root_of n preset) e
-force_pins n config None None e = (None, refl)
 
 -- ---- it has no scan pins
 
@@ -191,7 +152,7 @@ shape_none : (library : List declared.Cell) (cell : CellRef) → IsWellFormed li
 shape_none library (cell_ref.Library id) well may = cell_none library id.0 (slice_get library id.0) well refl may
 shape_none library (cell_ref.Gate k inputs) well may = gate_none inputs
 
-pins_none : (library : List declared.Cell) (i : ℕ) (o : Option Instance) → IsWellFormed library → may_be_scanned (kind_of library o) ≡ true → pin_of role.ScanEnable i (pins_at library o) ≡ None
+pub pins_none : (library : List declared.Cell) (i : ℕ) (o : Option Instance) → IsWellFormed library → may_be_scanned (kind_of library o) ≡ true → pin_of role.ScanEnable i (pins_at library o) ≡ None
 pins_none library i None well may = refl
 pins_none library i (Some x) well may = no_pin i 0 (shape_of library x.cell).roles x.pins (shape_none library x.cell well may)
 

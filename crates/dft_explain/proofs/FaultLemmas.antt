@@ -4,11 +4,11 @@ use Rattle.std.proofs.Common.{◌≡◌, ◌∙◌, ◌-◌, drop, length, take,
 use Rattle.std.proofs.Math.Seq.{take-length}
 use Rattle.dft_explain.specs.Faults.{Fault, Form, Text, by_value, fault_of_option, joined_in, name_in, names_with, or_else, words_after, wrong_option}
 
-or_none : (fault other : Option Fault) → fault ≡ None → or_else fault other ≡ other
+pub or_none : (fault other : Option Fault) → fault ≡ None → or_else fault other ≡ other
 or_none None other e = refl
 or_none (Some fault) other e = absurd cc
 
-last : (form : Form) (names : List Text) (joined : Option Text) → wrong_option form names (words_after joined []) ≡ None
+pub last : (form : Form) (names : List Text) (joined : Option Text) → wrong_option form names (words_after joined []) ≡ None
 last form names None = refl
 last form names (Some value) = refl
 

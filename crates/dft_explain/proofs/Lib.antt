@@ -4,5 +4,5 @@ mod Ends
 mod Bounds
 mod RunBounds
 mod Decimals
-mod FaultLemmas
+pub mod FaultLemmas
 mod FaultBounds

@@ -1,5 +1,5 @@
 -- What cells take in each lane, one place after another.
-use Rattle.std.proofs.Common.{ℕ, zero, suc, Bool, true, false, ◌≡◌, ◌<◌, ◌≤◌, ◌+◌, ◌⊎◌, List, [], ◌∷◌, length, drop, drop-cons, add-one, inl, inr, refl, sym, ap, subst, arith, ◌∙◌, get_or, slice_set, get_or-set_same, get_or-set_other, Some}
+use Rattle.std.proofs.Common.{ℕ, zero, Bool, true, false, ◌≡◌, ◌<◌, ◌≤◌, ◌+◌, ◌⊎◌, List, [], ◌∷◌, length, drop, drop-cons, add-one, inl, inr, refl, sym, ap, subst, arith, ◌∙◌, get_or, slice_set, get_or-set_same, get_or-set_other, Some}
 use Rattle.std.specs.Prelude.{if◌then◌else◌}
 use Rattle.std.proofs.lemmas.List.{get_or_past, drop_all, length-set}
 use Rattle.std.proofs.lemmas.Bool.{cases_Bool, cases_eq}
@@ -14,6 +14,7 @@ use Rattle.dft_lanes.specs.declared.wide.Wide.{Wide}
 use Rattle.dft_lanes.specs.Choices.{can, some_choice_of_three}
 use Rattle.dft_netlist.specs.Logic.{Cell, no_cell}
 use Rattle.dft_netlist.specs.Orders.{Has}
+use Rattle.dft_netlist.proofs.ListingLemmas.{has_item}
 use Rattle.dft_abstract.specs.Cycle.{tri_forced_by}
 use Rattle.dft_logic.specs.declared.circuit.Acting.{Acting}
 use Rattle.dft_logic.specs.declared.circuit.FlipFlop.{FlipFlop}
@@ -43,15 +44,6 @@ pub wide_chooses : (wide a b e : Wide) (s t u : ℕ → Tri) → IsWide a s → 
     IsWide wide (λ lane. tri_chosen (u lane) (t lane) (s lane))
 wide_chooses wide a b e s t u is_a is_b is_e made =
     wide_same wide (λ lane. mux_tri (s lane) (t lane) (u lane)) (λ lane. tri_chosen (u lane) (t lane) (s lane)) (wide_muxes wide a b e s t u is_a is_b is_e made) (λ lane less. mux_chooses (s lane) (t lane) (u lane))
-
--- a reset or set whose port is 0 leaves its value, and where the port is unknown what both share
-pub forced_zero : (value : Bool) (t : Tri) → tri_forced value Zero t ≡ known value
-forced_zero true Zero = refl
-forced_zero true One = refl
-forced_zero true Unknown = refl
-forced_zero false Zero = refl
-forced_zero false One = refl
-forced_zero false Unknown = refl
 
 forced_unknown : (value : Bool) (t : Tri) → mux_tri (known value) t Unknown ≡ tri_forced value Unknown t
 forced_unknown true Zero = refl
@@ -155,13 +147,8 @@ pub record TakenTo (flops : List FlipFlop) (places : List ℕ) (ports : List Tri
 pub none_taken : (flops : List FlipFlop) (places : List ℕ) (ports : List Tri) (wides start : List Wide) → TakenTo flops places ports wides start start 0
 none_taken flops places ports wides start = record { size = refl; done = λ c h. inr h; rest = λ c none. refl }
 
-has_read : (xs : List ℕ) (j d : ℕ) → j < length xs → Has xs (get_or xs j d)
-has_read [] j d less = absurd (omega arith)
-has_read (x ∷ xs) zero d less = inl refl
-has_read (x ∷ xs) (suc j) d less = inr (has_read xs j d (omega arith))
-
 pub place_live : (count : ℕ) (places : List ℕ) (j d : ℕ) → ((c : ℕ) → Has places c → c < count) → j < length places → get_or places j d < count
-place_live count places j d live less = live (get_or places j d) (has_read places j d less)
+place_live count places j d live less = live (get_or places j d) (has_item places j d less)
 
 pub take_at : (flops : List FlipFlop) (places : List ℕ) (ports : List Tri) (wides start now : List Wide) (j : ℕ) (flop : FlipFlop) (w : Wide) → j < length places → length start ≡ length flops → ((c : ℕ) → Has places c → c < length flops) →
     flop ≡ get_or flops (get_or places j 0) flop → IsWide w (λ lane. next_at (cell_of flop) (value_at ports) (values_in wides lane)) →
@@ -185,7 +172,7 @@ take_at flops places ports wides start now j flop w less len live read is taken 
           | inr later ↦ (let P : List ℕ → Type 0 = λ l. Has l c in elim (subst P front later) [ inl e ↦ absurd (ne e) | inr after ↦ inr after ])
         ]
       ];
-      rest = λ c none. get_or-set_other now p c w unknown_wide (λ e. none (subst (λ (i : ℕ). Has places i) (sym e) (has_read places j 0 less))) ∙ taken.rest c none;
+      rest = λ c none. get_or-set_other now p c w unknown_wide (λ e. none (subst (λ (i : ℕ). Has places i) (sym e) (has_item places j 0 less))) ∙ taken.rest c none;
     }
 
 listed_wide : (flops : List FlipFlop) (places : List ℕ) (ports : List Tri) (wides start now : List Wide) (j c : ℕ) → length places ≤ j → TakenTo flops places ports wides start now j → Has places c → IsWide (wide_at now c) (λ lane. next_at (flop_at flops c) (value_at ports) (values_in wides lane))

@@ -1,11 +1,10 @@
 -- What a lane tells is the grade of its fault.
-use Rattle.std.proofs.Common.{ℕ, ◌≡◌, ◌≤◌, inl, inr, List, length, sym, ap, subst, arith, ◌∙◌, get_or, slice_get, Option, None, Some}
+use Rattle.std.proofs.Common.{ℕ, ◌≡◌, ◌≤◌, List, length, sym, ap, subst, arith, ◌∙◌, get_or, slice_get, Option, None, Some}
 use Rattle.std.specs.Prelude.{replicate}
-use Rattle.std.proofs.lemmas.List.{get_or_past, get_or-replicate, length-replicate}
-use Rattle.std.proofs.lemmas.Bool.Decides.{leb_tells}
 use Rattle.std.proofs.lemmas.Option.{slice_get_within}
 use Rattle.dft_base.specs.declared.tri.Tri.{Tri}
 use Rattle.dft_base.specs.declared.tri.Tri.TheVariants.{One, Unknown}
+use Rattle.dft_base.proofs.ListLemmas.{same_all}
 use Rattle.dft_lanes.specs.declared.wide.Wide.{Wide}
 use Rattle.dft_netlist.specs.Netlist.{Netlist}
 use Rattle.dft_netlist.specs.Logic.{Logic, logic_of}
@@ -41,12 +40,6 @@ lanes_are_exact n f p x grade fault apart means has =
     as_graded n f p grade (subst (λ (l : Logic). HasRowsGrade l (rows_of n p) grade) same has)
 
 -- ---- a fresh group
-
-same_all : {X : Type 0} (n i : ℕ) (x : X) → get_or (replicate n x) i x ≡ x
-same_all n i x = elim (leb_tells n i) [
-  | inl far ↦ get_or_past (replicate n x) i x (let e = length-replicate n x in omega (arith, far.1, e))
-  | inr near ↦ get_or-replicate n i x x near.1
-]
 
 pub fresh : (ports : List Tri) (cells : List Wide) (live : Wide) (found : List (Option Grade)) (n m k : ℕ) → ports ≡ replicate n Unknown → cells ≡ replicate m unknown_wide → IsWide live (λ lane. One) → found ≡ replicate k None → IsFresh ports cells live found
 fresh ports cells live found n m k is_ports is_cells is_live is_found = record {

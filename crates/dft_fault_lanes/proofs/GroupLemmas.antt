@@ -5,6 +5,7 @@ use Rattle.std.proofs.lemmas.List.{drop_all}
 use Rattle.std.proofs.lemmas.Bool.{cases_Bool}
 use Rattle.dft_base.specs.declared.tri.Tri.{Tri}
 use Rattle.dft_base.specs.declared.tri.Tri.TheVariants.{Zero, One, Unknown}
+use Rattle.dft_base.proofs.BitLemmas.{true_false}
 use Rattle.dft_lanes.specs.declared.wide.Wide.{Wide}
 use Rattle.dft_netlist.specs.Logic.{Logic}
 use Rattle.dft_netlist.specs.Runs.{Vector}
@@ -56,12 +57,8 @@ lanes_step x needs clamps row v ports pulsed before held strobe after live middl
 
 -- ---- one lane, a row more
 
-none_some : (o : Option Grade) (grade : Grade) → o ≡ None → o ≡ Some grade → ⊥
+pub none_some : (o : Option Grade) (grade : Grade) → o ≡ None → o ≡ Some grade → ⊥
 none_some o grade is_none is_some = let e : None ≡ Some grade = sym is_none ∙ is_some in let f : ⊥ = cc in f
-
-not_both : (b : Bool) → b ≡ true → b ≡ false → ⊥
-not_both true up down = let f : ⊥ = cc in f
-not_both false up down = let f : ⊥ = cc in f
 
 same_grade : (l : Logic) (rows : List Row) (o : Option Grade) (mine grade : Grade) → o ≡ Some mine → o ≡ Some grade → HasRowsGrade l rows mine → HasRowsGrade l rows grade
 same_grade l rows o mine grade is its has = subst (HasRowsGrade l rows) (let e : Some mine ≡ Some grade = sym is ∙ its in let f : mine ≡ grade = cc in f) has
@@ -69,8 +66,8 @@ same_grade l rows o mine grade is its has = subst (HasRowsGrade l rows) (let e :
 pub lane_more : (l : Logic) (rows : List Row) (x : Row) (xs : List Row) (v : ℕ) (old new : ℕ → Tri) (live live_now : Bool) (found found_now : Option Grade) → LaneHolds l rows (x ∷ xs) v old live found → IsLaneStep l x v old new live live_now found found_now →
     LaneHolds l rows xs (suc v) new live_now found_now
 lane_more l rows x xs v old new live live_now found found_now holds (inl rests) = record {
-  open_yet = λ up. absurd (not_both live_now up rests.0);
-  goes_on = λ up. absurd (not_both live_now up rests.0);
+  open_yet = λ up. absurd (true_false live_now up rests.0);
+  goes_on = λ up. absurd (true_false live_now up rests.0);
   graded = λ grade is. holds.graded grade (sym rests.1 ∙ is);
 }
 lane_more l rows x xs v old new live live_now found found_now holds (inr (was, (r, (round, (after, inl none))))) =
@@ -103,8 +100,8 @@ lane_more l rows x xs v old new live live_now found found_now holds (inr (was, (
       ),
     ) in
     record {
-      open_yet = λ up. absurd (not_both live_now up decided.1.1.0);
-      goes_on = λ up. absurd (not_both live_now up decided.1.1.0);
+      open_yet = λ up. absurd (true_false live_now up decided.1.1.0);
+      goes_on = λ up. absurd (true_false live_now up decided.1.1.0);
       graded = λ grade is. same_grade l rows found_now (Detected v decided.0) grade decided.1.1.1 is ends;
     }
 

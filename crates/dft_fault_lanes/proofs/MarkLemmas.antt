@@ -11,6 +11,7 @@ use Rattle.dft_netlist.specs.Drivers.{Source, Net, Tied, Loose, nets_of}
 use Rattle.dft_netlist.specs.Logic.{Cell, Scan}
 use Rattle.dft_netlist.specs.Orders.{Has}
 use Rattle.dft_netlist.specs.Settled.{value_from}
+use Rattle.dft_netlist.proofs.StandLemmas.{has_push, has_push_cases}
 use Rattle.dft_patterns.specs.declared.act.Act.{Act}
 use Rattle.dft_patterns.specs.declared.act.Act.TheVariants.{Unset}
 use Rattle.dft_replay.specs.Vectors.{act_at, net_at, printed}
@@ -20,23 +21,14 @@ use Rattle.dft_logic.specs.EntryTables.{MarksAll}
 use Rattle.dft_logic.specs.Needs.{HasAll, chosen_reads, taken_reads, next_reads}
 use Rattle.dft_logic.proofs.PlanLemmas.{has_needs}
 use Rattle.dft_logic.proofs.Writings.{cell_read, cell_past}
+use Rattle.dft_logic.proofs.RiseLemmas.{first_all, rest_all, more_all}
 use Rattle.dft_fault_lanes.specs.declared.marking.Steer.{Steer}
 use Rattle.dft_fault_lanes.specs.Lanes.{flop_at, is_changed}
 use Rattle.dft_fault_lanes.specs.Plans.{needs_of, Steers, HasReadsOf, ArePlaces, AreCovered, enable_at, taken_needs, cell_needs}
 use Rattle.dft_fault_lanes.specs.Moves.{enable_needs}
-use Rattle.dft_fault_lanes.proofs.SteadyLemmas.{cons_has, force_has}
+use Rattle.dft_fault_lanes.proofs.SteadyLemmas.{force_has}
 
 -- ---- what is read
-
-first_has : (needs : ℕ → Bool) (source : Source) (sources : List Source) → HasAll needs (nets_of (source ∷ sources)) → HasAll needs (nets_of (source ∷ []))
-first_has needs (Net net) sources has = (has.0, tt)
-first_has needs (Tied bit) sources has = tt
-first_has needs (Loose i pin) sources has = tt
-
-rest_has : (needs : ℕ → Bool) (source : Source) (sources : List Source) → HasAll needs (nets_of (source ∷ sources)) → HasAll needs (nets_of sources)
-rest_has needs (Net net) sources has = has.1
-rest_has needs (Tied bit) sources has = has
-rest_has needs (Loose i pin) sources has = has
 
 enable_is : (s : Steer) (values : ℕ → Tri) (source : Source) → Steers s values → (enable_at s source ≡ Unknown) ⊎ (value_from values source ≡ enable_at s source)
 enable_is s values (Net net) steers = elim (eqb_tells net s.net.0) [
@@ -48,8 +40,8 @@ enable_is s values (Tied bit) steers = inl refl
 enable_is s values (Loose i pin) steers = inl refl
 
 of_both : (needs : ℕ → Bool) (v : Tri) (scan_in data_in : Source) → HasAll needs (nets_of (scan_in ∷ data_in ∷ [])) → HasAll needs (nets_of (chosen_reads v scan_in data_in))
-of_both needs Zero scan_in data_in has = rest_has needs scan_in (data_in ∷ []) has
-of_both needs One scan_in data_in has = first_has needs scan_in (data_in ∷ []) has
+of_both needs Zero scan_in data_in has = rest_all needs scan_in (data_in ∷ []) has
+of_both needs One scan_in data_in has = first_all needs scan_in (data_in ∷ []) has
 of_both needs Unknown scan_in data_in has = has
 
 chosen_more : (needs : ℕ → Bool) (known v : Tri) (scan_in data_in : Source) → (known ≡ Unknown) ⊎ (v ≡ known) → HasAll needs (nets_of (chosen_reads known scan_in data_in)) → HasAll needs (nets_of (chosen_reads v scan_in data_in))
@@ -61,8 +53,8 @@ taken_has needs s None values data_in steers has = has
 taken_has needs s (Some scan) values data_in steers has =
     let known : Tri = enable_at s scan.enable in
     let v : Tri = value_from values scan.enable in
-    cons_has needs scan.enable (chosen_reads v scan.input data_in) (first_has needs scan.enable (chosen_reads known scan.input data_in) has)
-    (chosen_more needs known v scan.input data_in (enable_is s values scan.enable steers) (rest_has needs scan.enable (chosen_reads known scan.input data_in) has))
+    more_all needs scan.enable (chosen_reads v scan.input data_in) (first_all needs scan.enable (chosen_reads known scan.input data_in) has)
+    (chosen_more needs known v scan.input data_in (enable_is s values scan.enable steers) (rest_all needs scan.enable (chosen_reads known scan.input data_in) has))
 
 -- a set that has what may be read has what is read
 pub reads_of_needs : (needs : ℕ → Bool) (s : Steer) (cell : Cell) → HasAll needs (cell_needs s cell) → HasReadsOf needs s cell
@@ -188,17 +180,6 @@ has_left : (xs : List ℕ) (p k : ℕ) → Has xs k → Has (xs ++ p ∷ []) k
 has_left [] p k h = absurd h
 has_left (x ∷ xs) p k h = elim h [ inl e ↦ inl e | inr rest ↦ inr (has_left xs p k rest) ]
 
-has_last : (xs : List ℕ) (p : ℕ) → Has (xs ++ p ∷ []) p
-has_last [] p = inl refl
-has_last (x ∷ xs) p = inr (has_last xs p)
-
-has_ends : (xs : List ℕ) (p k : ℕ) → Has (xs ++ p ∷ []) k → Has xs k ⊎ (k ≡ p)
-has_ends [] p k h = elim h [ inl e ↦ inr e | inr none ↦ absurd none ]
-has_ends (x ∷ xs) p k h = elim h [
-  | inl e ↦ inl (inl e)
-  | inr rest ↦ elim (has_ends xs p k rest) [ inl old ↦ inl (inr old) | inr e ↦ inr e ]
-]
-
 -- the cells before a place are listed that change and are not left out
 pub record Placing (flops : List FlipFlop) (rising : Bool) (pulsed : List Bool) (left : ℕ → Bool) (list : List ℕ) (place : ℕ) : Type 0 where
   pub count : length list ≤ place
@@ -218,10 +199,10 @@ placing_more flops rising pulsed left list new place flop carried less read tell
     subst (λ (l : List ℕ). Placing flops rising pulsed left l (place + 1)) (sym made) (record {
       count = omega (arith, room, size, ap length made);
       all = λ c before is out. elim (cases_eq c place) [
-        | inl e ↦ subst (λ (i : ℕ). Has (list ++ place ∷ []) i) (sym e) (has_last list place)
+        | inl e ↦ subst (λ (i : ℕ). Has (list ++ place ∷ []) i) (sym e) (has_push list place)
         | inr ne ↦ has_left list place c (old.all c (omega (arith, before, ne)) is out)
       ];
-      only = λ c h. elim (has_ends list place c h) [
+      only = λ c h. elim (has_push_cases list place c h) [
         | inl before ↦ (let was = old.only c before in (omega (arith, was.0), was.1))
         | inr e ↦ (omega (arith, e), (subst (λ (i : ℕ). is_changed (flop_at flops i) rising pulsed ≡ true) (sym e) changes, ap left e ∙ stays))
       ];

@@ -6,6 +6,7 @@ use Rattle.std.proofs.lemmas.Bool.{cases_Bool, cases_eq}
 use Rattle.std.proofs.lemmas.Bool.Decides.{eqb_tells, leb_tells}
 use Rattle.dft_base.specs.declared.tri.Tri.{Tri}
 use Rattle.dft_base.specs.declared.tri.Tri.TheVariants.{One, Unknown}
+use Rattle.dft_base.proofs.SumLemmas.{and_false}
 use Rattle.dft_cells.specs.FlipFlops.{tri_chosen}
 use Rattle.dft_cells.proofs.TriLemmas.{chosen_one}
 use Rattle.dft_lanes.specs.declared.wide.Wide.{Wide}
@@ -16,7 +17,8 @@ use Rattle.dft_netlist.specs.Orders.{Has}
 use Rattle.dft_netlist.specs.Runs.{takes}
 use Rattle.dft_netlist.specs.Settled.{value_from}
 use Rattle.dft_abstract.specs.Cycle.{tri_forced_by, tri_taken_by}
-use Rattle.dft_lane_registers.specs.Layout.{Layout, place_at, cells_at}
+use Rattle.dft_abstract.proofs.Phases.{of_both}
+use Rattle.dft_registers.specs.Layout.{Layout, place_at, cells_at}
 use Rattle.dft_lane_registers.specs.Cells.{Contents, Course, Rests, Follows, course_in, course, IsCarried, IsShifted}
 use Rattle.dft_evaluator.specs.Wides.{value_in, values_in, wide_at, unknown_wide, IsWide, AreWides}
 use Rattle.dft_evaluator.proofs.BitLemmas.{all_unknown}
@@ -30,6 +32,8 @@ use Rattle.dft_logic.specs.ShownTables.{shown_at}
 use Rattle.dft_logic.specs.Values.{value_at}
 use Rattle.dft_logic.proofs.ReadLemmas.{Agree, source_agrees, set_agrees, next_agrees}
 use Rattle.dft_logic.proofs.Writings.{cell_read, cell_past}
+use Rattle.dft_logic.proofs.ListLemmas.{wider as all_wider}
+use Rattle.dft_logic.proofs.RiseLemmas.{more_all}
 use Rattle.dft_fault_laws.specs.Rounds.{every}
 use Rattle.dft_fault_lanes.specs.declared.clamps.Clamp.{Clamp}
 use Rattle.dft_fault_lanes.specs.declared.marking.Steer.{Steer}
@@ -43,9 +47,9 @@ use Rattle.dft_fault_lanes.specs.Idle.{is_idle, is_left, AreIdleUnknown}
 use Rattle.dft_fault_lanes.specs.Made.{IsPlan}
 use Rattle.dft_fault_lanes.proofs.CellLemmas.{past_unknown, taken_by, taken_past, has_or_not}
 use Rattle.dft_fault_lanes.proofs.IdleLemmas.{idle_next, left_carried, left_idle}
-use Rattle.dft_fault_lanes.proofs.SteadyLemmas.{cons_has, force_has, and_false}
-use Rattle.dft_fault_lanes.proofs.SeenLemmas.{marked_seen, needs_known, shown_known, all_wider, knows_settled, shows_held}
-use Rattle.dft_fault_lanes.proofs.WholeLemmas.{both_true, both_sets}
+use Rattle.dft_fault_lanes.proofs.SteadyLemmas.{force_has}
+use Rattle.dft_fault_lanes.proofs.SeenLemmas.{marked_seen, needs_known, shown_known, knows_settled, shows_held}
+use Rattle.dft_fault_lanes.proofs.WholeLemmas.{both_sets}
 
 -- ---- which registers move
 
@@ -142,7 +146,7 @@ takes_reads needs ops clamps s cell other t enable shows ports values steers =
     let last : HasAll needs (nets_of (t.scan.input ∷ [])) = shows_has needs ops clamps t.scan.input other t.input shows in
     let one : value_from values t.scan.enable ≡ One = ap (value_from values) t.enable ∙ steer_one s values t.steered steers in
     let R : Tri → Type 0 = λ v. HasAll needs (nets_of (t.scan.enable ∷ chosen_reads v t.scan.input cell.input)) in
-    let both : R (value_from values t.scan.enable) = subst R (sym one) (cons_has needs t.scan.enable (t.scan.input ∷ []) first last) in
+    let both : R (value_from values t.scan.enable) = subst R (sym one) (more_all needs t.scan.enable (t.scan.input ∷ []) first last) in
     let T : Option Scan → Type 0 = λ o. HasAll needs (nets_of (taken_reads o (value_from values) cell.input)) in
     force_has needs cell.force ports (taken_reads cell.scan (value_from values) cell.input) (subst T (sym t.pins) both)
 
@@ -176,7 +180,7 @@ moved_from ops clamps s cell cells (suc index) up is = (slice_index_or cells ind
 pub carried : (x : Circuit) (clamps : List (Option Clamp)) (l : Layout) (signals : List NetId) (p : Plan) (c : ℕ) → IsPlan x clamps l signals p → c < length x.flops → is_carried l p.moves.items c ≡ true → Carried x clamps l p c
 carried x clamps l signals p c is near up =
     let place = place_at l.places c in
-    let both = both_true (flag_at p.moves.items place.register) (nat_lt 0 place.index) up in
+    let both = of_both (flag_at p.moves.items place.register) (nat_lt 0 place.index) up in
     let at = is.moving c near both.0 in
     let from = moved_from x.ops clamps p.steer (flop_at x.flops c) (cells_at l.registers place.register) place.index both.1 at.1 in
     record {
@@ -196,8 +200,8 @@ falls_stay x clamps l signals p c is down = elim (leb_tells (length x.flops) c) 
   | inl far ↦ absurd (true≢false (sym down ∙ ap (λ (k : Cell). is_changed k false p.pulsed.items) (cell_past x.flops c far.1) ∙ and_false (flag_at p.pulsed.items 0)))
   | inr near ↦ elim (cases_Bool (is_carried l p.moves.items c)) [
     | inl up ↦ (let cell = flop_at x.flops c in
-        let rising = both_true (flag_at p.pulsed.items cell.domain) (takes true cell.falling) (carried x clamps l signals p c is near.1 up).changed in
-        let falling = both_true (flag_at p.pulsed.items cell.domain) (takes false cell.falling) down in
+        let rising = of_both (flag_at p.pulsed.items cell.domain) (takes true cell.falling) (carried x clamps l signals p c is near.1 up).changed in
+        let falling = of_both (flag_at p.pulsed.items cell.domain) (takes false cell.falling) down in
         absurd (takes_once cell.falling rising.1 falling.1))
     | inr rests ↦ rests
   ]

@@ -1,16 +1,16 @@
 -- From what a plan is to what it gives.
 use Rattle.std.proofs.Common.{ℕ, zero, suc, Bool, true, false, ◌≡◌, ◌<◌, ◌≤◌, ◌+◌, ◌++◌, ◌⊎◌, inl, inr, List, [], ◌∷◌, length, map, drop, get_or, refl, sym, ap, subst, arith, ◌∙◌, true≢false, Option, None, Some}
 use Rattle.std.specs.Prelude.{◌==◌, ◌&&◌, nat_le, nat_lt, if◌then◌else◌}
-use Rattle.std.specs.Global.{Vec}
-use Rattle.std.specs.Vec.{with_items}
-use Rattle.std.proofs.lemmas.List.{get_or_past, drop_all, with_items_is}
+use Rattle.std.proofs.lemmas.List.{get_or_past, drop_all}
 use Rattle.std.proofs.lemmas.Bool.{cases_Bool, cases_eq, or_left}
 use Rattle.std.proofs.lemmas.Bool.Decides.{eqb_tells, leb_tells}
 use Rattle.dft_base.specs.declared.tri.Tri.{Tri}
-use Rattle.dft_base.specs.declared.tri.Tri.TheVariants.{Zero, One, Unknown}
+use Rattle.dft_base.specs.declared.tri.Tri.TheVariants.{One, Unknown}
+use Rattle.dft_base.proofs.SumLemmas.{and_false}
 use Rattle.dft_cells.specs.FlipFlops.{tri_forced}
+use Rattle.dft_cells.proofs.TriLemmas.{forced_one}
 use Rattle.dft_lanes.specs.declared.wide.Wide.{Wide}
-use Rattle.dft_lane_registers.specs.Layout.{Layout, place_at}
+use Rattle.dft_registers.specs.Layout.{Layout, place_at}
 use Rattle.dft_netlist.specs.declared.ids.NetId.{NetId}
 use Rattle.dft_netlist.specs.Drivers.{nets_of}
 use Rattle.dft_netlist.specs.Logic.{Cell, Force}
@@ -36,6 +36,7 @@ use Rattle.dft_logic.specs.Shows.{still_needs}
 use Rattle.dft_logic.specs.ShownTables.{shown_at}
 use Rattle.dft_logic.proofs.Fillings.{front}
 use Rattle.dft_logic.proofs.Writings.{cell_read, cell_past}
+use Rattle.dft_logic.proofs.PlanLemmas.{or_only}
 use Rattle.dft_fault_laws.specs.Rounds.{every}
 use Rattle.dft_fault_lanes.specs.declared.clamps.Clamp.{Clamp}
 use Rattle.dft_fault_lanes.specs.declared.marking.Steer.{Steer}
@@ -46,10 +47,8 @@ use Rattle.dft_fault_lanes.specs.Moves.{NoneActs, HasForces, is_carried}
 use Rattle.dft_fault_lanes.specs.Made.{IsPlan}
 use Rattle.dft_fault_lanes.specs.Pulses.{NoneFalls}
 use Rattle.dft_fault_lanes.proofs.MarkLemmas.{reads_of_needs}
-use Rattle.dft_fault_lanes.proofs.SeenLemmas.{or_only}
 use Rattle.dft_fault_lanes.proofs.MoveLemmas.{falls_stay}
 use Rattle.dft_fault_lanes.proofs.IdleLemmas.{left_falls}
-use Rattle.dft_fault_lanes.proofs.SteadyLemmas.{and_false}
 use Rattle.dft_fault_lanes.proofs.WholeLemmas.{both_sets}
 
 -- ---- what is settled
@@ -118,14 +117,6 @@ steady_reads flops s pulsed shown all c up = elim (leb_tells (length flops) c) [
   | inr near ↦ reads_of_needs (still_needs every (shown_at shown) (flop_at flops c).domain) s (flop_at flops c) (all c near.1 up)
 ]
 
--- ---- the elements of a vector that was filled anew
-
-pub refilled : {X : Type 0} (v : Vec X) (ws : List X) → length (with_items v ws).items ≡ length v.items
-refilled v ws = sym (with_items v ws).ok.0 ∙ v.ok.0
-
-pub filled : {X : Type 0} (v : Vec X) (ws rs : List X) → length ws ≡ length rs → rs ≡ v.items → (with_items v ws).items ≡ ws
-filled v ws rs a e = with_items_is v ws (a ∙ ap length e ∙ sym v.ok.0)
-
 -- ---- the ports of resets and sets
 
 numbers_left : (nets : List NetId) (net : NetId) (k : ℕ) → Has (numbers_of nets) k → Has (numbers_of (nets ++ net ∷ [])) k
@@ -183,14 +174,6 @@ ones_all nets ports j past old net h = elim (old net h) [
   | inl up ↦ up
   | inr later ↦ (let F : List NetId → Type 0 = λ l. Has (numbers_of l) net in absurd (subst F (drop_all j nets past) later))
 ]
-
-forced_one : (value : Bool) (t : Tri) → tri_forced value One t ≡ t
-forced_one true Zero = refl
-forced_one true One = refl
-forced_one true Unknown = refl
-forced_one false Zero = refl
-forced_one false One = refl
-forced_one false Unknown = refl
 
 unforced : (force : Option Force) (ports : List Tri) (t : Tri) → ((port : ℕ) → Has (force_nets force) port → value_at ports port ≡ One) → tri_forced_by force (value_at ports) t ≡ t
 unforced None ports t ones = refl

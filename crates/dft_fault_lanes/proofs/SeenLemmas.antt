@@ -1,6 +1,6 @@
 -- Nets that are seen through cells have what their drivers give them.
 use Rattle.std.proofs.Common.{ℕ, zero, suc, Bool, true, false, ◌≡◌, ◌<◌, ◌≤◌, ◌+◌, inl, inr, List, [], ◌∷◌, length, refl, sym, ap, arith, ◌∙◌, true≢false, Option, None, Some}
-use Rattle.std.specs.Prelude.{◌||◌, nat_le, if◌then◌else◌}
+use Rattle.std.specs.Prelude.{nat_le, if◌then◌else◌}
 use Rattle.std.proofs.lemmas.List.{get_or_past}
 use Rattle.std.proofs.lemmas.Bool.{cases_Bool, or_left, or_right}
 use Rattle.std.proofs.lemmas.Bool.Decides.{leb_tells}
@@ -14,13 +14,15 @@ use Rattle.dft_logic.specs.declared.circuit.Op.TheVariants.{Input, Clock, Gate, 
 use Rattle.dft_logic.specs.Circuit.{Circuit, logic_at, flag_at, op_at, meaning}
 use Rattle.dft_logic.specs.Needs.{HasAll, IsStrobeClosed, still_from}
 use Rattle.dft_logic.specs.Values.{value_at}
-use Rattle.dft_logic.proofs.PlanLemmas.{needs_closed}
+use Rattle.dft_logic.proofs.PlanLemmas.{needs_closed, or_only}
 use Rattle.dft_logic.proofs.ReadLemmas.{set_agrees, still_agrees}
+use Rattle.dft_logic.proofs.ListLemmas.{wider}
 use Rattle.dft_fault_lanes.specs.declared.clamps.Clamp.{Clamp}
 use Rattle.dft_fault_lanes.specs.Lanes.{Situation, AreSettledOn, clamp_at, clamped}
 use Rattle.dft_fault_lanes.specs.Plans.{needs_of}
 use Rattle.dft_fault_lanes.specs.Pulses.{at_levels}
 use Rattle.dft_fault_lanes.specs.Seen.{shown_within, cell_shown, seen_at, seen_from, seen, is_some, knows}
+use Rattle.dft_fault_lanes.proofs.IdleLemmas.{left_carried}
 
 -- ---- what a net has
 
@@ -41,14 +43,6 @@ seen_is : (ops : List Op) (clamps : List (Option Clamp)) (marked : List Bool) (h
 seen_is ops clamps marked held wides k less =
     let e : 0 + k ≡ k = omega arith in
     seen_get ops clamps marked held 0 wides k less ∙ ap (λ (n : ℕ). seen_at (flag_at marked n) (cell_shown ops clamps n) held (wide_at wides k)) e
-
-pub or_only : (b c : Bool) → c ≡ false → (b || c) ≡ true → b ≡ true
-or_only true c down is = refl
-or_only false c down is = absurd (true≢false (sym is ∙ down))
-
-or_down : (b c : Bool) → (b || c) ≡ false → b ≡ false
-or_down true c is = absurd (true≢false is)
-or_down false c is = refl
 
 -- a marked net has what it was settled to
 pub marked_seen : (ops : List Op) (clamps : List (Option Clamp)) (marked : List Bool) (held wides : List Wide) (k : ℕ) → length wides ≡ length ops → needs_of (length ops) marked k ≡ true →
@@ -106,14 +100,10 @@ needs_known ops clamps marked k need = or_right (is_some (cell_shown ops clamps 
 pub shown_known : (ops : List Op) (clamps : List (Option Clamp)) (marked : List Bool) (k c : ℕ) → cell_shown ops clamps k ≡ Some c → knows ops clamps marked k ≡ true
 shown_known ops clamps marked k c is = or_left (is_some (cell_shown ops clamps k)) (needs_of (length ops) marked k) (is_there (cell_shown ops clamps k) c is)
 
-pub all_wider : (fewer more : ℕ → Bool) (nets : List ℕ) → ((k : ℕ) → fewer k ≡ true → more k ≡ true) → HasAll fewer nets → HasAll more nets
-all_wider fewer more [] wider has = tt
-all_wider fewer more (net ∷ nets) wider has = (wider net has.0, all_wider fewer more nets wider has.1)
-
 pub knows_closed : (x : Circuit) (clamps : List (Option Clamp)) (marked : List Bool) → IsStrobeClosed (logic_at x) (flag_at marked) → IsStrobeClosed (logic_at x) (knows x.ops clamps marked)
 unfolding logic_at
 knows_closed x clamps marked closed k know = elim (cases_Bool (needs_of (length x.ops) marked k)) [
-  | inl need ↦ all_wider (needs_of (length x.ops) marked) (knows x.ops clamps marked) (reads (meaning (op_at x.ops k))) (needs_known x.ops clamps marked) (needs_closed x marked closed k need)
+  | inl need ↦ wider (needs_of (length x.ops) marked) (knows x.ops clamps marked) (reads (meaning (op_at x.ops k))) (needs_known x.ops clamps marked) (needs_closed x marked closed k need)
   | inr out ↦ (let shown = some_is (cell_shown x.ops clamps k) (or_only (is_some (cell_shown x.ops clamps k)) (needs_of (length x.ops) marked k) out know) in
       no_reads (knows x.ops clamps marked) (clamp_at clamps k) (op_at x.ops k) shown.0 shown.1)
 ]
@@ -139,7 +129,7 @@ knows_settled x ports levels held clamps marked wides size closed settled lane k
             | inr live ↦ omega (arith, live.1, size)
           ] in
           let wide : wide_at (seen ops clamps marked held wides) k ≡ wide_at held shown.0 = seen_is ops clamps marked held wides k near
-          ∙ ap (λ (b : Bool). seen_at b (cell_shown ops clamps k) held (wide_at wides k)) (or_down (flag_at marked k) (nat_le (length ops) k) out)
+          ∙ ap (λ (b : Bool). seen_at b (cell_shown ops clamps k) held (wide_at wides k)) (left_carried (flag_at marked k) (nat_le (length ops) k) out)
           ∙ ap (λ (o : Option ℕ). seen_at false o held (wide_at wides k)) shown.1 in
           ap (λ (u : Wide). value_in u lane) wide ∙ sym (given_shown (clamp_at clamps k) (op_at ops k) shown.0 lane k (flag_at levels) (value_at ports) (values_in held lane) w shown.1))
     ]

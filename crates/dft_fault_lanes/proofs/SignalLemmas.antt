@@ -1,6 +1,7 @@
 -- The compared bits of a vector, one signal after another.
 use Rattle.std.proofs.Common.{ℕ, suc, Bool, true, false, ◌≡◌, ◌<◌, ◌+◌, ◌⊎◌, inl, inr, List, [], ◌∷◌, length, drop, refl, ap, arith, ◌∙◌, Option, None, Some}
 use Rattle.std.specs.Prelude.{if◌then◌else◌, ◌&&◌}
+use Rattle.std.proofs.lemmas.Bool.{and_left}
 use Rattle.dft_base.specs.declared.tri.Tri.{Tri}
 use Rattle.dft_base.specs.declared.tri.Tri.TheVariants.{Zero, One, Unknown}
 use Rattle.dft_lanes.specs.declared.wide.Wide.{Wide}
@@ -109,17 +110,12 @@ next_lane values v i all rest before after false false old found found_now decid
 next_lane values v i all rest before after true false old found found_now decided is tells live same lives finds = absurd (let q : true ≡ false = is ∙ ap (λ b. b && false) live in let f : ⊥ = cc in f)
 next_lane values v i all rest before after false true old found found_now decided is tells live same lives finds = absurd (let q : false ≡ true = is ∙ ap (λ b. b && true) live in let f : ⊥ = cc in f)
 
--- a lane that is not live is not hit
-not_hit : (before : Bool) (opposite : Bool) → before ≡ false → (before && opposite) ≡ false
-not_hit true opposite is = absurd cc
-not_hit false opposite is = refl
-
 pub so_far_more : (wides : List Wide) (v : ℕ) (nets : List ℕ) (acts : List Act) (live : Wide) (found : List (Option Grade)) (live_now : Wide) (found_now : List (Option Grade)) (new : Wide) (found_new : List (Option Grade)) (i net : ℕ) (act : Act) (bit : Bool) →
     drop i nets ≡ net ∷ drop (i + 1) nets → drop i acts ≡ act ∷ drop (i + 1) acts → printed act ≡ Some bit → IsWide new (value_in new) → length found_new ≡ length found_now →
     AreMarked (Detected v i) (differs_in bit (wide_at wides net) live_now) live_now found_now new found_new → SoFar wides v nets acts live found live_now found_now i → SoFar wides v nets acts live found new found_new (i + 1)
 so_far_more wides v nets acts live found live_now found_now new found_new i net act bit first second is wide size marked s =
     let off : (lane : ℕ) → lane < 512 → is_one (value_in live_now lane) ≡ false → (is_one (value_in new lane) ≡ false) × (found_at found_new lane ≡ found_at found_now lane) = λ lane within h.
-    (let none = not_hit (is_one (value_in live_now lane)) (is_opposite bit (values_in wides lane net)) h in (
+    (let none = and_left (is_one (value_in live_now lane)) (is_opposite bit (values_in wides lane net)) h in (
       ap is_one (marked.lives lane within ∙ ap (λ b. if b then Zero else value_in live_now lane) none) ∙ h,
       marked.finds lane within ∙ ap (λ b. if b then Some (Detected v i) else found_at found_now lane) none,
     )) in

@@ -5,10 +5,11 @@ use Rattle.std.proofs.lemmas.Bool.{cases_eq}
 use Rattle.std.proofs.lemmas.Bool.Decides.{leb_tells}
 use Rattle.dft_base.specs.declared.tri.Tri.{Tri}
 use Rattle.dft_base.specs.declared.tri.Tri.TheVariants.{Zero, One, Unknown}
+use Rattle.dft_base.proofs.SumLemmas.{and_false}
 use Rattle.dft_cells.specs.Tables.{and_tri, not_tri}
 use Rattle.dft_lanes.specs.declared.wide.Wide.{Wide}
 use Rattle.dft_lanes.specs.Choices.{can, some_choice_of_two}
-use Rattle.dft_netlist.specs.Drivers.{Source, Net, Tied, Loose, nets_of}
+use Rattle.dft_netlist.specs.Drivers.{Source, nets_of}
 use Rattle.dft_netlist.specs.Logic.{Cell, Force}
 use Rattle.dft_netlist.specs.Settled.{value_from}
 use Rattle.dft_logic.specs.Needs.{HasAll, chosen_reads, reads_at, forced_reads, next_reads}
@@ -19,6 +20,7 @@ use Rattle.dft_logic.specs.declared.circuit.ScanPins.{ScanPins}
 use Rattle.dft_logic.specs.declared.shown.Shown.{Shown}
 use Rattle.dft_logic.specs.Circuit.{cell_of, flag_at, force_at, source_at}
 use Rattle.dft_logic.proofs.Writings.{cell_read, cell_past}
+use Rattle.dft_logic.proofs.RiseLemmas.{more_all}
 use Rattle.dft_evaluator.specs.Wides.{value_in, values_in, IsWide}
 use Rattle.dft_evaluator.proofs.WideLemmas.{value_is, wide_is, wide_ands}
 use Rattle.dft_fault_laws.specs.Rounds.{every}
@@ -53,19 +55,13 @@ not_one Unknown is = absurd (let f : ⊥ = cc in f)
 
 -- ---- what is read
 
--- the nets of one source, and of more
-pub cons_has : (needs : ℕ → Bool) (source : Source) (sources : List Source) → HasAll needs (nets_of (source ∷ [])) → HasAll needs (nets_of sources) → HasAll needs (nets_of (source ∷ sources))
-cons_has needs (Net net) sources first rest = (first.0, rest)
-cons_has needs (Tied bit) sources first rest = rest
-cons_has needs (Loose i pin) sources first rest = rest
-
 chosen_has : (needs : ℕ → Bool) (enable : Tri) (scan_in data_in : Source) → HasAll needs (nets_of (data_in ∷ [])) ⊎ (enable ≡ One) → HasAll needs (nets_of (scan_in ∷ [])) ⊎ (enable ≡ Zero) →
     HasAll needs (nets_of (chosen_reads enable scan_in data_in))
 chosen_has needs Zero scan_in data_in (inl has) scan = has
 chosen_has needs Zero scan_in data_in (inr is) scan = absurd (let f : ⊥ = cc in f)
 chosen_has needs One scan_in data_in taken (inl has) = has
 chosen_has needs One scan_in data_in taken (inr is) = absurd (let f : ⊥ = cc in f)
-chosen_has needs Unknown scan_in data_in (inl has) (inl more) = cons_has needs scan_in (data_in ∷ []) more has
+chosen_has needs Unknown scan_in data_in (inl has) (inl more) = more_all needs scan_in (data_in ∷ []) more has
 chosen_has needs Unknown scan_in data_in (inl has) (inr is) = absurd (let f : ⊥ = cc in f)
 chosen_has needs Unknown scan_in data_in (inr is) scan = absurd (let f : ⊥ = cc in f)
 
@@ -92,7 +88,7 @@ scan_has needs flop scan ports at some enable first second =
     let P : Option ScanPins → Type 0 = λ o. HasAll needs (nets_of (next_reads (cell_of (record flop { scan = o })) ports at)) in
     let taken : List Source = chosen_reads (at (source_at scan.enable)) (source_at scan.input) (source_at flop.input) in
     subst P (sym some) (force_has needs (force_at flop.force) ports (source_at scan.enable ∷ taken)
-    (cons_has needs (source_at scan.enable) taken enable (chosen_has needs (at (source_at scan.enable)) (source_at scan.input) (source_at flop.input) first second)))
+    (more_all needs (source_at scan.enable) taken enable (chosen_has needs (at (source_at scan.enable)) (source_at scan.input) (source_at flop.input) first second)))
 
 -- ---- one cell after another
 
@@ -164,10 +160,6 @@ none_more flops pulsed place flop up less read tells is_up before c within =
       | inl e ↦ ap (λ (i : ℕ). is_changed (flop_at flops i) false pulsed) e ∙ ap (λ (k : Cell). is_changed k false pulsed) (sym cell) ∙ sym tells ∙ is_up
       | inr ne ↦ before c (omega (arith, within, ne))
     ]
-
-pub and_false : (b : Bool) → b && false ≡ false
-and_false true = refl
-and_false false = refl
 
 pub none_at_all : (flops : List FlipFlop) (pulsed : List Bool) (place : ℕ) → length flops ≤ place → ((c : ℕ) → c < place → is_changed (flop_at flops c) false pulsed ≡ false) → (c : ℕ) → is_changed (flop_at flops c) false pulsed ≡ false
 none_at_all flops pulsed place all before c = elim (leb_tells (length flops) c) [

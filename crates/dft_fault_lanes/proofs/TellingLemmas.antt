@@ -16,6 +16,7 @@ use Rattle.dft_fault_laws.specs.Stuck.{IsControl}
 use Rattle.dft_fault_lanes.specs.Compares.{found_at}
 use Rattle.dft_fault_lanes.specs.Groups.{AreFound, IsKept}
 use Rattle.dft_fault_lanes.proofs.ExactLemmas.{lanes_are_exact}
+use Rattle.dft_fault_lanes.proofs.GroupLemmas.{none_some}
 
 -- of the first faults what is left is kept, and nothing is told anew
 pub record TakingBack (faults : List Fault) (control : List Bool) (old now : List (Option Grade)) (place : ℕ) : Type 0 where
@@ -26,20 +27,17 @@ pub record TakingBack (faults : List Fault) (control : List Bool) (old now : Lis
 pub back_starts : (faults : List Fault) (control : List Bool) (old : List (Option Grade)) → TakingBack faults control old old 0
 back_starts faults control old = record { size = refl; fewer = λ k grade is. is; apart = λ k fault grade less at is. absurd (omega arith) }
 
-no_grade : (o : Option Grade) (grade : Grade) → o ≡ None → o ≡ Some grade → ⊥
-no_grade o grade none some = let e : None ≡ Some grade = sym none ∙ some in let f : ⊥ = cc in f
-
 pub back_more : (faults : List Fault) (control : List Bool) (old now : List (Option Grade)) (place : ℕ) → place < length now → TakingBack faults control old now place → TakingBack faults control old (slice_set now place None) (place + 1)
 back_more faults control old now place live t =
     let here : found_at (slice_set now place None) place ≡ None = get_or-set_same now place None None live in
     record {
       size = length-set now place None ∙ t.size;
       fewer = λ k grade is. elim (cases_eq k place) [
-        | inl e ↦ absurd (no_grade (found_at (slice_set now place None) k) grade (ap (found_at (slice_set now place None)) e ∙ here) is)
+        | inl e ↦ absurd (none_some (found_at (slice_set now place None) k) grade (ap (found_at (slice_set now place None)) e ∙ here) is)
         | inr ne ↦ t.fewer k grade (sym (get_or-set_other now place k None None ne) ∙ is)
       ];
       apart = λ k fault grade less at is. elim (cases_eq k place) [
-        | inl e ↦ absurd (no_grade (found_at (slice_set now place None) k) grade (ap (found_at (slice_set now place None)) e ∙ here) is)
+        | inl e ↦ absurd (none_some (found_at (slice_set now place None) k) grade (ap (found_at (slice_set now place None)) e ∙ here) is)
         | inr ne ↦ t.apart k fault grade (omega (arith, less, ne)) at (sym (get_or-set_other now place k None None ne) ∙ is)
       ];
     }

@@ -4,7 +4,7 @@ use Rattle.dft_base.specs.declared.tri.Tri.TheVariants.{Unknown}
 use Rattle.dft_lanes.specs.declared.wide.Wide.{Wide}
 use Rattle.dft_netlist.specs.Drivers.{Source, Net, Tied, Loose}
 use Rattle.dft_netlist.specs.Logic.{Cell, Scan, Force}
-use Rattle.dft_lane_registers.specs.Layout.{Layout, place_at}
+use Rattle.dft_registers.specs.Layout.{Layout, place_at}
 use Rattle.dft_logic.specs.declared.circuit.FlipFlop.{FlipFlop}
 use Rattle.dft_evaluator.specs.Wides.{values_in}
 use Rattle.dft_fault_lanes.specs.Lanes.{flop_at}

@@ -3,7 +3,7 @@ use Rattle.std.specs.Prelude.{ℕ, true, false, ◌≡◌, ◌≤◌, List, [], 
 use Rattle.std.specs.Vec.{vec_capacity}
 use Rattle.dft_netlist.specs.declared.ids.NetId.{NetId}
 use Rattle.dft_netlist.specs.Orders.{Has, numbers_of}
-use Rattle.dft_lane_registers.specs.Layout.{Layout}
+use Rattle.dft_registers.specs.Layout.{Layout}
 use Rattle.dft_logic.specs.Circuit.{Circuit, logic_at, flag_at, AreOrdered}
 use Rattle.dft_logic.specs.Needs.{HasAll, IsStrobeClosed}
 use Rattle.dft_logic.specs.Shows.{IsShownOn, still_needs}

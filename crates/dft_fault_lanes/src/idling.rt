@@ -5,8 +5,8 @@ ghost use Rattle.dft_logic.specs.Circuit.{cell_of, flag_at as is_up, force_at, s
 ghost use Rattle.dft_fault_lanes.specs.Idle as spec;
 
 use crate::moves::is_carried;
-use dft_lane_registers::Place;
 use dft_logic::{Acting, FlipFlop, Operand, ScanPins};
+use dft_registers::Place;
 
 // Whether nothing is joined to a pin.
 fn is_loose(operand: &Operand) -> bool

@@ -12,9 +12,10 @@ ghost use Rattle.dft_fault_lanes.specs.Moves.{AreMoves, IsMoved, MovesAt, ShowsC
 use crate::clamps::Clamp;
 use crate::comparing::is_one;
 use crate::marking::{Steer, enable_value};
-use dft_lane_registers::{Cells, Place};
+use dft_lane_registers::Cells;
 use dft_logic::{Acting, Circuit, FlipFlop, Op, Operand, ScanPins, flag_at};
 use dft_netlist::NetId;
+use dft_registers::Place;
 
 // A circuit with stuck nets, and what is known of the net that scan enables come by.
 #[derive(Clone, Copy)]

@@ -6,6 +6,7 @@ use Rattle.dft_netlist.specs.Drivers.{Source, Tied, nets_of, AreBelow}
 use Rattle.dft_netlist.specs.Logic.{Logic, Meaning, Input, Clock, Gate, Joined, Flop, Lockup, Free, reads, IsRanked}
 use Rattle.dft_abstract.specs.Cycle.{Pulse}
 use Rattle.dft_logic.specs.Shows.{Shown, Nothing, Domain, Several, is_still, with_shown, shown_by, held_shown, lockup_shown, shown_given, IsShownOn}
+use Rattle.dft_logic.proofs.ShownLemmas.{both_still}
 use Rattle.dft_fault_laws.specs.Stuck.{with_fault}
 use Rattle.dft_fault_laws.specs.Rounds.{every}
 use Rattle.dft_fault_laws.specs.Laws.{RankStays, StillStays}
@@ -69,17 +70,6 @@ shown_there l rank p ranked = (
 -- in each view in which the first is still, so is the second
 abbrev pub Less : Shown → Shown → Type 0
 Less s t = (d : ℕ) → is_still d s ≡ true → is_still d t ≡ true
-
-two_domains : (same : Bool) (d e f : ℕ) → (e == f) ≡ same → is_still d (if same then Domain e else Several) ≡ true → (is_still d (Domain e) ≡ true) × (is_still d (Domain f) ≡ true)
-two_domains true d e f is still = (still, eq-eqb f d (sym (eqb-true e f is) ∙ eqb-true e d still))
-two_domains false d e f is still = absurd cc
-
-both_still : (d : ℕ) (s t : Shown) → is_still d (with_shown s t) ≡ true → (is_still d s ≡ true) × (is_still d t ≡ true)
-both_still d Nothing t still = (refl, still)
-both_still d (Domain e) Nothing still = (still, refl)
-both_still d (Domain e) (Domain f) still = two_domains (e == f) d e f refl still
-both_still d (Domain e) Several still = absurd cc
-both_still d Several t still = absurd cc
 
 still_both : (d : ℕ) (s t : Shown) → is_still d s ≡ true → is_still d t ≡ true → is_still d (with_shown s t) ≡ true
 still_both d Nothing t first second = second

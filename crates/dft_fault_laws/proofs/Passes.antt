@@ -4,6 +4,7 @@ use Rattle.std.specs.Prelude.{if◌then◌else◌}
 use Rattle.dft_base.specs.declared.tri.Tri.{Tri}
 use Rattle.dft_base.specs.declared.tri.Tri.TheVariants.{Zero}
 use Rattle.dft_base.specs.Tri.{known}
+use Rattle.dft_base.proofs.SumLemmas.{and_false}
 use Rattle.dft_netlist.specs.Drivers.{Source, nets_of}
 use Rattle.dft_netlist.specs.Logic.{Logic}
 use Rattle.dft_netlist.specs.Settled.{TriSources, is_wire, value_from, IsTriSettled}
@@ -36,10 +37,6 @@ pass_of_bound l rank p bound values ranked is =
 
 -- ---- the strobe is before the rises
 
-never : (b : Bool) → (b && false) ≡ false
-never true = refl
-never false = refl
-
 wire_low : (high level : Bool) (held shown : Tri) → level ≡ false → (if high then held else shown) ≡ (if is_wire high level then shown else held)
 wire_low true true held shown low = absurd cc
 wire_low true false held shown low = refl
@@ -48,10 +45,10 @@ wire_low false false held shown low = refl
 
 strobe_before : (l : Logic) (x : Vector) (old values : ℕ → Tri) → strobe_sources l x old values ≡ before_from (rise_of l x old) values
 strobe_before l x old values =
-    let clock : (e : ℕ) → Zero ≡ known (x.pulsed e && false) = λ e. ap known (sym (never (x.pulsed e))) in
+    let clock : (e : ℕ) → Zero ≡ known (x.pulsed e && false) = λ e. ap known (sym (and_false (x.pulsed e))) in
     let wire : (c e : ℕ) (high : Bool) (source : Source) →
     (if high then (rise_of l x old).old c else value_from values source) ≡ (if is_wire high (x.pulsed e && false) then value_from values source else (rise_of l x old).old c) =
-    λ c e high source. wire_low high (x.pulsed e && false) ((rise_of l x old).old c) (value_from values source) (never (x.pulsed e)) in
+    λ c e high source. wire_low high (x.pulsed e && false) ((rise_of l x old).old c) (value_from values source) (and_false (x.pulsed e)) in
     λ t. record { ports = x.ports; clocks = λ e. clock e t; flops = (rise_of l x old).old; lockups = λ c e high source. wire c e high source t }
 
 rise_pass : (l : Logic) (x : Vector) (old : ℕ → Tri) (bound : ℕ → Shown) (values : ℕ → Tri) → IsRise l x old bound values → IsPass l (rise_of l x old) bound values

@@ -16,9 +16,9 @@ use Rattle.dft_netlist.specs.Drivers.{shape_of}
 use Rattle.dft_netlist.specs.Names.{names_taken, vector_name, instance_name}
 use Rattle.dft_netlist.specs.Sound.{IsNetlist, IsInstance, IsAJoin, IsLive, AreLive, NoConstantOutput, bits_of, is_output}
 use Rattle.dft_scan_frame.specs.Growing.{AllFit, port_things, net_things, instance_things, join_things, with_things}
-use Rattle.dft_scan_frame.proofs.Fitting.{IsWhole, ports_fit, nets_fit, instances_fit, joins_fit, with_all_nets, with_all_instances, with_all_joins}
+use Rattle.dft_scan_frame.proofs.Fitting.{IsWhole, nets_fit, instances_fit, joins_fit, with_all_nets, with_all_instances, with_all_joins}
 use Rattle.dft_scan_frame.proofs.NamesOnce.{times_named, stands_once}
-use Rattle.dft_scan_frame.proofs.Stages.{numbered_from, ports_stand, front_count}
+use Rattle.dft_scan_frame.proofs.Stages.{ports_stand, front_count}
 use Rattle.dft_faults.specs.declared.fault.Fault.{Fault}
 use Rattle.dft_faults.specs.Faulty.{is_at, loosened_pin, loosened_at, loosened_pins, loosened, is_elsewhere, stuck_join, ports_alone, faulty, IsFault}
 
@@ -134,20 +134,10 @@ faulty_whole n f sound = record {
   few_instances = omega (arith, length-map n.instances (loosened n.library f.net.0), sound.few_instances);
 }
 
-netlist_whole : (n : Netlist) → IsNetlist n → IsWhole n
-netlist_whole n sound = record { once = λ q. stands_once q n sound.names; few_ports = sound.few_ports; few_nets = sound.few_nets; few_instances = sound.few_instances }
-
 -- ---- stage by stage
 
 abbrev pub before_of : Netlist → ℕ
 before_of n = length (bits_of n.ports)
-
-pub ports_pass : (n b : Netlist) → IsNetlist n → b ≡ empty_netlist n.name n.library → AllFit b (port_things n.ports)
-ports_pass n b sound is =
-    subst (λ (m : Netlist). AllFit m (port_things n.ports)) (sym is)
-    (ports_fit n (empty_netlist n.name n.library) n.ports [] sound.bits.rest n.instances (netlist_whole n sound)
-    (record { its_ports = sym (append-nil n.ports); its_nets = sound.bits.same; its_instances = refl })
-    refl (numbered_from 0 n.ports sound.widths sound.numbered))
 
 pub ports_done : (n b new : Netlist) → IsNetlist n → b ≡ empty_netlist n.name n.library → new ≡ with_things b (port_things n.ports) → new ≡ ports_alone n
 ports_done n b new sound is added = ports_stand n b new sound is added

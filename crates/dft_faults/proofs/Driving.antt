@@ -1,10 +1,9 @@
 -- What drives a net is counted, and an output pin or a join makes no bit of an input port.
-use Rattle.std.proofs.Common.{ℕ, zero, suc, ◌+◌, ◌≡◌, ◌≤◌, ◌==◌, Bool, true, false, not, ◌&&◌, List, [], ◌∷◌, ◌++◌, cond, Option, None, Some, slice_get, refl, sym, subst, ap, arith, ◌∙◌}
+use Rattle.std.proofs.Common.{ℕ, zero, suc, ◌+◌, ◌≡◌, ◌≤◌, ◌==◌, Bool, true, false, not, ◌&&◌, List, [], ◌∷◌, ◌++◌, cond, Some, slice_get, refl, sym, subst, ap, arith, ◌∙◌}
 use Rattle.std.proofs.lemmas.Bool.{eq-eqb, lt-ltb}
 use Rattle.std.proofs.lemmas.Option.{same_Some}
 use Rattle.dft_cells.specs.declared.cell.Cell.{Cell}
 use Rattle.dft_cells.specs.declared.kind.Kind.{Kind}
-use Rattle.dft_cells.specs.declared.kind.Kind.TheVariants.{Buf, Inv, And, Nand, Or, Nor, Xor, Xnor, Mux2, Table, Tie0, Tie1, Dff, Dffr, Dffs, Sdff, Sdffr, Sdffs, Lockup, Opaque}
 use Rattle.dft_cells.specs.declared.kind.Role.{Role}
 use Rattle.dft_cells.specs.declared.kind.Role.TheVariants as role
 use Rattle.dft_netlist.specs.declared.instance.Instance.{Instance}
@@ -16,8 +15,9 @@ use Rattle.dft_netlist.specs.declared.net_driver.NetDriver.TheVariants as driven
 use Rattle.dft_netlist.specs.Netlist.{Netlist}
 use Rattle.dft_netlist.specs.Connections.{is_input}
 use Rattle.dft_netlist.specs.Drivers.{Source, Driven, Joined, source_of, driver, driver_of_kind, at_role, connections_from, connections_of, inputs_of, shape_of, driven_by_pins, driven_by, driven_by_instances, driven_by_ports, driven_by_joins}
-use Rattle.dft_netlist.specs.NetDrivers.{times_driven, driver_at, joined_by, Drives, IsOutputPin, IsTarget}
+use Rattle.dft_netlist.specs.NetDrivers.{times_driven, driver_at, Drives, IsOutputPin, IsTarget}
 use Rattle.dft_netlist.specs.Sound.{is_output}
+use Rattle.dft_netlist.proofs.LookUpLemmas.{kind_is_no_input, join_is_no_input}
 use Rattle.dft_scan_frame.proofs.Mergings.{times, times-cons}
 use Rattle.dft_faults.specs.Faults.{is_driven, shows_clock, has_faults}
 
@@ -86,39 +86,13 @@ pub join_driven : (n : Netlist) (number net : ℕ) → IsTarget n number net →
 join_driven n number net is =
     some_back net (driven_by_ports n.ports ++ driven_by_instances n.library 0 n.instances) (driven_by_joins n.joins) (join_counts net n.joins number is.join is.at is.target)
 
-kind_inner : (k : Kind) (i : ℕ) (inverted : Bool) (inputs : List Source) → is_input (driver_of_kind k i inverted inputs) ≡ false
-kind_inner Opaque i inverted inputs = refl
-kind_inner Lockup i inverted inputs = refl
-kind_inner Dff i inverted inputs = refl
-kind_inner Dffr i inverted inputs = refl
-kind_inner Dffs i inverted inputs = refl
-kind_inner Sdff i inverted inputs = refl
-kind_inner Sdffr i inverted inputs = refl
-kind_inner Sdffs i inverted inputs = refl
-kind_inner Buf i inverted inputs = refl
-kind_inner Inv i inverted inputs = refl
-kind_inner And i inverted inputs = refl
-kind_inner Nand i inverted inputs = refl
-kind_inner Or i inverted inputs = refl
-kind_inner Nor i inverted inputs = refl
-kind_inner Xor i inverted inputs = refl
-kind_inner Xnor i inverted inputs = refl
-kind_inner Mux2 i inverted inputs = refl
-kind_inner (Table number) i inverted inputs = refl
-kind_inner Tie0 i inverted inputs = refl
-kind_inner Tie1 i inverted inputs = refl
-
-joined_inner : (o : Option Join) → is_input (joined_by o) ≡ false
-joined_inner None = refl
-joined_inner (Some join) = refl
-
 -- a net with a driver that is no input has faults where it shows no clock
 has_them : (n : Netlist) (is_clock : ℕ → Bool) (net : ℕ) (shows : Bool) → 1 ≤ times_driven n net → is_input (driver n net) ≡ false → shows ≡ shows_clock n is_clock net → not shows ≡ has_faults n is_clock net
 has_them n is_clock net shows some inner is = λ t. sym (lt-ltb 0 (times_driven n net) some) t && (not (sym inner t) && not (is t))
 
 -- what a driver that is a pin or a join makes of it
 pub pin_has_faults : (n : Netlist) (is_clock : ℕ → Bool) (net i pin : ℕ) (shows : Bool) → driver n net ≡ driver_at n (driven_at.Pin (record { 0 = i }) pin) → IsOutputPin n i pin net → shows ≡ shows_clock n is_clock net → not shows ≡ has_faults n is_clock net
-pin_has_faults n is_clock net i pin shows driven is same = has_them n is_clock net shows (pin_driven n i pin net is) (ap is_input driven ∙ kind_inner _ i _ _) same
+pin_has_faults n is_clock net i pin shows driven is same = has_them n is_clock net shows (pin_driven n i pin net is) (ap is_input driven ∙ kind_is_no_input _ i _ _) same
 
 pub join_has_faults : (n : Netlist) (is_clock : ℕ → Bool) (net number : ℕ) (shows : Bool) → driver n net ≡ driver_at n (driven_at.Join number) → IsTarget n number net → shows ≡ shows_clock n is_clock net → not shows ≡ has_faults n is_clock net
-join_has_faults n is_clock net number shows driven is same = has_them n is_clock net shows (join_driven n number net is) (ap is_input driven ∙ joined_inner (slice_get n.joins number)) same
+join_has_faults n is_clock net number shows driven is same = has_them n is_clock net shows (join_driven n number net is) (ap is_input driven ∙ join_is_no_input (slice_get n.joins number)) same

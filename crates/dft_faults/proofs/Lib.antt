@@ -2,5 +2,5 @@ pub mod Others
 pub mod Finished
 pub mod Listed
 pub mod Carried
-pub mod Endings
 pub mod Driving
+pub mod ListingLemmas

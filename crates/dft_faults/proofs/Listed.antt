@@ -1,5 +1,5 @@
 -- Each fault that is listed is one, and what is listed net by net is the list.
-use Rattle.std.proofs.Common.{ℕ, zero, suc, ◌+◌, ◌≡◌, ◌<◌, ◌≤◌, Bool, true, false, not, ◌&&◌, List, [], ◌∷◌, ◌++◌, length, filter, Some, slice_get, nat_lt, inl, inr, refl, sym, ap, arith, ◌∙◌, append_assoc, append-nil}
+use Rattle.std.proofs.Common.{ℕ, zero, suc, ◌+◌, ◌≡◌, ◌≤◌, Bool, true, false, not, ◌&&◌, List, [], ◌∷◌, ◌++◌, length, filter, Some, slice_get, nat_lt, inl, inr, refl, sym, ap, arith, ◌∙◌, append_assoc, append-nil}
 use Rattle.std.specs.Prelude.{if◌then◌else◌}
 use Rattle.std.specs.List.{range_with_len}
 use Rattle.std.proofs.lemmas.Bool.{and_parts, ltb-true, not-true}
@@ -11,6 +11,7 @@ use Rattle.dft_netlist.specs.Orders.{Has}
 use Rattle.dft_netlist.specs.Connections.{is_input}
 use Rattle.dft_netlist.specs.Drivers.{driver}
 use Rattle.dft_netlist.specs.NetDrivers.{times_driven}
+use Rattle.dft_netlist.proofs.ListingLemmas.{has_kept, range_below, filter_has}
 use Rattle.dft_faults.specs.declared.fault.Fault.{Fault}
 use Rattle.dft_faults.specs.Faults.{is_driven, shows_clock, has_faults, both_of, faults}
 use Rattle.dft_faults.specs.Faulty.{IsFault}
@@ -23,21 +24,6 @@ both_has [] place f at = absurd (let g : ⊥ = cc in g)
 both_has (net ∷ nets) zero f at = inl (ap (λ (g : Fault). g.net.0) (sym (same_Some (record { net = record { 0 = net }; value = false }) f at)))
 both_has (net ∷ nets) (suc zero) f at = inl (ap (λ (g : Fault). g.net.0) (sym (same_Some (record { net = record { 0 = net }; value = true }) f at)))
 both_has (net ∷ nets) (suc (suc place)) f at = inr (both_has nets place f at)
-
-kept_has : (test : ℕ → Bool) (t : Bool) (x : ℕ) (xs : List ℕ) (s : ℕ) → test x ≡ t → (Has (filter test xs) s → Has xs s × (test s ≡ true)) → Has (if t then x ∷ filter test xs else filter test xs) s → Has (x ∷ xs) s × (test s ≡ true)
-kept_has test true x xs s is later has = elim has [
-  | inl here ↦ (inl here, ap test here ∙ is)
-  | inr there ↦ (let r = later there in (inr r.0, r.1))
-]
-kept_has test false x xs s is later has = (let r = later has in (inr r.0, r.1))
-
-filter_has : (test : ℕ → Bool) (xs : List ℕ) (s : ℕ) → Has (filter test xs) s → Has xs s × (test s ≡ true)
-filter_has test [] s has = absurd has
-filter_has test (x ∷ xs) s has = kept_has test (test x) x xs s refl (filter_has test xs s) has
-
-range_below : (a n s : ℕ) → Has (range_with_len a n) s → s < a + n
-range_below a zero s has = absurd has
-range_below a (suc n) s has = elim has [ inl here ↦ omega arith | inr there ↦ (let r = range_below (a + 1) n s there in omega arith) ]
 
 pub listed_faults : ListedAreFaults
 listed_faults n is_clock place f at =

@@ -33,8 +33,9 @@ use Rattle.dft_scan_frame.specs.Pins.{domain_in, own_output}
 use Rattle.dft_insert.specs.Chained.{a_numbered_pin, a_role_pin, a_scan_in, an_open_output, own_or_made, a_row, rows, cells_at, row_at, a_lockup_clock, a_lockup_behind, a_crossing, crossing_in, a_step, a_chain, a_latched_chain, a_fed_chain, last_net}
 use Rattle.dft_insert.specs.Chained as chained
 use Rattle.dft_insert.specs.Scanned.{an_edt_chain, behind_rows, edt_recipe}
+use Rattle.dft_insert.proofs.Weights.{sum_of, sum_add}
 use Rattle.dft_generate.specs.Configurations.{configuration}
-use Rattle.dft_generate_laws.proofs.Sizes.{sum_of, sum_add, sum_same, one_at_most, sum_swap, AtMost, at_most, pure_none, bind_most, each_most, collect_most, each_same, collect_same, net_most, gate_most, flop_most, lockup_most, driving_most, sum_most}
+use Rattle.dft_generate_laws.proofs.Sizes.{sum_same, one_at_most, sum_swap, AtMost, at_most, pure_none, bind_most, each_most, collect_most, each_same, collect_same, net_most, gate_most, flop_most, lockup_most, driving_most, sum_most}
 
 -- ---- the ring
 

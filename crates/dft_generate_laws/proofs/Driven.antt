@@ -1,9 +1,8 @@
 -- What drives each net of the stated design.
-use Rattle.std.proofs.Common.{◌≡◌, inl, inr, ℕ, zero, suc, ◌+◌, ◌*◌, ◌<◌, ◌≤◌, Bool, true, false, cond, eqb, List, [], ◌∷◌, ◌++◌, Option, Some, count_by, decimal, get_or, ◌==◌, slice_get, refl, sym, ap, ◌∙◌, subst, arith, zero-add}
+use Rattle.std.proofs.Common.{◌≡◌, inl, inr, ℕ, zero, suc, ◌+◌, ◌*◌, ◌<◌, ◌≤◌, Bool, true, false, cond, eqb, List, [], ◌∷◌, ◌++◌, Option, Some, decimal, get_or, ◌==◌, slice_get, refl, sym, ap, ◌∙◌, subst, arith, zero-add}
 use Rattle.std.specs.List.{range_with_len}
 use Rattle.std.proofs.Math.Nat.{mod-lt}
 use Rattle.std.proofs.lemmas.Bool.Decides.{nat_tests}
-use Rattle.std.proofs.lemmas.List.Sums.{sum_by-cons, sum_by-append}
 use Rattle.std.specs.Str.{bytes_eq}
 use Rattle.dft_base.specs.Lexing.{Text}
 use Rattle.dft_base.proofs.TextLemmas.{bytes_eq-self}
@@ -15,7 +14,8 @@ use Rattle.dft_netlist.specs.declared.instance.Instance.{Instance}
 use Rattle.dft_netlist.specs.Drivers.{Net, Driver, Input, Gate, Joined, Flop, Free, Driven, Shape, shape_of_cell, connections_from, inputs_of, driven_by_pins, driven_by, driven_by_instances, all_driven, driver_in, driver, nets_read}
 use Rattle.dft_netlist.specs.NetDrivers.{IsSingle}
 use Rattle.dft_netlist.specs.Orders.{Has, IsOrderable, Follows}
-use Rattle.dft_netlist.proofs.DriverLaws.{listed_drives}
+use Rattle.dft_netlist.proofs.DriverLaws.{listed_drives, times, one_if, times-cons}
+use Rattle.dft_parts.proofs.Singles.{times_at-append}
 use Rattle.dft_generate.specs.Words.{word_at}
 use Rattle.dft_generate_laws.specs.Designs.{nets_of, number_in, q_of, d_of, first_of, second_of, gate_in, flop_in, instances_in, design}
 use Rattle.dft_generate_laws.proofs.CellLines.{gate_known}
@@ -62,18 +62,6 @@ all-listed size words =
     ap (λ (ds : List Driven). (0, Input) ∷ (1, Input) ∷ (ds ++ (2, Joined (Net (number_in (nets_of size words) (q_of 0)))) ∷ [])) (cells-driven (nets_of size words) size words size 0 0)
 
 -- ---- no net has two drivers
-
-abbrev times : List Driven → (net : ℕ) → ℕ
-times ds net = count_by (λ (d : Driven). d.0 == net) ds
-
-abbrev one_if : Bool → ℕ
-one_if t = cond t 1 0
-
-times-cons : (d : Driven) (ds : List Driven) (net : ℕ) → times (d ∷ ds) net ≡ one_if (d.0 == net) + times ds net
-times-cons d ds net = sum_by-cons (λ (x : Driven). cond (x.0 == net) 1 0) d ds
-
-times-append : (xs ys : List Driven) (net : ℕ) → times (xs ++ ys) net ≡ times xs net + times ys net
-times-append xs ys net = sum_by-append (λ (x : Driven). cond (x.0 == net) 1 0) xs ys
 
 module _ (size : ℕ) (words : List ℕ) (few : size ≤ 20000) where
   abbrev all : List Text
@@ -190,7 +178,7 @@ module _ (size : ℕ) (words : List ℕ) (few : size ≤ 20000) where
         h,
         times-cons (0, Input) ((1, Input) ∷ (cells ++ last ∷ [])) net,
         times-cons (1, Input) (cells ++ last ∷ []) net,
-        times-append cells (last ∷ []) net,
+        times_at-append cells (last ∷ []) net,
         times-cons last [] net,
       )
 

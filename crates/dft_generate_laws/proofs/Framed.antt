@@ -1,5 +1,5 @@
 -- Insertion refuses nothing of a generated design, and no check before the cubes does.
-use Rattle.std.proofs.Common.{◌≡◌, ◌⊎◌, inl, inr, ℕ, zero, suc, ◌+◌, ◌*◌, ◌<◌, ◌≤◌, Bool, true, false, leb, List, [], ◌∷◌, ◌++◌, length, map, flat_map, get_or, take, drop, Option, None, Some, option_and_then, slice_get, codes, decimal, refl, sym, ap, ◌∙◌, subst, arith, append_assoc, length-append}
+use Rattle.std.proofs.Common.{◌≡◌, ◌⊎◌, inl, inr, ℕ, zero, suc, ◌+◌, ◌*◌, ◌<◌, ◌≤◌, true, false, leb, List, [], ◌∷◌, ◌++◌, length, map, flat_map, get_or, take, drop, Option, None, Some, option_and_then, slice_get, codes, decimal, refl, sym, ap, ◌∙◌, subst, arith, append_assoc, length-append}
 use Rattle.std.specs.Prelude.{slice_index_or, option_map}
 use Rattle.std.specs.List.{filter_map, cons_option, range_with_len}
 use Rattle.std.specs.Str.{bytes_eq}
@@ -10,8 +10,6 @@ use Rattle.std.proofs.lemmas.Option.{none-some}
 use Rattle.dft_base.specs.Lexing.{Text}
 use Rattle.dft_base.proofs.TextLemmas.{differ}
 use Rattle.dft_cells.specs.WellFormed.{has_name}
-use Rattle.dft_cells.specs.declared.cell.CellId.{CellId}
-use Rattle.dft_cells.specs.declared.cell.Cell.{Cell}
 use Rattle.dft_netlist.specs.declared.ids.InstanceId.{InstanceId}
 use Rattle.dft_netlist.specs.declared.instance.Instance.{Instance}
 use Rattle.dft_netlist.specs.declared.limits.TheConstants.{MAX_NETS}
@@ -19,7 +17,7 @@ use Rattle.dft_netlist.specs.Names.{is_taken, instance_name}
 use Rattle.dft_netlist.specs.Netlist.{Netlist}
 use Rattle.dft_rules.specs.declared.judged.Judged.{Judged}
 use Rattle.dft_rules.specs.Refusals.{is_scanned}
-use Rattle.dft_rules.specs.Rules.{judged, judgements, scan_cell_in}
+use Rattle.dft_rules.specs.Rules.{judged, judgements}
 use Rattle.dft_stitch.specs.declared.places.LockupPlace.{LockupPlace}
 use Rattle.dft_stitch.specs.Chains.{blocks, chain_lengths, chains_of, clock_at, clock_of, is_falling, lockup_after, lockups_in, cells_of, plan_of}
 use Rattle.dft_stitch.specs.Plans.{Plan}
@@ -30,10 +28,12 @@ use Rattle.dft_scan_frame.specs.declared.error.InsertError.{InsertError}
 use Rattle.dft_scan_frame.specs.Moves.{Gap, map_from}
 use Rattle.dft_scan_frame.specs.Refusals.{or_else}
 use Rattle.dft_insert.specs.declared.style.Style.TheVariants.{Edt}
-use Rattle.dft_insert.specs.Frame.{as_scan_cell, framed_instance, framed_at, frame}
+use Rattle.dft_insert.specs.Frame.{framed_at, frame}
 use Rattle.dft_insert.specs.Ports.{added_ports, gap_in, edt_nets}
 use Rattle.dft_insert.specs.Refusals.{as_told, ports_alone, ports_refusal, room_refusal, frame_refusal, refusal}
 use Rattle.dft_insert.specs.Scanned.{framed, parts_of}
+use Rattle.dft_insert.proofs.Frames.{framed_named}
+use Rattle.dft_insert.proofs.Weights.{sum_of}
 use Rattle.dft_generate.specs.Configurations.{configuration}
 use Rattle.dft_generate_laws.specs.Designs.{nets_of, design}
 use Rattle.dft_generate_laws.specs.Laws.{DesignsAreAccepted}
@@ -44,7 +44,6 @@ use Rattle.dft_generate_laws.proofs.Said.{nets_grow}
 use Rattle.dft_generate_laws.proofs.Places.{nets-few, instances-length}
 use Rattle.dft_generate_laws.proofs.Checks.{all_rise, scanned_here, rules_pass}
 use Rattle.dft_generate_laws.proofs.Plans.{few_cells, plan_passes}
-use Rattle.dft_generate_laws.proofs.Sizes.{sum_of}
 use Rattle.dft_generate_laws.proofs.Added.{AreLow, edt_most}
 use Rattle.dft_generate_laws.proofs.Fresh.{none_append, none_take, none_drop, none_each, IsFree, IsFresh, parts_pass}
 
@@ -144,18 +143,10 @@ own_far (suc count) from rest = own_far count (from + 1) rest
 
 -- ---- the frame
 
-framed_name : (library : List Cell) (gap : Gap) (scanned : Bool) (i : Instance) → (framed_instance library gap scanned i).name ≡ i.name
-framed_name library gap false i = refl
-framed_name library gap true i = by (scan_cell_in library i.cell)
-  where
-    by : (o : Option CellId) → (as_scan_cell library gap i o).name ≡ i.name
-    by None = refl
-    by (Some cell) = refl
-
 framed_names : (n : Netlist) (gap : Gap) (number : ℕ) (xs : List Instance) → filter_map instance_name (map_from (framed_at n configuration gap) number xs) ≡ filter_map instance_name xs
 framed_names n gap number [] = refl
 framed_names n gap number (x ∷ xs) =
-    ap (λ (o : Option Text). cons_option o (filter_map instance_name (map_from (framed_at n configuration gap) (suc number) xs))) (framed_name n.library gap (is_scanned (judged n configuration number)) x)
+    ap (λ (o : Option Text). cons_option o (filter_map instance_name (map_from (framed_at n configuration gap) (suc number) xs))) (framed_named n.library gap (is_scanned (judged n configuration number)) x)
     ∙ ap (cons_option x.name) (framed_names n gap (suc number) xs)
 
 framed_count : (n : Netlist) (gap : Gap) (number : ℕ) (xs : List Instance) → length (map_from (framed_at n configuration gap) number xs) ≡ length xs

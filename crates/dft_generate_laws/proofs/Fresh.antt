@@ -20,6 +20,7 @@ use Rattle.dft_netlist.specs.Netlist.{Netlist}
 use Rattle.dft_netlist.proofs.RefusalLemmas.{net_open, instance_open}
 use Rattle.dft_parts.specs.MadeNames.{made_net, made_instance}
 use Rattle.dft_parts.specs.Parts.{Part, ANet, AnInstance, APin, Making, with_net, with_instance, with_pin, instance_joined, parts_refusal, or_else}
+use Rattle.dft_parts.proofs.Growing.{joined_length}
 use Rattle.dft_generate_laws.proofs.Nets.{has-other}
 use Rattle.dft_generate_laws.proofs.Sizes.{instance_counts, size_of}
 
@@ -135,11 +136,6 @@ joined_names i pin net [] = refl
 joined_names zero pin net (x ∷ xs) = refl
 joined_names (suc i) pin net (x ∷ xs) = ap (cons_option x.name) (joined_names i pin net xs)
 
-joined_count : (i pin : ℕ) (net : NetId) (xs : List Instance) → length (instance_joined i pin net xs) ≡ length xs
-joined_count i pin net [] = refl
-joined_count zero pin net (x ∷ xs) = refl
-joined_count (suc i) pin net (x ∷ xs) = ap suc (joined_count i pin net xs)
-
 pin_kept : (s : Making) (instance : InstanceId) (pin : ℕ) (net : NetId) (w : Text) → IsFree s.netlist w → IsFree (with_pin s instance pin net).netlist w
 pin_kept s instance pin net w f = record { nets = f.nets; vectors = f.vectors; owns = ap (λ (ws : List Text). has_name ws w) (joined_names instance.0 pin net s.netlist.instances) ∙ f.owns }
 
@@ -150,7 +146,7 @@ pin_fresh s instance pin net room f =
       nets = λ j le wide. pin_kept s instance pin net (made_net j) (f.nets j le wide);
       instances = λ j le wide. pin_kept s instance pin net (made_instance j) (f.instances j le wide);
       few_nets = f.few_nets;
-      few_instances = omega (arith, more, joined_count instance.0 pin net s.netlist.instances);
+      few_instances = omega (arith, more, joined_length instance.0 pin net s.netlist.instances);
       low_nets = f.low_nets;
       low_instances = f.low_instances;
     }

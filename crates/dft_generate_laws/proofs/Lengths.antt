@@ -15,7 +15,7 @@ use Rattle.dft_generate_laws.proofs.Seeds.{seeds_give_words}
 five : (n : ℕ) → n < 20000 → length (decimal n) ≤ 5
 five n lt = length-decimal-le 5 n (omega arith) (omega (arith, lt)) (omega (arith, lt))
 
-one : (n : ℕ) → n < 10 → length (decimal n) ≤ 1
+pub one : (n : ℕ) → n < 10 → length (decimal n) ≤ 1
 one n lt = length-decimal-le 1 n (omega arith) (omega (arith, lt)) (omega (arith, lt))
 
 -- ---- netlists

@@ -1,5 +1,5 @@
 -- A net that is named at a pin of a generated cell.
-use Rattle.std.proofs.Common.{◌≡◌, ℕ, zero, suc, ◌+◌, ◌-◌, ◌<◌, ◌≤◌, Bool, true, false, cond, ltb, List, [], ◌∷◌, ◌++◌, length, Some, None, option_map, Ok, codes, decimal, slice_get, slice_set, refl, sym, ap, ◌∙◌, subst, arith, length-append, inl, inr}
+use Rattle.std.proofs.Common.{◌≡◌, ℕ, zero, suc, ◌+◌, ◌-◌, ◌<◌, ◌≤◌, Bool, true, false, cond, ltb, List, [], ◌∷◌, ◌++◌, length, Some, Ok, codes, decimal, slice_get, slice_set, refl, sym, ap, ◌∙◌, subst, arith, length-append, inl, inr}
 use Rattle.std.proofs.lemmas.Bool.Decides.{nat_tests}
 use Rattle.std.proofs.lemmas.Fmt.{decimal_digit}
 use Rattle.dft_base.specs.Lexing.{Text}
@@ -17,12 +17,11 @@ use Rattle.dft_netlist_text.specs.declared.text.TokenKind.TheVariants as kind
 use Rattle.dft_netlist_text.specs.declared.text.Site.TheVariants as site
 use Rattle.dft_netlist_text.specs.Lexemes.{Token}
 use Rattle.dft_netlist_text.specs.Steps.{kind_of, same_kind, sees}
-use Rattle.dft_netlist_text.specs.Modules.{TakenName, Draft, meaning_of}
+use Rattle.dft_netlist_text.specs.Modules.{TakenName, Draft}
 use Rattle.dft_netlist_text.specs.Expressions.{bits_of_name, ends, expression}
 use Rattle.dft_netlist_text.specs.Items.{Joined, pin_place, pin_drives, was_joined, named_connection}
 use Rattle.dft_verilog_out.proofs.CutLemmas.{cut_up, token, cut_up-word, cut_up-point, cut_up-open, cut_up-close}
-use Rattle.dft_verilog_out.proofs.CountLemmas.{look}
-use Rattle.dft_verilog_out.proofs.DraftLemmas.{entry, meaning_some}
+use Rattle.dft_verilog_out.proofs.DraftLemmas.{entry, meaning_some, meaning_none}
 use Rattle.dft_verilog_out.proofs.RuleLemmas.{named, whole-at}
 use Rattle.dft_verilog_out.proofs.ItemLemmas.{named_connection-at}
 use Rattle.dft_verilog_out.proofs.OperandLemmas.{no_close}
@@ -78,9 +77,6 @@ word_at w b rest word free ends =
 
 -- ---- what a name gives at a pin
 
-missing : (d : Draft) (w : Text) → look d.names w ≡ None → meaning_of d w ≡ None
-missing d w h = ap (λ o. option_map (λ (e : TakenName). e.meaning) o) h
-
 bits_by : (t : Bool) (drives : Bool) (names : List TakenName) (nets : List Text) (instances : List Instance) (joins : List Join) (gates flops : ℕ) (w : Text) (l : ℕ) → has_name nets w ≡ t → IsInner w → AreTied names nets gates flops → length nets + 1 ≤ MAX_NETS
     → bits_of_name (site.Pin drives) 0 (named w l) (draft names nets instances joins)
     ≡ Ok (draft (cond t names (names ++ entry w (net_meaning (length nets)) ∷ [])) (cond t nets (nets ++ w ∷ [])) instances joins, net_in (cond t nets (nets ++ w ∷ [])) w ∷ [])
@@ -88,7 +84,7 @@ bits_by true drives names nets instances joins gates flops w l is i tied room =
     let m = meaning_some (draft names nets instances joins) w (entry w (net_meaning (number_in nets w))) (tied.known w i is) in
     rw m refl
 bits_by false drives names nets instances joins gates flops w l is i tied room =
-    let m = missing (draft names nets instances joins) w (tied.free w i is) in
+    let m = meaning_none (draft names nets instances joins) w (tied.free w i is) in
     let full : ltb MAX_NETS (length nets + 1) ≡ false = grind (arith, nat_tests) in
     rw (m, m, full, number-new nets [] w is) refl
 

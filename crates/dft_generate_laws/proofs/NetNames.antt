@@ -13,7 +13,7 @@ use Rattle.dft_netlist.specs.declared.named.Named.{Named}
 use Rattle.dft_netlist.specs.declared.named.Named.TheVariants as named
 use Rattle.dft_netlist.specs.Netlist.{Netlist}
 use Rattle.dft_netlist.specs.Names.{Names, NamesDiffer, names_taken, vector_name, instance_name}
-use Rattle.dft_verilog_out.proofs.CountLemmas.{one_if, times, Once, times-append, times-head, times-where}
+use Rattle.dft_verilog_out.proofs.CountLemmas.{one_if, times, Once, times-append, times-head, times-where, none_or_some}
 use Rattle.dft_generate.specs.Words.{word_at}
 use Rattle.dft_generate_laws.specs.Designs.{with_net, with_cell, with_cells, port_nets, nets_of, q_of, d_of, g_of, f_of, first_of, second_of, instances_in}
 use Rattle.dft_generate_laws.proofs.Words as letters
@@ -232,10 +232,6 @@ no_own : (w : Text) → IsNetName w → (k : ℕ) → (w ≡ g_of k) ⊎ (w ≡ 
 no_own w n k (inl e) = (net_head w n).0 (ap (λ (v : Text). get_or v 0 0) e)
 no_own w n k (inr e) = (net_head w n).1 (ap (λ (v : Text). get_or v 0 0) e)
 
-zero_or : (n : ℕ) → (n ≡ 0) ⊎ (1 ≤ n)
-zero_or zero = inl refl
-zero_or (suc n) = inr (omega arith)
-
 -- the names of nets and instances stand once
 pub all_once : (nets all : List Text) (size : ℕ) (words : List ℕ) → AreNets nets → size ≤ 20000 → Once (nets ++ filter_map instance_name (instances_in all size words (range_with_len 0 size)))
 all_once nets all size words n few word =
@@ -243,9 +239,9 @@ all_once nets all size words n few word =
     let is = ap (times word) (own-are all size words size 0) in
     let a = n.once word in
     let b = own_once size 0 word (omega (arith, few)) in
-    elim (zero_or (times word nets)) [
+    elim (none_or_some (times word nets)) [
       | inl none ↦ omega (arith, none, b, is, times-append word nets owns)
-      | inr some ↦ elim (zero_or (times word (own_words 0 size))) [
+      | inr some ↦ elim (none_or_some (times word (own_words 0 size))) [
         | inl none ↦ omega (arith, none, a, is, times-append word nets owns)
         | inr own ↦ (
             let at = times-where nets word some in

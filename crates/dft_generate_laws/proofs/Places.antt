@@ -4,6 +4,7 @@ use Rattle.std.specs.List.{range_with_len}
 use Rattle.std.proofs.Math.Nat.{mod-lt}
 use Rattle.std.proofs.lemmas.List.FromFn.{length-range_with_len}
 use Rattle.dft_base.specs.Lexing.{Text}
+use Rattle.dft_base.proofs.NumberLemmas.{same_or_past}
 use Rattle.dft_cells.specs.WellFormed.{has_name}
 use Rattle.dft_netlist.specs.declared.instance.Instance.{Instance}
 use Rattle.dft_generate.specs.Words.{word_at}
@@ -65,17 +66,11 @@ flop_there size words k lt = flop_at (nets_of size words) size words size 0 k lt
 
 -- ---- nets that are there
 
-from_or : (m n : ℕ) → m ≤ n → (m ≡ n) ⊎ (m + 1 ≤ n)
-from_or zero zero le = inl refl
-from_or zero (suc n) le = inr (omega arith)
-from_or (suc m) zero le = absurd (omega (arith, le))
-from_or (suc m) (suc n) le = elim (from_or m n (omega (arith, le))) [ inl e ↦ inl (ap suc e) | inr l ↦ inr (omega (arith, l)) ]
-
 -- both nets of a cell
 pub both_there : (size : ℕ) (words : List ℕ) (count from k : ℕ) (nets : List Text) → from ≤ k → k < from + count
     → (has_name (with_cells size words (range_with_len from count) nets) (q_of k) ≡ true) × (has_name (with_cells size words (range_with_len from count) nets) (d_of k) ≡ true)
 both_there size words zero from k nets low high = absurd (omega (arith, low, high))
-both_there size words (suc count) from k nets low high = by (from_or from k low) (λ l. both_there size words count (from + 1) k (with_cell size words from nets) l (omega (arith, high)))
+both_there size words (suc count) from k nets low high = by (same_or_past from k low) (λ l. both_there size words count (from + 1) k (with_cell size words from nets) l (omega (arith, high)))
   where
     by : (from ≡ k) ⊎ (from + 1 ≤ k) → (from + 1 ≤ k → (has_name (with_cells size words (range_with_len from (suc count)) nets) (q_of k) ≡ true) × (has_name (with_cells size words (range_with_len from (suc count)) nets) (d_of k) ≡ true))
         → (has_name (with_cells size words (range_with_len from (suc count)) nets) (q_of k) ≡ true) × (has_name (with_cells size words (range_with_len from (suc count)) nets) (d_of k) ≡ true)

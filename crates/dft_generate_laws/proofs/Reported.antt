@@ -31,6 +31,7 @@ use Rattle.dft_merge.specs.declared.placed.Placed.{Placed}
 use Rattle.dft_merge.specs.declared.placed.Placed.TheVariants as word
 use Rattle.dft_merge.specs.Placement.{Places, PlacesAll}
 use Rattle.dft_merge.specs.Rows.{CellRows, cell_row, place_from}
+use Rattle.dft_insert.proofs.Weights.{sum_of}
 use Rattle.dft_report.specs.declared.report.CubeLine.{CubeLine}
 use Rattle.dft_report.specs.declared.report.CubeLine.TheVariants as line
 use Rattle.dft_report.specs.declared.report.CubeReport.{CubeReport}
@@ -58,8 +59,8 @@ use Rattle.dft_generate_laws.proofs.Checks.{scanned_here}
 use Rattle.dft_generate_laws.proofs.Framed.{plan_small}
 use Rattle.dft_generate_laws.proofs.Places.{instance_of}
 use Rattle.dft_generate_laws.proofs.Plans.{few_cells}
-use Rattle.dft_generate_laws.proofs.Sizes.{sum_of}
 use Rattle.dft_generate_laws.proofs.Vectors.{cycles_few}
+use Rattle.dft_generate_laws.proofs.Lengths.{one}
 
 -- ---- lines
 
@@ -81,9 +82,6 @@ lines_from {X = X} g h most last each (x ∷ xs) from le =
     (lines_from g h most last each xs (from + 1) (omega (arith, le)))
 
 -- ---- numbers
-
-one : (n : ℕ) → n < 10 → length (decimal n) ≤ 1
-one n lt = length-decimal-le 1 n (omega arith) (omega (arith, lt)) (omega (arith, lt))
 
 two : (n : ℕ) → n < 100 → length (decimal n) ≤ 2
 two n lt = length-decimal-le 2 n (omega arith) (omega (arith, lt)) (omega (arith, lt))

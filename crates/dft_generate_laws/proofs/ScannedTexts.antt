@@ -35,7 +35,7 @@ use Rattle.dft_stitch.specs.Plans.{Plan}
 use Rattle.dft_verilog_out.specs.Written.{body, cell_line, connection_texts, dir_text, found_cell_line, gate_line, gate_text, instance_line, join_line, list_text, list_text_behind, module_line, name_text, net_texts, output_first, own_name_text, port_line, port_texts, signal_text, wire_line, wire_names, written}
 use Rattle.dft_parts.specs.Growth.{IsGrown}
 use Rattle.dft_parts.specs.MadeNames.{made_instance, made_net}
-use Rattle.dft_parts.specs.Parts.{ANet, AnInstance, APin, Making, Part, instance_joined, next_instance, pin_joined, with_instance, with_net, with_parts, with_pin}
+use Rattle.dft_parts.specs.Parts.{ANet, AnInstance, APin, Making, Part, instance_joined, next_instance, with_instance, with_net, with_parts, with_pin}
 use Rattle.dft_parts.specs.Recipes.{nets_in, start_of}
 use Rattle.dft_parts.proofs.Growing.{parts_grow}
 use Rattle.dft_scan_frame.specs.AddedPorts.{NewPort, port_name, ports_from}
@@ -45,6 +45,8 @@ use Rattle.dft_insert.specs.Frame.{as_scan_cell, framed_at, framed_instance}
 use Rattle.dft_insert.specs.Ports.{added_ports, edt_nets, gap_in}
 use Rattle.dft_insert.specs.Scanned.{framed, parts_of}
 use Rattle.dft_insert.specs.Statements.{scanned}
+use Rattle.dft_insert.proofs.Joins.{one_width}
+use Rattle.dft_insert.proofs.Weights.{sum_of}
 use Rattle.dft_generate.specs.Configurations.{configuration}
 use Rattle.dft_generate_laws.specs.Designs.{design, design_ports, flop_in, gate_in, instances_in, nets_of, numbered, scalar}
 use Rattle.dft_generate_laws.specs.Laws.{ScannedAreShort}
@@ -52,7 +54,7 @@ use Rattle.dft_generate_laws.proofs.Added.{edt_most}
 use Rattle.dft_generate_laws.proofs.Framed.{plan_small}
 use Rattle.dft_generate_laws.proofs.NetNames.{IsNetName, OfCell, OfClock0, OfClock1, OfOutput, are_nets}
 use Rattle.dft_generate_laws.proofs.Places.{nets-few}
-use Rattle.dft_generate_laws.proofs.Sizes.{size_of, sum_of}
+use Rattle.dft_generate_laws.proofs.Sizes.{size_of}
 
 -- ---- short texts
 
@@ -243,15 +245,9 @@ sum_append : (f : Instance → ℕ) (xs ys : List Instance) → sum_of f (xs ++ 
 sum_append f [] ys = omega arith
 sum_append f (x ∷ xs) ys = let i = sum_append f xs ys in omega (arith, i)
 
--- a pin that is joined leaves the bytes as they are
-pins_kept : (pin : ℕ) (net : NetId) (pins : List Signal) → length (pin_joined pin net pins) ≡ length pins
-pins_kept pin net [] = refl
-pins_kept zero net (s ∷ pins) = refl
-pins_kept (suc pin) net (s ∷ pins) = ap suc (pins_kept pin net pins)
-
 sum_joined : (i pin : ℕ) (net : NetId) (xs : List Instance) → sum_of line_most (instance_joined i pin net xs) ≡ sum_of line_most xs
 sum_joined i pin net [] = refl
-sum_joined zero pin net (x ∷ xs) = ap (λ (k : ℕ). length (own_name_text x.name) + cell_most x.cell k + sum_of line_most xs) (pins_kept pin net x.pins)
+sum_joined zero pin net (x ∷ xs) = ap (λ (k : ℕ). length (own_name_text x.name) + cell_most x.cell k + sum_of line_most xs) (one_width pin net x.pins)
 sum_joined (suc i) pin net (x ∷ xs) = ap (λ (k : ℕ). line_most x + k) (sum_joined i pin net xs)
 
 made_short : (number : ℕ) → number < 1000000 → length (own_name_text (Some (made_instance number))) ≤ 20

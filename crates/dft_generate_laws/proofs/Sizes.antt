@@ -16,20 +16,9 @@ use Rattle.dft_netlist.specs.declared.instance.CellRef.{CellRef}
 use Rattle.dft_netlist.specs.declared.instance.CellRef.TheVariants.{Library, Gate}
 use Rattle.dft_netlist.specs.declared.instance.Signal.{Signal}
 use Rattle.dft_netlist.specs.declared.instance.Signal.TheVariants.{Net}
+use Rattle.dft_insert.proofs.Weights.{sum_of, sum_add, sum_zero}
 
 -- ---- sums
-
-abbrev pub sum_of : {X : Type 0} → (X → ℕ) → List X → ℕ
-sum_of f [] = zero
-sum_of f (x ∷ xs) = f x + sum_of f xs
-
-pub sum_add : {X : Type 0} (f g : X → ℕ) (xs : List X) → sum_of (λ x. f x + g x) xs ≡ sum_of f xs + sum_of g xs
-sum_add f g [] = refl
-sum_add f g (x ∷ xs) = let i = sum_add f g xs in omega (arith, i)
-
-pub sum_zero : {X : Type 0} (xs : List X) → sum_of (λ (x : X). 0) xs ≡ 0
-sum_zero [] = refl
-sum_zero (x ∷ xs) = let i = sum_zero xs in omega (arith, i)
 
 pub sum_same : {X : Type 0} (most : ℕ) (f : X → ℕ) (xs : List X) → ((x : X) → f x ≤ most) → sum_of f xs ≤ length xs * most
 sum_same most f [] h = omega arith

@@ -1,12 +1,13 @@
 -- Packed bits as their list.
-use Rattle.std.proofs.Common.{ℕ, Bool, true, false, ◌≡◌, ◌≢◌, ◌<◌, ◌≤◌, ◌⊎◌, inl, inr, List, length, get_or, replicate, sym, ap, subst, arith, ◌∙◌, length-set, get_or-set_same, get_or-set_other, Option, Some, None}
+use Rattle.std.proofs.Common.{ℕ, Bool, true, false, ◌≡◌, ◌≢◌, ◌<◌, ◌⊎◌, inl, inr, List, length, replicate, sym, ap, subst, arith, ◌∙◌, length-set, get_or-set_same, get_or-set_other, Option, Some, None}
 use Rattle.std.specs.Prelude.{◌&&◌, ◌||◌, ◌==◌, slice_set, bit_xor, if◌then◌else◌, MatchOption}
 use Rattle.std.specs.Simd.Lanes.{zip2}
 use Rattle.std.proofs.lemmas.Bool.{cases_lt, cases_eq}
 use Rattle.std.proofs.lemmas.Bool.Decides.{nat_tests}
-use Rattle.std.proofs.lemmas.List.{get_or_past, get_or-replicate, length-replicate, ext_get_or}
+use Rattle.std.proofs.lemmas.List.{get_or-replicate, length-replicate, ext_get_or}
 use Rattle.dft_base.specs.Solutions.{xor, bit_at, sum_over}
 use Rattle.dft_base.specs.Packed.{packed_bit}
+use Rattle.dft_base.proofs.ListLemmas.{zeros_case}
 use Rattle.dft_lanes.specs.Rows.{bits_of, words_for, IsPacked}
 use Rattle.dft_lanes.specs.Sums.{odd_common}
 use Rattle.dft_lanes.proofs.RowLemmas.{bits-at, length-bits_of, packed_bit-zeros, sum_packed, sum_at, top_within, parity_sum}
@@ -18,10 +19,6 @@ size_of n words bits is = sym (ap length is) ∙ length-bits_of n words
 -- a bit of the list is the packed one
 pub at : (n : ℕ) (words : List ℕ) (bits : List Bool) → IsPacked n words → bits_of n words ≡ bits → (k : ℕ) → bit_at bits k ≡ packed_bit words k
 at n words bits packed is k = ap (λ (b : List Bool). bit_at b k) (sym is) ∙ bits-at words n k packed.clear
-
-zeros_case : (n i : ℕ) → (i < n) ⊎ (n ≤ i) → get_or {A = ℕ} (replicate n 0) i 0 ≡ 0
-zeros_case n i (inl less) = get_or-replicate n i 0 0 less
-zeros_case n i (inr past) = let size = length-replicate {A = ℕ} n 0 in get_or_past (replicate n 0) i 0 (omega arith)
 
 pub zero_at : (m k : ℕ) → packed_bit (replicate m 0) k ≡ false
 zero_at m k = packed_bit-zeros (replicate m 0) k (λ i. zeros_case m i (cases_lt i m))

@@ -75,7 +75,7 @@ forced_same n c row x y less led met other agree =
     xor_cancel (x c) (sum_over c row.set x) (y c)
     (sym (sum_led n c row x less led) ∙ met ∙ sym other ∙ sum_led n c row y less led ∙ ap (xor (y c)) (sym (sums_agree c row.set y x agree)))
 
-other_of : (a b : Bool) → (a ≡ b → ⊥) → a ≡ not b
+pub other_of : (a b : Bool) → (a ≡ b → ⊥) → a ≡ not b
 other_of true true apart = absurd (apart refl)
 other_of true false apart = refl
 other_of false true apart = refl

@@ -1,16 +1,11 @@
 -- The chosen bits are one list: column by column, a bit that can be taken after the same bits is the same.
-use Rattle.std.proofs.Common.{ℕ, zero, suc, Bool, true, false, List, ◌≡◌, ◌<◌, ◌≤◌, refl, sym, ap, arith, ◌∙◌, ◌⊎◌, inl, inr}
+use Rattle.std.proofs.Common.{ℕ, zero, suc, Bool, true, false, List, ◌≡◌, ◌<◌, ◌≤◌, sym, ap, arith, ◌∙◌, ◌⊎◌, inl, inr}
 use Rattle.std.specs.Prelude.{not}
 use Rattle.std.proofs.lemmas.Bool.{cases_lt}
 use Rattle.std.proofs.lemmas.List.{ext_get_or}
 use Rattle.dft_base.specs.Solutions.{bit_at, Equation, CanTake, IsChosen}
+use Rattle.dft_base.proofs.BitLemmas.{same_or_not}
 use Rattle.dft_gf2.specs.Laws.{ChosenIsOne}
-
-same_or_not : (a b : Bool) → (a ≡ b) ⊎ (a ≡ not b)
-same_or_not true true = inl refl
-same_or_not true false = inr refl
-same_or_not false true = inr refl
-same_or_not false false = inl refl
 
 not_itself : (a b : Bool) → a ≡ b → a ≡ not b → ⊥
 not_itself true true same other = absurd cc

@@ -5,6 +5,7 @@ use Rattle.std.proofs.lemmas.Bool.{cases_lt}
 use Rattle.std.proofs.lemmas.List.{length_push, get_or_push, length-take-le, get_or-take, take-append-le, take_at}
 use Rattle.dft_base.specs.Solutions.{xor, sum_to, bit_at, Equation, equation_at, odd_at, IsSumOf, IsSum, IsSolvable, Contradicts, StatesFrom}
 use Rattle.dft_base.proofs.SumLemmas.{sum_same}
+use Rattle.dft_base.proofs.BitLemmas.{xor_same}
 use Rattle.dft_gf2.specs.Laws.{StatedIsOne}
 use Rattle.dft_gf2.proofs.Sums.{xor_self, sum_add_left}
 use Rattle.dft_gf2.proofs.Restorations.{push_at, solves_front, solves_last}
@@ -52,9 +53,6 @@ zero_picks n kept p independent zero fits zeros j less = absurd (omega arith)
 zero_picks n kept p independent (suc m) fits zeros j less =
     let found = pick_case n kept m p (p m) refl independent (omega arith) zeros in
     pick_more p m j (cases_lt j m) less found.0 (zero_picks n kept p independent m (omega arith) found.1 j)
-
-pub xor_same : (a b : Bool) → xor a b ≡ false → a ≡ b
-xor_same = grind arith
 
 picks_one : (n : ℕ) (kept : List Equation) (row : List Bool) (p q : ℕ → Bool) → IsIndependent n kept → IsSumOf n p kept row → IsSumOf n q kept row → (j : ℕ) → j < length kept → p j ≡ q j
 picks_one n kept row p q independent one other j less =

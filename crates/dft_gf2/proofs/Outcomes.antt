@@ -7,6 +7,7 @@ use Rattle.std.specs.List.{count_by}
 use Rattle.std.proofs.lemmas.Bool.{cases_eq, cases_lt, and_left}
 use Rattle.dft_base.specs.Solutions.{xor, bit_at, sum_over, Equation, equation_at, Solves, IsSolvable, odd_at, odd_bits, IsSumOf, IsSum, AllGive, NoneGives}
 use Rattle.dft_base.proofs.SumLemmas.{xor_false, sum_same, sum_zero}
+use Rattle.dft_base.proofs.BitLemmas.{other_bit}
 use Rattle.dft_lanes.specs.Rows.{bits_of}
 use Rattle.dft_lanes.proofs.RowLemmas.{length-bits_of}
 use Rattle.dft_gf2.specs.Rows.{row_at, place_at, IsWide, IsStarted, IsLedBy, AreLed, NameEarlier, IsZero, IsNew, AreSums, Means, IsReduced, with_own, restored, kept_to, IsEchelon}
@@ -142,10 +143,6 @@ pub record Tells (n : ℕ) (kept : List Equation) (set : List Bool) (bit : Bool)
   pub kept_is : (outcome ≡ Kept) ↔ (IsSum n kept set → ⊥)
   pub implied_is : (outcome ≡ Implied) ↔ AllGive n kept set bit
   pub conflict_is : (outcome ≡ Conflict) ↔ (IsSum n kept set × NoneGives n kept set bit)
-
-other_bit : (b : Bool) → b ≡ not b → ⊥
-other_bit true same = cc
-other_bit false same = cc
 
 -- where both sums are given
 tells_kept : (n : ℕ) (kept : List Equation) (set : List Bool) (bit : Bool) → ((b : Bool) → (x : ℕ → Bool) × (Solves n x kept × (sum_over n set x ≡ b))) → Tells n kept set bit Kept

@@ -1,10 +1,11 @@
 -- The grades of all faults: there is one list of them.
-use Rattle.std.proofs.Common.{ℕ, zero, suc, ◌+◌, ◌*◌, ◌≤◌, ◌<◌, ◌^◌, ◌≡◌, ◌∙◌, Bool, true, false, List, [], ◌∷◌, ◌++◌, length, filter, map, drop, Some, slice_get, refl, sym, ap, ap₂, subst, arith}
+use Rattle.std.proofs.Common.{ℕ, zero, suc, ◌+◌, ◌≤◌, ◌<◌, ◌^◌, ◌≡◌, ◌∙◌, Bool, true, false, List, [], ◌∷◌, ◌++◌, length, filter, map, drop, Some, slice_get, refl, sym, ap, ap₂, subst, arith}
 use Rattle.std.specs.Prelude.{if◌then◌else◌, slice_index_or}
 use Rattle.std.specs.List.{AllByRecursion, range_with_len}
 use Rattle.std.proofs.lemmas.List.{drop_more, length-map}
 use Rattle.std.proofs.lemmas.List.FromFn.{length-range_with_len}
 use Rattle.std.proofs.lemmas.Option.{none-some, same_Some}
+use Rattle.dft_base.proofs.ListLemmas.{drop_over}
 use Rattle.dft_netlist.specs.Netlist.{Netlist}
 use Rattle.dft_netlist.specs.Drivers.{IsOrdered}
 use Rattle.dft_netlist.specs.declared.limits.TheConstants.{MAX_NETS}
@@ -13,10 +14,11 @@ use Rattle.dft_replay.specs.declared.verdict.Unknowns.TheVariants.{Skip}
 use Rattle.dft_replay.specs.Plain.{plain_end}
 use Rattle.dft_replay.specs.Rows.{ports_of}
 use Rattle.dft_faults.specs.declared.fault.Fault.{Fault}
-use Rattle.dft_faults.specs.Faults.{both_of, has_faults}
+use Rattle.dft_faults.specs.Faults.{has_faults}
 use Rattle.dft_faults.specs.Faulty.{IsFault, faulty}
 use Rattle.dft_faults.proofs.Finished.{order_stays}
 use Rattle.dft_faults.proofs.Listed.{listed_faults}
+use Rattle.dft_faults.proofs.ListingLemmas.{both_few}
 use Rattle.dft_grade.specs.declared.found.Grade.{Grade}
 use Rattle.dft_grade.specs.declared.found.Grade.TheVariants.{Detected, Undetected}
 use Rattle.dft_grade.specs.declared.found.Graded.{Graded}
@@ -95,10 +97,6 @@ all_fail n rank p graded order x = fail_from n rank p graded order (subst (AreFa
 
 -- ---- how many
 
-both_few : (nets : List ℕ) → length (both_of nets) ≡ 2 * length nets
-both_few [] = refl
-both_few (net ∷ nets) = omega (arith, both_few nets)
-
 kept_few : (t : Bool) (x : ℕ) (xs : List ℕ) (count : ℕ) → length xs ≤ count → length (if t then x ∷ xs else xs) ≤ suc count
 kept_few true x xs count few = omega (arith, few)
 kept_few false x xs count few = omega (arith, few)
@@ -140,15 +138,9 @@ one_more n p faults k d graded more grade less so_far is pushed =
       each = all_push (λ h. IsGraded n p h.fault h.grade) graded g so_far.each is;
     })
 
-none_after : (faults : List Fault) (k : ℕ) → length faults ≤ k → drop k faults ≡ []
-none_after [] zero far = refl
-none_after [] (suc k) far = refl
-none_after (f ∷ faults) zero far = absurd (omega (arith, far))
-none_after (f ∷ faults) (suc k) far = none_after faults k (omega (arith, far))
-
 nil_after : (fs : List Fault) → fs ++ [] ≡ fs
 nil_after [] = refl
 nil_after (f ∷ fs) = ap (λ (gs : List Fault). f ∷ gs) (nil_after fs)
 
 pub all_done : (n : Netlist) (p : Patterns) (faults : List Fault) (k : ℕ) (graded : List Graded) → length faults ≤ k → SoFar n p faults k graded → faults_in graded ≡ faults
-all_done n p faults k graded far so_far = sym (nil_after (faults_in graded)) ∙ ap (λ (fs : List Fault). faults_in graded ++ fs) (sym (none_after faults k far)) ∙ so_far.faults_are
+all_done n p faults k graded far so_far = sym (nil_after (faults_in graded)) ∙ ap (λ (fs : List Fault). faults_in graded ++ fs) (sym (drop_over faults k far)) ∙ so_far.faults_are

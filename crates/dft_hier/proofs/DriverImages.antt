@@ -1,9 +1,8 @@
 -- What drives the nets of a flat design: what drives the nets of its modules, and what joins them.
-use Rattle.std.proofs.Common.{ℕ, zero, suc, ◌+◌, ◌<◌, ◌≤◌, ◌≡◌, ◌==◌, ◌⊎◌, inl, inr, Bool, true, false, cond, List, [], ◌∷◌, ◌++◌, length, map, Some, slice_get, refl, sym, ap, subst, arith, ◌∙◌}
+use Rattle.std.proofs.Common.{ℕ, zero, suc, ◌+◌, ◌<◌, ◌≡◌, ◌==◌, ◌⊎◌, inl, inr, Bool, true, false, cond, List, [], ◌∷◌, ◌++◌, length, map, Some, slice_get, refl, sym, ap, subst, arith, ◌∙◌}
 use Rattle.std.specs.List.{AllByRecursion}
-use Rattle.std.proofs.lemmas.Bool.{eqb-true, eq-eqb}
+use Rattle.std.proofs.lemmas.Bool.{eqb-true}
 use Rattle.std.proofs.lemmas.List.Elements.{recursion_from_All}
-use Rattle.std.proofs.lemmas.List.Sums.{sum_by-cons}
 use Rattle.std.proofs.lemmas.Option.{slice_get_within}
 use Rattle.dft_base.specs.declared.dir.Dir.{Dir}
 use Rattle.dft_base.specs.declared.dir.Dir.TheVariants as dir
@@ -20,7 +19,7 @@ use Rattle.dft_netlist.specs.NetDrivers.{IsSingle}
 use Rattle.dft_netlist.specs.Netlist.{Netlist}
 use Rattle.dft_netlist.specs.Orders.{IsOrderable}
 use Rattle.dft_netlist.specs.Sound.{IsInstance, IsAJoin, IsLive, IsConnected}
-use Rattle.dft_netlist.proofs.DriverLaws.{times, listed_drives}
+use Rattle.dft_netlist.proofs.DriverLaws.{times, listed_drives, one_if, times-cons, listed_once}
 use Rattle.dft_modules.specs.declared.module.SubInstance.{SubInstance}
 use Rattle.dft_modules.specs.declared.module.Item.{Item}
 use Rattle.dft_modules.specs.declared.module.Item.TheVariants as item
@@ -41,21 +40,6 @@ use Rattle.dft_hier.proofs.Positions.{In, in_left, in_right, in_either, all_at, 
 use Rattle.dft_hier.proofs.SpotLemmas.{spot, once, nets_once, module_below}
 
 -- ---- what is listed of drivers
-
-abbrev one_if : Bool → ℕ
-one_if t = cond t 1 0
-
-times-cons : (e : Driven) (es : List Driven) (net : ℕ) → times (e ∷ es) net ≡ one_if (e.0 == net) + times es net
-times-cons e es net = sum_by-cons (λ (x : Driven). cond (x.0 == net) 1 0) e es
-
--- what is listed is counted
-pub some_times : (es : List Driven) (k : ℕ) (d : Driven) → slice_get es k ≡ Some d → 1 ≤ times es d.0
-some_times [] k d at = absurd (let f : ⊥ = cc in f)
-some_times (e ∷ es) zero d at =
-    let same : e ≡ d = cc in
-    let one : one_if (e.0 == d.0) ≡ 1 = ap one_if (eq-eqb e.0 d.0 (ap (λ (x : Driven). x.0) same)) in
-    omega (arith, one, times-cons e es d.0)
-some_times (e ∷ es) (suc k) d at = omega (arith, some_times es k d at, times-cons e es d.0)
 
 -- the first driver of a net is listed, or there is none
 abbrev pub Decided : List Driven → ℕ → Type 0
@@ -446,7 +430,7 @@ module _ (ms : List Module) (library : List Cell) (top : Module) (design : Netli
   -- ---- from the flat design to modules
 
   inside_of : (path : Path) (m : Module) (d : Driven) → module_at ms path top ≡ Some m → In Driven (all_driven (alone library path m)) d → DrivenInside ms library top path d.0 (driver (alone library path m) d.0)
-  inside_of path m d at h = record { m = m; at = at; some = some_times (all_driven (alone library path m)) h.place d h.at; driver_is = refl }
+  inside_of path m d at h = record { m = m; at = at; some = listed_once (all_driven (alone library path m)) h.place d h.at; driver_is = refl }
 
   origin_inside : (path : Path) (m : Module) (number : ℕ) (d : Driven) → module_at ms path top ≡ Some m → IsAt (net_spots ms top) path d.0 number → In Driven (all_driven (alone library path m)) d → Origin ms library top number
   origin_inside path m number d at net h = Inside path d.0 (driver (alone library path m) d.0) net (inside_of path m d at h)

@@ -23,7 +23,7 @@ use Rattle.dft_hier.specs.Weights.{Live, no_live}
 use Rattle.dft_hier.proofs.NetWalkLemmas.{instance_of, walks_on, stops, steps_fewer}
 
 -- the items of a module by its number
-items_are : (ms : List Module) (number : ℕ) (m : Module) (items : List Item) → number < length ms → m ≡ get_or ms number m → items ≡ m.items → items_at ms number ≡ items
+pub items_are : (ms : List Module) (number : ℕ) (m : Module) (items : List Item) → number < length ms → m ≡ get_or ms number m → items ≡ m.items → items_at ms number ≡ items
 items_are ms number m items less is are = ap items_in (slice_get-get_or ms number m less ∙ ap (λ (x : Module). Some x) (sym is)) ∙ sym are
 
 pub item_there : (ms : List Module) (number : ℕ) (l : LiveSub) (m : Module) (items : List Item) → number < length ms → m ≡ get_or ms number m → items ≡ m.items → IsSubAt ms number l → l.item < length items

@@ -5,7 +5,7 @@ use Rattle.std.specs.Option.{option_or}
 use Rattle.std.specs.Str.{bytes_eq}
 use Rattle.std.proofs.lemmas.List.{get_or_append_left, get_or_at}
 use Rattle.std.proofs.lemmas.Bool.{cases_lt}
-use Rattle.dft_base.proofs.ListLemmas.{length_push}
+use Rattle.dft_base.proofs.ListLemmas.{length_push, drop_over}
 use Rattle.std.proofs.lemmas.List.Folds.{find-append}
 use Rattle.std.proofs.lemmas.Option.{slice_get_within, slice_get-get_or}
 use Rattle.dft_base.specs.Lexing.{Text}
@@ -20,7 +20,7 @@ use Rattle.dft_hier.specs.Hierarchy.{sub_of, subs_of, all_subs, find_module}
 use Rattle.dft_hier.specs.Numbers.{Entry, Finds, first_from, look_up, port_names, number_of, numbers_of_subs, children_of, children_among}
 use Rattle.dft_hier.specs.Fitting.{ArePortsFound, TellsMisfit}
 use Rattle.dft_hier.specs.Refusals.{fits, fits_port, ports_of, first_misfit, first_unknown}
-use Rattle.dft_hier.proofs.NumberLemmas.{drop_next, drop_past, module_there, number_within, some_first}
+use Rattle.dft_hier.proofs.NumberLemmas.{drop_next, module_there, number_within, some_first}
 
 -- ---- searches for the first that passes
 
@@ -29,9 +29,6 @@ find_next {X = X} p xs k x less is fails = ap (find p) (drop_next xs k x less is
 
 pub find_here : {X : Type 0} (p : X → Bool) (xs : List X) (k : ℕ) (x : X) → k < length xs → x ≡ get_or xs k x → p x ≡ true → find p (drop k xs) ≡ Some x
 find_here {X = X} p xs k x less is passes = ap (find p) (drop_next xs k x less is) ∙ ap (λ (t : Bool). cond t (Some x) (find p (drop (k + 1) xs))) passes
-
-pub find_past : {X : Type 0} (p : X → Bool) (xs : List X) (k : ℕ) → length xs ≤ k → find p (drop k xs) ≡ None
-find_past p xs k past = ap (find p) (drop_past xs k past)
 
 -- ---- ports by their names
 
@@ -153,7 +150,7 @@ misfit_here ms items children k next i s m error less is sub found h t =
     subst (λ (o : Option Connection). TellsMisfit o error) whole (or_tells (find (λ c. not (fits m.ports c)) s.connections) (first_misfit ms (subs_of rest)) error t)
 
 pub checked_all : (ms : List Module) (items : List Item) (children : List ℕ) (k next : ℕ) → length items ≤ k → CheckedSoFar ms items children k next → first_misfit ms (subs_of items) ≡ None
-checked_all ms items children k next past h = h.misfit ∙ ap (λ (xs : List Item). first_misfit ms (subs_of xs)) (drop_past items k past)
+checked_all ms items children k next past h = h.misfit ∙ ap (λ (xs : List Item). first_misfit ms (subs_of xs)) (drop_over items k past)
 
 -- the module of an instance, by its number
 pub found_child : (ms : List Module) (s : SubInstance) (child : ℕ) (m : Module) → number_of ms s.of ≡ Some child → m ≡ get_or ms child m → find_module ms s.of ≡ Some m
@@ -227,7 +224,7 @@ misfits_here ms k m error less is h t =
     subst (λ (o : Option Connection). TellsMisfit o error) whole (or_tells (first_misfit ms (subs_of m.items)) (first_misfit ms (all_subs rest)) error t)
 
 pub misfits_none : (ms : List Module) (k : ℕ) → length ms ≤ k → MisfitsSoFar ms k → first_misfit ms (all_subs ms) ≡ None
-misfits_none ms k past h = h ∙ ap (λ (xs : List Module). first_misfit ms (all_subs xs)) (drop_past ms k past)
+misfits_none ms k past h = h ∙ ap (λ (xs : List Module). first_misfit ms (all_subs xs)) (drop_over ms k past)
 
 -- ---- the ports of one module more
 

@@ -4,8 +4,7 @@ use Rattle.std.proofs.lemmas.List.{drop-append-le, length-drop}
 use Rattle.std.proofs.lemmas.List.Elements.{All-get_or}
 use Rattle.std.proofs.lemmas.Option.{slice_get_within, get_or_from_slice_get}
 use Rattle.dft_base.specs.Lexing.{Text}
-use Rattle.dft_base.specs.declared.dir.Dir.{Dir}
-use Rattle.dft_base.specs.declared.place.Range.{Range}
+use Rattle.dft_base.proofs.ListLemmas.{drop_over}
 use Rattle.dft_cells.specs.declared.cell.Cell.{Cell}
 use Rattle.dft_netlist.specs.declared.ids.PortId.{PortId}
 use Rattle.dft_netlist.specs.declared.port.Port.{Port}
@@ -15,11 +14,11 @@ use Rattle.dft_netlist.specs.Netlist.{Netlist}
 use Rattle.dft_netlist.specs.Building.{Answers, WithPort, empty_netlist, port_of, port_refusal, net_refusal}
 use Rattle.dft_netlist.specs.Names.{bit_names}
 use Rattle.dft_netlist.specs.NetNumbers.{nets_from}
-use Rattle.dft_netlist.specs.Sound.{HasOnlyPorts, bits_of, bit_names_of}
-use Rattle.dft_netlist.proofs.PortLemmas.{nets_from-length, bits_behind}
+use Rattle.dft_netlist.specs.Sound.{HasOnlyPorts, bit_names_of}
 use Rattle.dft_netlist_text.specs.NetlistText.{Grown, unless_refused, and_grown, add_port, add_nets}
 use Rattle.dft_modules.specs.Modules.{Module}
 use Rattle.dft_modules.specs.Sound.{IsModule, AreModules}
+use Rattle.dft_verilog.proofs.GrowLemmas.{HasOnlyPorts-port, add_nets-append}
 use Rattle.dft_hier.specs.Flat.{add_ports, add_parts, add_instances, flat_parts, flat_netlist}
 use Rattle.dft_hier.specs.FlatNets.{nets_below, GivesLive}
 use Rattle.dft_hier.specs.Growing.{IsRefusal}
@@ -27,9 +26,8 @@ use Rattle.dft_hier.specs.ItemWalks.{adds}
 use Rattle.dft_hier.specs.Laid.{name_in, name_at, flat_in, flat_at}
 use Rattle.dft_hier.specs.Moving.{with_joins}
 use Rattle.dft_hier.specs.Weights.{Live}
-use Rattle.dft_hier.proofs.NumberLemmas.{drop_next, drop_past}
+use Rattle.dft_hier.proofs.NumberLemmas.{drop_next}
 use Rattle.dft_hier.proofs.GrowLemmas.{same_refusal}
-use Rattle.dft_hier.proofs.NetWalkLemmas.{nets_append}
 use Rattle.dft_hier.proofs.PartLemmas.{nets_same}
 
 -- ---- a step behind a step
@@ -43,14 +41,6 @@ refused_first first more (error.TooMany what limit) is = ap (λ (g : Grown). and
 refused_first first more (error.Memory failed) is = tt
 
 -- ---- ports
-
-pub only_ports : (old new : Netlist) (name : Text) (dir : Dir) (range : Option Range) (port : PortId) → WithPort old name dir range port new → HasOnlyPorts old → HasOnlyPorts new
-only_ports old new name dir range port h only =
-    let names = bit_names name range in
-    let bits = nets_from (length old.nets) (length names) in
-    let nets : length new.nets ≡ length (old.nets ++ names) = ap (λ (n : Netlist). length n.nets) h.grown in
-    let ports : length (bits_of new.ports) ≡ length (bits_of (old.ports ++ port_of name dir range bits ∷ [])) = ap (λ (n : Netlist). length (bits_of n.ports)) h.grown in
-    omega (arith, length-append old.nets names, bits_behind old.ports (port_of name dir range bits), nets_from-length (length old.nets) (length names))
 
 -- the ports from one on give what all give
 pub record PortsLeft (ports : List Port) (k : ℕ) (start now : Netlist) : Type 0 where
@@ -68,7 +58,7 @@ ports_next ports k p name id start old new less is named w none h =
     let free : port_refusal old p.name p.range ≡ None = subst (λ (x : Text). port_refusal old x p.range ≡ None) named none in
     record {
       rest = sym (ap (λ (g : Grown). and_grown g (add_ports (drop (k + 1) ports))) (port_added old new p id given free)) ∙ ap (λ (ps : List Port). add_ports ps old) (sym (drop_next ports k p less is)) ∙ h.rest;
-      only = only_ports old new p.name p.dir p.range id given h.only;
+      only = HasOnlyPorts-port old new p.name p.dir p.range id given h.only;
     }
 
 port_refused_by : (refusal : Option NetlistError) (n : Netlist) (more : Netlist → Grown) (e : NetlistError) → Answers {A = PortId} refusal (Err e) → IsRefusal (and_grown (unless_refused refusal n) more) e
@@ -85,7 +75,7 @@ port_refused ports k p name start old e less is named refused h =
     (port_refused_by (port_refusal old p.name p.range) (record old { ports = old.ports ++ port_of p.name p.dir p.range (nets_from (length old.nets) (length (bit_names p.name p.range))) ∷ []; nets = old.nets ++ bit_names p.name p.range }) (add_ports (drop (k + 1) ports)) e told)
 
 pub ports_done : (ports : List Port) (k : ℕ) (start now : Netlist) → length ports ≤ k → PortsLeft ports k start now → add_ports ports start ≡ Ok now
-ports_done ports k start now past h = sym h.rest ∙ ap (λ (ps : List Port). add_ports ps now) (drop_past ports k past)
+ports_done ports k start now past h = sym h.rest ∙ ap (λ (ps : List Port). add_ports ps now) (drop_over ports k past)
 
 -- ports that were added have their bits' nets, and nothing else
 pub ports_nets : (ports : List Port) (n m : Netlist) → add_ports ports n ≡ Ok m → (length m.nets ≡ length n.nets + length (bit_names_of ports)) × (m.joins ≡ n.joins) × (m.library ≡ n.library)
@@ -129,7 +119,7 @@ behind_ports ms items number m library start ports gives is none added =
     let cut : drop (length ports.nets) (m.nets ++ nets_below ms items number) ≡ drop (length ports.nets) m.nets ++ nets_below ms items number = drop-append-le (length ports.nets) m.nets (nets_below ms items number) (omega arith) in
     ap (λ (ns : List Text). and_grown (add_nets (drop (length ports.nets) ns) ports) more) (whole_nets ms items number m gives)
     ∙ ap (λ (ns : List Text). and_grown (add_nets ns ports) more) cut
-    ∙ ap (λ (g : Grown). and_grown g more) (nets_append (drop (length ports.nets) m.nets) (nets_below ms items number) ports)
+    ∙ ap (λ (g : Grown). and_grown g more) (add_nets-append (drop (length ports.nets) m.nets) (nets_below ms items number) ports)
 
 -- ---- what is there after each step
 

@@ -1,5 +1,5 @@
 -- The steps of flattening: what the tests of a hierarchy give.
-use Rattle.std.proofs.Common.{ℕ, zero, suc, ◌<◌, ◌≡◌, List, [], ◌∷◌, length, get_or, None, Some, Ok, slice_get, refl, sym, ap, subst, arith, ◌∙◌}
+use Rattle.std.proofs.Common.{ℕ, ◌<◌, ◌≡◌, List, length, get_or, None, Some, Ok, slice_get, sym, ap, subst, arith, ◌∙◌}
 use Rattle.std.proofs.lemmas.Option.{slice_get-get_or}
 use Rattle.dft_base.specs.Lexing.{Text}
 use Rattle.dft_cells.specs.declared.cell.Cell.{Cell}
@@ -21,7 +21,7 @@ use Rattle.dft_hier.specs.TopNumbers.{IsTop, TellsTops}
 use Rattle.dft_hier.specs.Fitting.{TellsMisfit}
 use Rattle.dft_hier.specs.Weights.{Live, AreWeights, AreLive}
 use Rattle.dft_hier.proofs.RefusalLemmas.{tops_told, misfit_told}
-use Rattle.dft_hier.proofs.ModuleLemmas.{none_in_itself, first_in_itself, top_is}
+use Rattle.dft_hier.proofs.ModuleLemmas.{none_in_itself, first_in_itself, top_is, module_at}
 use Rattle.dft_hier.proofs.NumberLemmas.{graph_count, graph_within}
 use Rattle.dft_hier.proofs.ReachLemmas.{ordered_apart}
 
@@ -43,11 +43,6 @@ first_named ms g first m name own is circle at named =
     let live = circle.live in
     let there : slice_get ms first ≡ Some m = slice_get-get_or ms first m (omega arith) ∙ ap (λ (x : Module). Some x) (sym at) in
     subst (IsFirstInItself ms) (sym named) (first_in_itself ms first m own (subst (λ (x : Graph). IsFirstOnCircle x first) is circle) there)
-
-module_at : (ms : List Module) (k : ℕ) → k < length ms → (m : Module) × (slice_get ms k ≡ Some m)
-module_at [] k less = absurd (omega (arith, less))
-module_at (m ∷ ms) zero less = (m, refl)
-module_at (m ∷ ms) (suc k) less = module_at ms k (omega (arith, less))
 
 -- the one top is there, and is the top of a hierarchy
 pub top_found : (ms : List Module) (g : Graph) (k : ℕ) → HaveOwnNames ms → first_unknown ms ≡ None → NoneInItself ms ms → g ≡ children_of ms → IsTop g k → k < length g → first_misfit ms (all_subs ms) ≡ None → IsTopOf ms k

@@ -6,6 +6,7 @@ use Rattle.std.proofs.lemmas.List.Elements.{All-from_recursion}
 use Rattle.std.proofs.lemmas.Bool.{cases_lt}
 use Rattle.dft_base.specs.Name.{IsName}
 use Rattle.dft_base.specs.Lexing.{Text}
+use Rattle.dft_base.proofs.ListLemmas.{drop_over}
 use Rattle.dft_netlist.specs.declared.ids.NetId.{NetId}
 use Rattle.dft_netlist.specs.declared.error.NetlistError.{NetlistError}
 use Rattle.dft_netlist.specs.declared.error.NetlistError.TheVariants as error
@@ -14,7 +15,7 @@ use Rattle.dft_netlist.specs.Building.{Answers, WithNet, net_refusal}
 use Rattle.dft_netlist_text.specs.NetlistText.{Grown, unless_refused, and_grown, add_net, add_nets}
 use Rattle.dft_hier.specs.Flat.{inside}
 use Rattle.dft_hier.specs.Growing.{IsPrefix, IsRefusal}
-use Rattle.dft_hier.proofs.NumberLemmas.{drop_next, drop_past}
+use Rattle.dft_hier.proofs.NumberLemmas.{drop_next}
 
 -- ---- one net more
 
@@ -52,7 +53,7 @@ name_refused f names k name whole start old e less is named refused h =
     (refused_by (net_refusal old whole) (record old { nets = old.nets ++ whole ∷ [] }) (add_nets (map f rest)) e refused)
 
 pub names_added : (f : Text → Text) (names : List Text) (k : ℕ) (start now : Netlist) → length names ≤ k → NamesSoFar f names k start now → add_nets (map f names) start ≡ Ok now
-names_added f names k start now past h = sym h ∙ ap (λ (xs : List Text). add_nets (map f xs) now) (drop_past names k past)
+names_added f names k start now past h = sym h ∙ ap (λ (xs : List Text). add_nets (map f xs) now) (drop_over names k past)
 
 -- ---- names behind prefixes
 
@@ -87,4 +88,4 @@ net_left_refused names k name own old whole e less is same refused h =
     (refused_by (net_refusal old own) (record old { nets = old.nets ++ own ∷ [] }) (add_nets (drop (k + 1) names)) e refused)
 
 pub nets_over : (names : List Text) (k : ℕ) (now : Netlist) (whole : Grown) → length names ≤ k → add_nets (drop k names) now ≡ whole → whole ≡ Ok now
-nets_over names k now whole past h = sym h ∙ ap (λ (xs : List Text). add_nets xs now) (drop_past names k past)
+nets_over names k now whole past h = sym h ∙ ap (λ (xs : List Text). add_nets xs now) (drop_over names k past)

@@ -100,11 +100,6 @@ join_fits count nets first j within is = record {
   connected = moved_connected first j.source is.connected;
 }
 
-live_weaker : (count nets : ℕ) (s : Signal) → count ≤ nets → IsLive count s → IsLive nets s
-live_weaker count nets (signal.Net net) less live = omega arith
-live_weaker count nets (signal.Constant bit) less live = tt
-live_weaker count nets signal.Unconnected less live = tt
-
 pub writable : (first count : ℕ) (s : Signal) → first + count ≤ 2 ^ 32 → IsLive count s → IsWritable first s
 writable first count s within live = moved_live first count (2 ^ 32) s within live
 

@@ -1,6 +1,6 @@
 -- A walk through the items below a module: past an item, into an instance, and the whole.
 use Rattle.std.proofs.Common.{ℕ, suc, ◌+◌, ◌<◌, ◌≤◌, ◌≡◌, List, [], ◌∷◌, ◌++◌, length, take, drop, get_or, map, reverse, Option, Some, Ok, Err, slice_get, refl, sym, ap, subst, arith, ◌∙◌, length-append, append_assoc, append-nil}
-use Rattle.std.proofs.lemmas.List.{reverse-append, take-append-le, take-take, take_all, length-take-le}
+use Rattle.std.proofs.lemmas.List.{take-take, take_all, length-take-le}
 use Rattle.std.proofs.lemmas.List.Elements.{All-get_or}
 use Rattle.std.proofs.lemmas.Option.{slice_get_within, get_or_from_slice_get}
 use Rattle.dft_base.specs.Lexing.{Text}
@@ -30,9 +30,8 @@ use Rattle.dft_hier.specs.Moving.{with_joins}
 use Rattle.dft_hier.specs.Weights.{Live, no_weight}
 use Rattle.dft_hier.proofs.FlattenLemmas.{sound_at}
 use Rattle.dft_hier.proofs.ItemLemmas.{adds_append, adds_keep}
-
-back-push : (way : List Visit) (v : Visit) → reverse (way ++ v ∷ []) ≡ v ∷ reverse way
-back-push way v = reverse-append way (v ∷ [])
+use Rattle.dft_hier.proofs.NetWalkLemmas.{kept}
+use Rattle.dft_hier.proofs.WalkLemmas.{back-push}
 
 parts_assoc : (a b c : Parts) → and_parts (and_parts a b) c ≡ and_parts a (and_parts b c)
 parts_assoc a b c =
@@ -58,12 +57,6 @@ pending_same ms items weights nets p q limit (v ∷ back) same h =
     let here : take v.prefix p ≡ take v.prefix q = sym (take-take v.prefix limit p h.1) ∙ ap (take v.prefix) same ∙ take-take v.prefix limit q h.1 in
     ap (λ (prefix : Text). and_parts (live_parts (parts_within (length ms) ms) ms weights prefix v.first v.next (items_at ms v.number) (drop v.item (live_items_at items v.number))) (pending_parts ms items weights p back)) here
     ∙ ap (λ (x : Parts). and_parts (live_parts (parts_within (length ms) ms) ms weights (take v.prefix q) v.first v.next (items_at ms v.number) (drop v.item (live_items_at items v.number))) x) (pending_same ms items weights nets p q v.prefix back here h.2)
-
-kept : (p name : Text) (limit : ℕ) → limit ≤ length p → take limit (inside (take limit p) name) ≡ take limit p
-kept p name limit less =
-    let size = length-take-le limit p less in
-    let all : take limit (take limit p ++ name ++ 47 ∷ []) ≡ take limit (take limit p ++ name) = take-append-le limit (take limit p ++ name) (47 ∷ []) (let l = length-append (take limit p) name in omega arith) in
-    all ∙ take-append-le limit (take limit p) name (omega arith) ∙ take_all limit (take limit p) (omega arith)
 
 module _ (ms : List Module) (items : List Live) (weights : List Weight) (library : List Cell) where
   N : Giving

@@ -7,7 +7,7 @@ use Rattle.std.proofs.lemmas.Option.{slice_get-get_or, slice_get_within, get_or_
 use Rattle.std.proofs.lemmas.List.Elements.{All-get_or}
 use Rattle.dft_base.specs.Lexing.{Text}
 use Rattle.dft_base.specs.declared.dir.Dir.{Dir}
-use Rattle.dft_base.proofs.ListLemmas.{drop_at}
+use Rattle.dft_base.proofs.ListLemmas.{drop_at, drop_over}
 use Rattle.dft_netlist.specs.declared.ids.NetId.{NetId}
 use Rattle.dft_netlist.specs.declared.instance.Signal.{Signal}
 use Rattle.dft_netlist.specs.declared.instance.Join.{Join}
@@ -18,7 +18,7 @@ use Rattle.dft_modules.specs.declared.connections.Connection.{Connection}
 use Rattle.dft_hier.specs.Flat.{bit_joins, connection_joins, joined_to, signals_of, port_joins, moved, moved_net}
 use Rattle.dft_hier.specs.Moving.{AreJoinsOf, with_joins, connection_names}
 use Rattle.dft_hier.specs.Numbers.{Entry, Finds, first_from, look_up, noted}
-use Rattle.dft_hier.proofs.NumberLemmas.{FindsSoFar, noted_next, noted_all, drop_next, drop_past}
+use Rattle.dft_hier.proofs.NumberLemmas.{FindsSoFar, noted_next, noted_all, drop_next}
 
 -- joins that are left, which with those so far give the whole
 pub record JoinsLeft (now : Netlist) (rest : List Join) (whole : Netlist) : Type 0 where
@@ -132,13 +132,13 @@ no_signals (b ∷ bits) (suc k) e = let r = no_signals bits k e in omega arith
 
 pub bits_end : (now whole : Netlist) (d : Dir) (within outside : ℕ) (bits : List NetId) (signals : List Signal) (k : ℕ) → (slice_get bits k ≡ None) ⊎ (slice_get signals k ≡ None) → BitsLeft now whole d within outside bits signals k → now ≡ whole
 bits_end now whole d within outside bits signals k none h = elim none [
-  | inl bit ↦ joins_done now whole (subst (λ (js : List Join). JoinsLeft now js whole) (ap (λ (bs : List NetId). port_joins d (map (moved_net within) bs) (map (moved outside) (drop k signals))) (drop_past bits k (no_signals bits k bit))) h)
-  | inr signal ↦ joins_done now whole (subst (λ (js : List Join). JoinsLeft now js whole) (ap (λ (ss : List Signal). port_joins d (map (moved_net within) (drop k bits)) (map (moved outside) ss)) (drop_past signals k (past_none signals k signal)) ∙ no_bits d (map (moved_net within) (drop k bits))) h)
+  | inl bit ↦ joins_done now whole (subst (λ (js : List Join). JoinsLeft now js whole) (ap (λ (bs : List NetId). port_joins d (map (moved_net within) bs) (map (moved outside) (drop k signals))) (drop_over bits k (no_signals bits k bit))) h)
+  | inr signal ↦ joins_done now whole (subst (λ (js : List Join). JoinsLeft now js whole) (ap (λ (ss : List Signal). port_joins d (map (moved_net within) (drop k bits)) (map (moved outside) ss)) (drop_over signals k (past_none signals k signal)) ∙ no_bits d (map (moved_net within) (drop k bits))) h)
 ]
 
 pub bits_over : (now whole : Netlist) (d : Dir) (within outside : ℕ) (bits : List NetId) (signals : List Signal) (k : ℕ) → length signals ≤ k → BitsLeft now whole d within outside bits signals k → now ≡ whole
 bits_over now whole d within outside bits signals k past h =
-    joins_done now whole (subst (λ (js : List Join). JoinsLeft now js whole) (ap (λ (ss : List Signal). port_joins d (map (moved_net within) (drop k bits)) (map (moved outside) ss)) (drop_past signals k past) ∙ no_bits d (map (moved_net within) (drop k bits))) h)
+    joins_done now whole (subst (λ (js : List Join). JoinsLeft now js whole) (ap (λ (ss : List Signal). port_joins d (map (moved_net within) (drop k bits)) (map (moved outside) ss)) (drop_over signals k past) ∙ no_bits d (map (moved_net within) (drop k bits))) h)
 
 -- what holds of all holds of the one at a place
 pub all_at : {X : Type 0} (P : X → Type 0) (xs : List X) (k : ℕ) (x : X) → All P xs → slice_get xs k ≡ Some x → P x
@@ -161,7 +161,7 @@ pub port_more : (now new whole : Netlist) (outside within : ℕ) (connections : 
 port_more now new whole outside within connections ports k p less is more h = joins_more now new whole (connection_joins outside within connections (p ∷ [])) (connection_joins outside within connections (drop (k + 1) ports)) more (subst (λ (js : List Join). JoinsLeft now js whole) (port_cut outside within connections ports k p less is) h)
 
 pub ports_over : (now whole : Netlist) (outside within : ℕ) (connections : List Connection) (ports : List Port) (k : ℕ) → length ports ≤ k → PortsJoined now whole outside within connections ports k → now ≡ whole
-ports_over now whole outside within connections ports k past h = joins_done now whole (subst (λ (js : List Join). JoinsLeft now js whole) (ap (connection_joins outside within connections) (drop_past ports k past)) h)
+ports_over now whole outside within connections ports k past h = joins_done now whole (subst (λ (js : List Join). JoinsLeft now js whole) (ap (connection_joins outside within connections) (drop_over ports k past)) h)
 
 -- ---- the joins of a port that is connected, and of one that is not
 

@@ -11,9 +11,9 @@ use Rattle.dft_netlist.specs.ClockRoots.{ClockRoot, ClockRooted, AtPort as Clock
 use Rattle.dft_netlist.specs.Drivers.{Source, Net, Tied, Loose, Driver, Input, Gate, Joined, Free, source_of, nets_of, nets_read, Connection, lockup_inputs, connections_from, connections_of, shape_of, pins_of, pins_at, all_driven, driver, IsOrdered}
 use Rattle.dft_netlist.specs.Netlist.{Netlist}
 use Rattle.dft_netlist.specs.Orders.{Has, reads_of}
-use Rattle.dft_netlist.specs.Traces.{Root, Port, Constant, Other, From, Bit, passed_by_buffer, passed_by_gate, Traces, AtPort, AtConstant, AtTie, ThroughBuffer, ThroughJoin, root_of}
+use Rattle.dft_netlist.specs.Traces.{Root, Port, Constant, Other, From, Bit, passed_by_gate, Traces, AtPort, AtConstant, AtTie, ThroughBuffer, ThroughJoin, root_of}
 use Rattle.dft_netlist.proofs.ClockWalks.{walk_finds_clock, clock_found}
-use Rattle.dft_netlist.proofs.Walks.{walk_finds, port_found, constant_found}
+use Rattle.dft_netlist.proofs.Walks.{walk_finds, port_found, constant_found, buffer_no_bit}
 use Rattle.dft_modules.specs.Modules.{Module}
 use Rattle.dft_hier.specs.Flat.{moved}
 use Rattle.dft_hier.specs.Joined as joined
@@ -77,14 +77,9 @@ record PassedBefore (ms : List Module) (top : Module) (path : Path) (k : Kind) (
   image : Image ms top path s t
   is : passed_by_gate k ss ≡ From s
 
-no_bit : (ss : List Source) (bit : Bool) → passed_by_buffer ss ≡ Bit bit → ⊥
-no_bit [] bit is = cc
-no_bit (s ∷ []) bit is = cc
-no_bit (s ∷ more ∷ ss) bit is = cc
-
 -- a tie passes on its bit whatever stands at its inputs
 passed_bit : (k : Kind) (ss ts : List Source) (bit : Bool) → passed_by_gate k ss ≡ Bit bit → passed_by_gate k ts ≡ Bit bit
-passed_bit Buf ss ts bit is = absurd (no_bit ss bit is)
+passed_bit Buf ss ts bit is = absurd (buffer_no_bit ss bit is)
 passed_bit Tie0 ss ts bit is = is
 passed_bit Tie1 ss ts bit is = is
 passed_bit _ ss ts bit is = absurd cc

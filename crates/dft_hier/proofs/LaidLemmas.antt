@@ -5,6 +5,7 @@ use Rattle.std.proofs.lemmas.Option.{slice_get_within}
 use Rattle.std.proofs.lemmas.Bool.{cases_lt}
 use Rattle.std.proofs.lemmas.Bool.Decides.{nat_tests}
 use Rattle.dft_base.specs.Lexing.{Text}
+use Rattle.dft_base.proofs.ListLemmas.{get_push}
 use Rattle.dft_modules.specs.declared.module.SubInstance.{SubInstance}
 use Rattle.dft_modules.specs.declared.module.Item.{Item}
 use Rattle.dft_modules.specs.declared.module.Item.TheVariants as item
@@ -22,7 +23,7 @@ use Rattle.dft_hier.proofs.HeightLemmas.{IsTall, Grows, all_tall}
 use Rattle.dft_hier.proofs.LiveLemmas.{GivesNone, exact_weight, live_nets_from, first_child}
 use Rattle.dft_hier.proofs.NumberLemmas.{module_there, number_within, graph_count, graph_within}
 use Rattle.dft_hier.proofs.PartLemmas.{nets_deep_enough, tall_module, count_same}
-use Rattle.dft_hier.proofs.ReachLemmas.{get_push, stands_more}
+use Rattle.dft_hier.proofs.ReachLemmas.{stands_more}
 
 -- ---- live instances are instances
 

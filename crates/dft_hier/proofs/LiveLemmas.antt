@@ -2,6 +2,7 @@
 use Rattle.std.proofs.Common.{ℕ, zero, suc, ◌+◌, ◌≡◌, Bool, true, false, ◌||◌, cond, nat_lt, List, [], ◌∷◌, ◌++◌, length, drop, get_or, map, Option, None, Some, is_some, slice_get, refl, sym, ap, subst, arith, ◌∙◌, length-append, append_assoc, append-nil, true≢false}
 use Rattle.std.specs.List.{list_any, cons_option}
 use Rattle.dft_base.specs.Lexing.{Text}
+use Rattle.dft_base.proofs.BitLemmas.{or_assoc}
 use Rattle.dft_modules.specs.declared.module.SubInstance.{SubInstance}
 use Rattle.dft_modules.specs.declared.module.Item.{Item}
 use Rattle.dft_modules.specs.declared.module.Item.TheVariants as item
@@ -41,10 +42,6 @@ weight_in depth ms m = record { nets = at_most (length (nets_in depth ms [] m));
 -- these children have the weights of their modules
 abbrev AreExact : (depth : ℕ) → List Module → List Weight → List ℕ → Type 0
 AreExact depth ms weights children = (k : ℕ) (m : Module) → StandsIn children k → slice_get ms k ≡ Some m → get_or weights k no_weight ≡ weight_in depth ms m
-
-or_assoc : (a b c : Bool) → ((a || b) || c) ≡ (a || (b || c))
-or_assoc true b c = refl
-or_assoc false b c = refl
 
 or_nil : (a : Bool) → a ≡ (a || false)
 or_nil true = refl

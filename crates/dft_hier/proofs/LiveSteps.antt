@@ -3,7 +3,7 @@ use Rattle.std.proofs.Common.{ℕ, suc, ◌+◌, ◌<◌, ◌≤◌, ◌≡◌, 
 use Rattle.std.proofs.lemmas.List.{length-map, get_or_append_left, get_or_at}
 use Rattle.std.proofs.lemmas.Option.{slice_get_within, slice_get-get_or}
 use Rattle.std.proofs.lemmas.Bool.{cases_lt}
-use Rattle.dft_base.proofs.ListLemmas.{length_push}
+use Rattle.dft_base.proofs.ListLemmas.{length_push, drop_over}
 use Rattle.dft_modules.specs.declared.module.SubInstance.{SubInstance}
 use Rattle.dft_modules.specs.declared.module.Item.{Item}
 use Rattle.dft_modules.specs.Modules.{Module}
@@ -13,7 +13,7 @@ use Rattle.dft_hier.specs.Numbers.{number_of, children_of}
 use Rattle.dft_hier.specs.Reach.{Graph, AreBelow, AreWithin, children_at}
 use Rattle.dft_hier.specs.Refusals.{first_unknown}
 use Rattle.dft_hier.specs.Weights.{AreLive, Live, no_live, no_weight, and_own, and_sub, and_item, child_for, left_by, live_from, live_of}
-use Rattle.dft_hier.proofs.NumberLemmas.{drop_next, drop_past, graph_count, graph_within}
+use Rattle.dft_hier.proofs.NumberLemmas.{drop_next, graph_count, graph_within}
 use Rattle.dft_hier.proofs.ReachLemmas.{children_below}
 use Rattle.dft_hier.proofs.FitLemmas.{subs_some, subs_none, paired_at}
 
@@ -65,7 +65,7 @@ sub_live weights items children place next child old new i s less is sub at more
     }
 
 pub all_live : (weights : List Weight) (m : Module) (children : List ℕ) (place next : ℕ) (live : Live) → length m.items ≤ place → LiveSoFar weights m.items children place next live → live ≡ live_of weights m children
-all_live weights m children place next live past h = sym (ap (λ (xs : List Item). live_from weights place xs (drop next children) live) (drop_past m.items place past)) ∙ h.same
+all_live weights m children place next live past h = sym (ap (λ (xs : List Item). live_from weights place xs (drop next children) live) (drop_over m.items place past)) ∙ h.same
 
 -- ---- all modules
 

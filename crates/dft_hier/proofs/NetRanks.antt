@@ -9,6 +9,8 @@ use Rattle.dft_netlist.specs.Drivers.{AreBelow, IsOrdered, driver, nets_read}
 use Rattle.dft_netlist.specs.Netlist.{Netlist}
 use Rattle.dft_netlist.specs.Orders.{Has, reads_of, IsOrderable, Follows}
 use Rattle.dft_netlist.proofs.BitLemmas.{up_length}
+use Rattle.dft_netlist.proofs.ListingLemmas.{all_from}
+use Rattle.dft_netlist.proofs.RankLemmas.{all_below}
 use Rattle.dft_hier.specs.Reach.{Graph, StandsIn, children_at, Leads, Child, Deeper, NoCircle, AreWithin}
 use Rattle.dft_hier.specs.Reach as reach
 use Rattle.dft_hier.proofs.HeightLemmas.{IsTall, Grows, all_tall}
@@ -61,14 +63,10 @@ lead_live n k j (Deeper {between = b} h more) = (child_read n k b h).0
 
 -- ---- no net stands higher than there are nets
 
-each_has : (P : ℕ → Type 0) (xs : List ℕ) → ((r : ℕ) → Has xs r → P r) → AllByRecursion P xs
-each_has P [] h = tt
-each_has P (x ∷ xs) h = (h x (inl refl), each_has P xs (λ r there. h r (inr there)))
-
 rows_within : (f : ℕ → List ℕ) (from count all : ℕ) → ((k r : ℕ) → from ≤ k → k < from + count → Has (f k) r → r < all) → AllByRecursion (λ (xs : List ℕ). reach.AreBelow all xs) (map f (going_up from count))
 rows_within f from zero all h = tt
 rows_within f from (suc count) all h = (
-  All-from_recursion (λ (r : ℕ). r < all) (f from) (each_has (λ (r : ℕ). r < all) (f from) (λ r there. h from r (omega arith) (omega arith) there)),
+  All-from_recursion (λ (r : ℕ). r < all) (f from) (all_from (λ (r : ℕ). r < all) (f from) (λ r there. h from r (omega arith) (omega arith) there)),
   rows_within f (suc from) count all (λ k r more less there. h k r (omega (arith, more)) (omega (arith, less)) there),
 )
 
@@ -128,10 +126,6 @@ falls g (suc depth) k child (Grows each) h =
 
 -- ---- ranks
 
-below_each : (rank : ℕ → ℕ) (most : ℕ) (xs : List ℕ) → ((r : ℕ) → Has xs r → rank r < most) → AreBelow rank most xs
-below_each rank most [] h = tt
-below_each rank most (x ∷ xs) h = (h x (inl refl), below_each rank most xs (λ r there. h r (inr there)))
-
 pub net_ranks : (n : Netlist) → ((net : ℕ) → net < length n.nets → IsOrderable n net) → ((net r : ℕ) → Has (reads_of n net) r → (net < length n.nets) × (r < length n.nets)) → (rank : ℕ → ℕ) × IsOrdered n rank
 net_ranks n orderable live =
     let g = graph n in
@@ -140,7 +134,7 @@ net_ranks n orderable live =
     let all = within n (λ net r h. (live net r h).1) in (
       height g (length g),
       record {
-        after = λ net. below_each (height g (length g)) (height g (length g) net) (nets_read n (driver n net)) (λ r h. (
+        after = λ net. all_below (height g (length g)) (height g (length g) net) (nets_read n (driver n net)) (λ r h. (
             let here = (live net r h).0 in
             falls g (length g) net r (all_tall g net none all (omega arith)) (has_stands (children_at g net) r (subst (λ (xs : List ℕ). Has xs r) (sym (graph_at n net here)) h))));
         within = λ net. (let few = height_few g (length g) net in omega arith);

@@ -1,33 +1,28 @@
 -- A walk through the nets below a module: a step past an instance, and the whole.
 use Rattle.std.proofs.Common.{ℕ, suc, ◌+◌, ◌<◌, ◌≤◌, ◌≡◌, List, [], ◌∷◌, ◌++◌, length, take, drop, map, reverse, Option, Some, Ok, Err, slice_get, refl, sym, ap, subst, arith, ◌∙◌, length-append, append_assoc, append-nil}
-use Rattle.std.proofs.lemmas.List.{reverse-append, take-append-le, take-take, take_all, length-take-le}
+use Rattle.std.proofs.lemmas.List.{take-append-le, take-take, take_all, length-take-le}
 use Rattle.dft_base.specs.Lexing.{Text}
 use Rattle.dft_netlist.specs.Netlist.{Netlist}
-use Rattle.dft_netlist_text.specs.NetlistText.{Grown, add_nets, and_grown, add_net}
+use Rattle.dft_netlist_text.specs.NetlistText.{Grown, add_nets, and_grown}
 use Rattle.dft_modules.specs.declared.module.Item.{Item}
 use Rattle.dft_modules.specs.Modules.{Module}
 use Rattle.dft_hier.specs.declared.flat_nets.Visit.{Visit}
 use Rattle.dft_hier.specs.declared.weights.LiveSub.{LiveSub}
 use Rattle.dft_base.proofs.ListLemmas.{drop_at, drop_over}
 use Rattle.dft_netlist.specs.declared.error.NetlistError.{NetlistError}
+use Rattle.dft_verilog.proofs.GrowLemmas.{add_nets-append}
 use Rattle.dft_hier.specs.Growing.{IsPrefix}
 use Rattle.dft_hier.specs.Flat.{inside}
 use Rattle.dft_hier.specs.FlatNets.{total_by, nets_in, named_nets, sub_nets, live_nets, items_at, live_at, GivesLive, IsSubAt, size_in}
 use Rattle.dft_hier.specs.NetWalks.{NetStand, at_module, passed, visit_of, gone_on, pending, IsNested, IsNetWalk, visit_size, way_size}
 use Rattle.dft_hier.specs.Weights.{Live}
-
-back-push : (way : List Visit) (v : Visit) → reverse (way ++ v ∷ []) ≡ v ∷ reverse way
-back-push way v = reverse-append way (v ∷ [])
+use Rattle.dft_hier.proofs.WalkLemmas.{back-push}
 
 -- ---- nets that are added one list after another
 
 then_nets : (g : Grown) (xs ys : List Text) → ((n : Netlist) → add_nets (xs ++ ys) n ≡ and_grown (add_nets xs n) (add_nets ys)) → and_grown g (add_nets (xs ++ ys)) ≡ and_grown (and_grown g (add_nets xs)) (add_nets ys)
 then_nets (Ok n) xs ys same = same n
 then_nets (Err why) xs ys same = refl
-
-pub nets_append : (xs ys : List Text) (n : Netlist) → add_nets (xs ++ ys) n ≡ and_grown (add_nets xs n) (add_nets ys)
-nets_append [] ys n = refl
-nets_append (x ∷ xs) ys n = then_nets (add_net n x) xs ys (nets_append xs ys)
 
 -- ---- prefixes
 
@@ -43,7 +38,7 @@ pending_same ms items p q limit (v ∷ back) same h =
     ap (λ (prefix : Text). live_nets (nets_in (length ms) ms) ms prefix (items_at ms v.number) (drop v.next (live_at items v.number)) ++ pending ms items p back) here
     ∙ ap (λ (ns : List Text). live_nets (nets_in (length ms) ms) ms (take v.prefix q) (items_at ms v.number) (drop v.next (live_at items v.number)) ++ ns) (pending_same ms items p q v.prefix back here h.2)
 
-kept : (p name : Text) (limit : ℕ) → limit ≤ length p → take limit (inside (take limit p) name) ≡ take limit p
+pub kept : (p name : Text) (limit : ℕ) → limit ≤ length p → take limit (inside (take limit p) name) ≡ take limit p
 kept p name limit less =
     let size = length-take-le limit p less in
     let all : take limit (take limit p ++ name ++ 47 ∷ []) ≡ take limit (take limit p ++ name) = take-append-le limit (take limit p ++ name) (47 ∷ []) (let l = length-append (take limit p) name in omega arith) in
@@ -92,7 +87,7 @@ comes_first ms items whole s v l name m n at named gives h =
     let c : Visit = visit_of l.child (length q) in
     let back : reverse ((s.way ++ passed v ∷ []) ++ c ∷ []) ≡ c ∷ passed v ∷ reverse s.way = back-push (s.way ++ passed v ∷ []) c ∙ ap (λ (xs : List Visit). c ∷ xs) (back-push s.way (passed v)) in
     ap (λ (xs : List Visit). and_grown (add_nets own n) (add_nets (pending ms items q xs))) back
-    ∙ sym (nets_append own (pending ms items q (c ∷ passed v ∷ reverse s.way)) n)
+    ∙ sym (add_nets-append own (pending ms items q (c ∷ passed v ∷ reverse s.way)) n)
     ∙ sym (ap (λ (ns : List Text). add_nets ns n) (pending_split ms items s.prefix v (reverse s.way) l name m at named gives b.0.1 b.0.2)) ∙ b.1
 
 pub walks_on : (ms : List Module) (items : List Live) (whole : Grown) (s : NetStand) (v : Visit) (l : LiveSub) (name : Text) (m : Module) (n new : Netlist) → slice_get (live_at items v.number) v.next ≡ Some l → IsInstanceOf ms v l name m → GivesLive ms items l.child m → l.child < length ms →

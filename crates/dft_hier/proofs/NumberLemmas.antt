@@ -10,6 +10,7 @@ use Rattle.std.proofs.lemmas.List.Elements.{filter_map-append, All-from_recursio
 use Rattle.std.proofs.lemmas.List.Folds.{find-append}
 use Rattle.dft_base.specs.Lexing.{Text}
 use Rattle.dft_base.proofs.TextLemmas.{bytes_eq-comm, same_text}
+use Rattle.dft_base.proofs.ListLemmas.{drop_over}
 use Rattle.dft_netlist.specs.declared.port.Port.{Port}
 use Rattle.dft_modules.specs.declared.module.SubInstance.{SubInstance}
 use Rattle.dft_modules.specs.declared.module.Item.{Item}
@@ -101,12 +102,6 @@ tells_or (Some s) b (told.H2 name) told = told
 tells_or a b (told.Memory error) told = tt
 tells_or a b _ told = told
 
-pub drop_past : {T : Type 0} (xs : List T) (k : ℕ) → length xs ≤ k → drop k xs ≡ []
-drop_past [] zero past = refl
-drop_past [] (suc k) past = refl
-drop_past (x ∷ xs) zero past = absurd (omega (arith, past))
-drop_past (x ∷ xs) (suc k) past = drop_past xs k (omega (arith, past))
-
 pub drop_next : {T : Type 0} (xs : List T) (k : ℕ) (x : T) → k < length xs → x ≡ get_or xs k x → drop k xs ≡ x ∷ drop (k + 1) xs
 drop_next {T = T} xs k x less is = drop_more xs k x less ∙ ap (λ (y : T). y ∷ drop (k + 1) xs) (sym is)
 
@@ -143,10 +138,10 @@ children_lost entries items i k old error less is h told =
     subst (λ (o : Option SubInstance). TellsLost o error) whole (tells_or (first_lost entries (subs_of (i ∷ []))) (first_lost entries (subs_of rest)) error told)
 
 pub children_found : (entries : List Entry) (items : List Item) (k : ℕ) (children : List ℕ) → length items ≤ k → ChildrenSoFar entries items k children → children ≡ found_subs entries (subs_of items)
-children_found entries items k children past h = sym (h.so_far ∙ ap (λ (xs : List Item). children ++ found_subs entries (subs_of xs)) (drop_past items k past) ∙ append-nil children)
+children_found entries items k children past h = sym (h.so_far ∙ ap (λ (xs : List Item). children ++ found_subs entries (subs_of xs)) (drop_over items k past) ∙ append-nil children)
 
 pub children_known : (entries : List Entry) (items : List Item) (k : ℕ) (children : List ℕ) → length items ≤ k → ChildrenSoFar entries items k children → first_lost entries (subs_of items) ≡ None
-children_known entries items k children past h = h.lost ∙ ap (λ (xs : List Item). first_lost entries (subs_of xs)) (drop_past items k past)
+children_known entries items k children past h = h.lost ∙ ap (λ (xs : List Item). first_lost entries (subs_of xs)) (drop_over items k past)
 
 -- ---- the modules of a name
 
@@ -249,10 +244,10 @@ all_lost entries ms m k old error finds less is h told =
     (tells_or (find test (subs_of m.items)) (find test (all_subs rest)) error (subst (λ (o : Option SubInstance). TellsLost o error) (lost_same entries ms (subs_of m.items) finds) told))
 
 pub all_found : (ms : List Module) (k : ℕ) (all : List (List ℕ)) → length ms ≤ k → AllSoFar ms k all → all ≡ children_of ms
-all_found ms k all past h = sym (h.so_far ∙ ap (λ (xs : List Module). all ++ children_among ms xs) (drop_past ms k past) ∙ append-nil all)
+all_found ms k all past h = sym (h.so_far ∙ ap (λ (xs : List Module). all ++ children_among ms xs) (drop_over ms k past) ∙ append-nil all)
 
 pub all_known : (ms : List Module) (k : ℕ) (all : List (List ℕ)) → length ms ≤ k → AllSoFar ms k all → first_unknown ms ≡ None
-all_known ms k all past h = h.lost ∙ ap (λ (xs : List Module). find (λ (s : SubInstance). not (is_some (find_module ms s.of))) (all_subs xs)) (drop_past ms k past)
+all_known ms k all past h = h.lost ∙ ap (λ (xs : List Module). find (λ (s : SubInstance). not (is_some (find_module ms s.of))) (all_subs xs)) (drop_over ms k past)
 
 -- ---- names of modules by their numbers
 

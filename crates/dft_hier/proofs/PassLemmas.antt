@@ -19,7 +19,7 @@ use Rattle.dft_hier.specs.declared.weights.Weight.{Weight}
 use Rattle.dft_hier.specs.declared.weights.LiveSub.{LiveSub}
 use Rattle.dft_hier.specs.declared.weights.LiveItem.{LiveItem}
 use Rattle.dft_hier.specs.declared.weights.LiveItem.TheVariants.{Own, Sub}
-use Rattle.dft_hier.specs.FlatNets.{items_in, items_at, IsSubAt}
+use Rattle.dft_hier.specs.FlatNets.{items_at, IsSubAt}
 use Rattle.dft_hier.specs.FlatItems.{own_parts, live_items_at}
 use Rattle.dft_hier.specs.Growing.{Grows, IsPrefix, IsRefusal}
 use Rattle.dft_hier.specs.ItemWalks.{ItemStand, passed_own, passed_by, visit_at, gone_into, and_visit, adds, IsItemWalk, item_way_size}
@@ -34,10 +34,6 @@ use Rattle.dft_hier.proofs.ItemWalkLemmas.{top_visit, top_prefix, own_passed, ow
 -- the module of a visit is there
 pub visited : (ms : List Module) (items : List Live) (weights : List Weight) (library : List Cell) (whole : Grown) (s : ItemStand) (v : Visit) (n : Netlist) → IsItemWalk ms items weights library whole (and_visit s v) n → v.number < length ms
 visited ms items weights library whole s v n h = let span = top_visit ms items weights library whole s v n h in slice_get_within ms v.number span.m span.at
-
--- its items
-pub read_items : (ms : List Module) (number : ℕ) (m : Module) (read : List Item) → number < length ms → m ≡ get_or ms number m → read ≡ m.items → items_at ms number ≡ read
-read_items ms number m read less is are = ap items_in (slice_get-get_or ms number m less ∙ ap (λ (x : Module). Some x) (sym is)) ∙ sym are
 
 -- the item of its own at a place
 pub own_there : (ms : List Module) (number place : ℕ) (read : List Item) → items_at ms number ≡ read → (own : IsOwnAt ms number place) → slice_get read place ≡ Some own.own

@@ -3,7 +3,7 @@ use Rattle.std.proofs.Common.{ℕ, zero, suc, ◌+◌, ◌<◌, ◌≤◌, ◌�
 use Rattle.std.proofs.lemmas.List.Elements.{All-get_or}
 use Rattle.std.proofs.lemmas.Option.{slice_get_within, get_or_from_slice_get}
 use Rattle.std.proofs.lemmas.Bool.{cases_lt}
-use Rattle.dft_base.proofs.ListLemmas.{get_left, get_right}
+use Rattle.dft_base.proofs.ListLemmas.{get_left, get_right, get_push}
 use Rattle.dft_hier.specs.Reach.{Graph, AreBelow, AreWithin, StandsIn, children_at, Leads, Child, Deeper, NoCircle, HasCircle, IsFirstOnCircle, IsOrder, NeverFalls, HasOwn}
 
 -- ---- what stands in a list
@@ -32,13 +32,6 @@ none_at place k h = cc
 
 pub stands_none : (k : ℕ) → StandsIn [] k → ⊥
 stands_none k h = none_at h.place k h.at
-
--- an element of a list with one more at its end
-pub get_push : {X : Type 0} (xs : List X) (x y : X) (place : ℕ) → slice_get (xs ++ x ∷ []) place ≡ Some y → (slice_get xs place ≡ Some y) ⊎ ((place ≡ length xs) × (x ≡ y))
-get_push [] x y zero at = inr (refl, let e : x ≡ y = cc in e)
-get_push [] x y (suc place) at = absurd (let f : ⊥ = cc in f)
-get_push (z ∷ xs) x y zero at = inl at
-get_push (z ∷ xs) x y (suc place) at = elim (get_push xs x y place at) [ inl old ↦ inl old | inr new ↦ inr (ap suc new.0, new.1) ]
 
 pub stands_push : (xs : List ℕ) (x k : ℕ) → StandsIn (xs ++ x ∷ []) k → StandsIn xs k ⊎ (x ≡ k)
 stands_push xs x k h = elim (get_push xs x k h.place h.at) [ inl old ↦ inl (record { place = h.place; at = old }) | inr new ↦ inr new.1 ]

@@ -3,10 +3,10 @@ use Rattle.std.proofs.Common.{ℕ, zero, suc, ◌+◌, ◌<◌, ◌≤◌, ◌�
 use Rattle.std.proofs.lemmas.List.{get_or-set_same, get_or-set_other, length-replicate}
 use Rattle.std.proofs.lemmas.Bool.{cases_eq, cases_lt}
 use Rattle.std.proofs.lemmas.Option.{slice_get_within, slice_get-get_or}
-use Rattle.dft_base.proofs.ListLemmas.{get_left, length_push, none_marked}
+use Rattle.dft_base.proofs.ListLemmas.{get_left, length_push, none_marked, get_push}
 use Rattle.dft_hier.specs.Reach.{Graph, AreBelow, AreWithin, StandsIn, children_at, Leads, Child, Deeper}
 use Rattle.dft_hier.specs.Searches.{Met, added, found, found_all}
-use Rattle.dft_hier.proofs.ReachLemmas.{stands_left, stands_last, stands_cases, stands_none, stands_push, get_push, children_below, leads_on}
+use Rattle.dft_hier.proofs.ReachLemmas.{stands_left, stands_last, stands_cases, stands_none, stands_push, children_below, leads_on}
 
 abbrev pub is_met : Met → ℕ → Type 0
 is_met s k = get_or s.met k false ≡ true

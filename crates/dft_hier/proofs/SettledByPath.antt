@@ -30,7 +30,7 @@ use Rattle.dft_netlist.specs.NetNumbers.{nets_from}
 use Rattle.dft_netlist.specs.Settled.{Sources, bit_from, bit_given, is_wire, IsSettled}
 use Rattle.dft_netlist.specs.Sound.{bits_of}
 use Rattle.dft_netlist.specs.Traces.{root_of}
-use Rattle.dft_netlist.proofs.DriverLaws.{times}
+use Rattle.dft_netlist.proofs.DriverLaws.{times, listed_once}
 use Rattle.dft_netlist_text.specs.NetlistText.{Grown, unless_refused, and_grown, add_nets}
 use Rattle.dft_modules.specs.declared.module.SubInstance.{SubInstance}
 use Rattle.dft_modules.specs.Modules.{Module}
@@ -42,7 +42,7 @@ use Rattle.dft_hier.specs.Laws.{AreByPath, ReadsByPath, IsFreePast, FlatIsJoined
 use Rattle.dft_hier.specs.Moving.{with_joins}
 use Rattle.dft_hier.specs.Paths.{Path, Spot, module_at, below, sub_spots, subs_spots, net_spots_within, net_spots, instance_spots}
 use Rattle.dft_hier.specs.Refusals.{IsFlat}
-use Rattle.dft_hier.proofs.DriverImages.{IsFlatOf, Origin, Inside, MetIn, MetOut, cell_at, inside_forward, inside_image, in_forward, in_image, out_forward, out_image, net_once, origin, decide, some_times}
+use Rattle.dft_hier.proofs.DriverImages.{IsFlatOf, Origin, Inside, MetIn, MetOut, cell_at, inside_forward, inside_image, in_forward, in_image, out_forward, out_image, net_once, origin, decide}
 use Rattle.dft_hier.proofs.FlattenLemmas.{bits_within, ports_nets, sound_at}
 use Rattle.dft_hier.proofs.Images.{Image, OfNet, OfBit, OfPin, Images, ImageIfAny, ImageDriver, OfInput, OfGate, OfJoin, OfFlop, OfLockup, OfNone, pin_image}
 use Rattle.dft_hier.proofs.InstanceSpotLemmas.{module_on}
@@ -414,10 +414,10 @@ module _ (ms : List Module) (library : List Cell) (top : Module) (design : Netli
   none_inside : (path : Path) (m : Module) (net k : ℕ) → module_at ms path top ≡ Some m → IsAt (net_spots ms top) path net k → times (all_driven design) k ≡ 0 → times_driven (alone library path m) net ≡ 0
   none_inside path m net k here at none = elim (decide (all_driven (alone library path m)) net) [
     | inl there ↦ (
-        let inside : DrivenInside ms library top path net (driver (alone library path m) net) = record { m = m; at = here; some = some_times (all_driven (alone library path m)) there.place (net, driver (alone library path m) net) there.at; driver_is = refl } in
+        let inside : DrivenInside ms library top path net (driver (alone library path m) net) = record { m = m; at = here; some = listed_once (all_driven (alone library path m)) there.place (net, driver (alone library path m) net) there.at; driver_is = refl } in
         let r = inside_forward ms library top design f path net (driver (alone library path m) net) inside in
         let same : r.e.0 ≡ k = net_once ms library top design f path net r.e.0 k r.image.net at in
-        let some = subst (λ (n : ℕ). 1 ≤ times (all_driven design) n) same (some_times (all_driven design) r.there.place r.e r.there.at) in
+        let some = subst (λ (n : ℕ). 1 ≤ times (all_driven design) n) same (listed_once (all_driven design) r.there.place r.e r.there.at) in
         absurd (omega (arith, some, none)))
     | inr free ↦ free.1
   ]
@@ -428,12 +428,12 @@ module _ (ms : List Module) (library : List Cell) (top : Module) (design : Netli
         let r = in_forward ms library top design f front place net to meets in
         let here : IsAt (net_spots ms top) path net r.number = subst (λ (x : Path). IsAt (net_spots ms top) x net r.number) (sym is) r.at in
         let same : r.number ≡ k = net_once ms library top design f path net r.number k here at in
-        let some = subst (λ (n : ℕ). 1 ≤ times (all_driven design) n) same (some_times (all_driven design) r.there.place (r.number, Joined r.source) r.there.at) in
+        let some = subst (λ (n : ℕ). 1 ≤ times (all_driven design) n) same (listed_once (all_driven design) r.there.place (r.number, Joined r.source) r.there.at) in
         omega (arith, some, none));
     output = λ place inner meets. (
         let r = out_forward ms library top design f path place inner net meets in
         let same : r.number ≡ k = net_once ms library top design f path net r.number k r.at at in
-        let some = subst (λ (n : ℕ). 1 ≤ times (all_driven design) n) same (some_times (all_driven design) r.there.place (r.number, Joined (Net r.source)) r.there.at) in
+        let some = subst (λ (n : ℕ). 1 ≤ times (all_driven design) n) same (listed_once (all_driven design) r.there.place (r.number, Joined (Net r.source)) r.there.at) in
         omega (arith, some, none));
   }
 

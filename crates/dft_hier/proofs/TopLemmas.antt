@@ -1,26 +1,12 @@
 -- Marks of modules that some module has an instance of, and the modules without one.
-use Rattle.std.proofs.Common.{ℕ, zero, suc, ◌+◌, ◌<◌, ◌≤◌, ◌≡◌, ◌==◌, inl, inr, Bool, true, false, not, ◌||◌, cond, List, [], ◌∷◌, ◌++◌, length, take, drop, get_or, set, replicate, filter, refl, sym, ap, arith, ◌∙◌, true≢false}
+use Rattle.std.proofs.Common.{ℕ, zero, suc, ◌+◌, ◌<◌, ◌≤◌, ◌≡◌, ◌==◌, Bool, true, false, not, ◌||◌, cond, List, [], ◌∷◌, length, take, get_or, set, replicate, filter, refl, sym, ap, arith, ◌∙◌, true≢false}
 use Rattle.std.specs.List.{list_any, range_with_len, count_by}
-use Rattle.std.proofs.lemmas.List.{get_or-set_same, get_or-set_other, take_all, length-replicate, drop_all, append-nil}
+use Rattle.std.proofs.lemmas.List.{take_all, length-replicate}
 use Rattle.std.proofs.lemmas.List.Sums.{sum_by-cons}
 use Rattle.std.proofs.lemmas.List.Folds.{list_any_more}
-use Rattle.std.proofs.lemmas.Bool.{cases_eq}
-use Rattle.std.proofs.lemmas.Bool.Decides.{nat_tests}
-use Rattle.dft_base.proofs.BitLemmas.{or_false, or_true}
-use Rattle.dft_base.proofs.NumberLemmas.{same_number}
-use Rattle.dft_base.proofs.ListLemmas.{none_marked}
+use Rattle.dft_base.proofs.ListLemmas.{none_marked, marked}
 use Rattle.dft_hier.specs.Reach.{Graph}
 use Rattle.dft_hier.specs.TopNumbers.{AreInstantiated, IsTop, is_instantiated, top_numbers}
-
-other_test : (i k : ℕ) → (i ≡ k → ⊥) → (k == i) ≡ false
-other_test i k apart = grind (arith, nat_tests)
-
--- a mark more
-pub marked : (marks : List Bool) (k i : ℕ) → k < length marks → get_or (set marks k true) i false ≡ (get_or marks i false || (k == i))
-marked marks k i live = elim (cases_eq i k) [
-  | inl e ↦ ap (λ (j : ℕ). get_or (set marks k true) j false) e ∙ get_or-set_same marks k true false live ∙ sym (ap (λ (j : ℕ). get_or marks i false || (k == j)) e ∙ ap (λ (b : Bool). get_or marks i false || b) (same_number k) ∙ or_true (get_or marks i false))
-  | inr apart ↦ get_or-set_other marks k i true false apart ∙ sym (ap (λ (b : Bool). get_or marks i false || b) (other_test i k apart) ∙ or_false (get_or marks i false))
-]
 
 -- the marks of the instances so far
 pub mark_more : (old now : List Bool) (children : List ℕ) (k i : ℕ) (child : ℕ) → k < length children → child ≡ get_or children k child → child < length now →
@@ -56,12 +42,6 @@ marks_more g k children old new less is same marks h = record {
 
 pub marks_all : (g : Graph) (k : ℕ) (marks : List Bool) → length g ≤ k → AreMarked g k marks → AreInstantiated g marks
 marks_all g k marks past h = record { count = h.count; each = λ i live. h.each i live ∙ ap (λ (xs : Graph). is_instantiated xs i) (take_all k g past) }
-
--- marks that were lent whole are as they were left
-pub refilled : (old new : List Bool) (count : ℕ) → count ≡ length old → length new ≡ length old → take count (new ++ drop (length new) old) ≡ new
-refilled old new count size same =
-    let none : drop (length new) old ≡ [] = drop_all (length new) old (omega arith) in
-    ap (λ (rest : List Bool). take count (new ++ rest)) none ∙ ap (take count) (append-nil new) ∙ take_all count new (omega arith)
 
 -- ---- the modules that are not marked
 

@@ -4,15 +4,17 @@ use Rattle.std.proofs.lemmas.List.{reverse-append, take-append-le, take_at}
 use Rattle.std.proofs.lemmas.List.Elements.{All-from_get_or}
 use Rattle.std.proofs.lemmas.Option.{slice_get_within, slice_get-get_or}
 use Rattle.std.proofs.lemmas.Bool.{cases_lt, and_parts}
+use Rattle.dft_base.proofs.ListLemmas.{get_push}
 use Rattle.dft_hier.specs.declared.descent.State.{State}
 use Rattle.dft_hier.specs.declared.descent.State.TheVariants.{New, Walked, Finished}
 use Rattle.dft_hier.specs.declared.descent.Visit.{Visit}
 use Rattle.dft_hier.specs.Reach.{Graph, AreBelow, AreWithin, StandsIn, children_at, Leads, Child, HasCircle, IsOrder}
 use Rattle.dft_hier.specs.Descents.{Stand, entered, met, left, stepped, stepped_to, are_finished, is_finished, is_new}
 use Rattle.dft_hier.specs.Walking.{IsOn, LeadsTo, SawBefore, IsWay, IsWalking, IsWalkedTo}
-use Rattle.dft_hier.proofs.ReachLemmas.{stands_left, stands_last, stands_cases, stands_none, stands_more, get_push, children_below, leads_on}
+use Rattle.dft_hier.proofs.ReachLemmas.{stands_left, stands_last, stands_cases, stands_none, stands_more, children_below, leads_on}
+use Rattle.dft_hier.proofs.SearchLemmas.{no_more}
 
-back-push : (way : List Visit) (v : Visit) → reverse (way ++ v ∷ []) ≡ v ∷ reverse way
+pub back-push : {A : Type 0} (way : List A) (v : A) → reverse (way ++ v ∷ []) ≡ v ∷ reverse way
 back-push way v = reverse-append way (v ∷ [])
 
 -- ---- states
@@ -117,15 +119,10 @@ remaining (Some Finished) there new open_ = absurd (true≢false open_)
 there : (states : List State) (k : ℕ) → k < length states → slice_get states k ≡ None → ⊥
 there states k less none = let s = state_at states k less in let f : None ≡ Some s.0 = sym none ∙ s.1 in let g : ⊥ = cc in g
 
-past_none : (xs : List ℕ) (k : ℕ) → slice_get xs k ≡ None → length xs ≤ k
-past_none [] k e = omega arith
-past_none (x ∷ xs) zero e = absurd (let f : ⊥ = cc in f)
-past_none (x ∷ xs) (suc k) e = let r = past_none xs k e in omega arith
-
 saw_all : (g : Graph) (states : List State) (v : Visit) → SawBefore g states v → slice_get (children_at g v.number) v.next ≡ None → (k : ℕ) → StandsIn (children_at g v.number) k → slice_get states k ≡ Some New → ⊥
 saw_all g states v saw past k h =
     let within = slice_get_within (children_at g v.number) h.place k h.at in
-    let over = past_none (children_at g v.number) v.next past in
+    let over = no_more (children_at g v.number) v.next past in
     saw h.place k (omega arith) h.at
 
 -- what stands while a visit is taken from the way

@@ -149,7 +149,7 @@ added_below Edt n config =
     (subst (λ (ports : List NewPort). DriveBelow (before + length inputs) (driven_by_ports (ports_from before (a ∷ b ∷ c ∷ ports)))) (append_assoc channels masks outputs)
     (ports_below before inputs outputs (λ k. outputs_none k config.names.output 0 (length config.compactor.groups))))
 
-differ_down : (a b : ℕ) → b < a → (a == b) ≡ false
+pub differ_down : (a b : ℕ) → b < a → (a == b) ≡ false
 differ_down = grind arith
 
 none_before : (from net : ℕ) (ds : List Driven) → Rises from ds → net < from → NoneAt ds net

@@ -37,14 +37,14 @@ use Rattle.dft_scan_frame.specs.Moves.{Gap, moved_signal, moved_join, at_net, ma
 use Rattle.dft_scan_frame.proofs.AddedNames.{le_by}
 use Rattle.dft_scan_frame.proofs.Additions.{both_none}
 use Rattle.dft_scan_frame.proofs.Carried.{HasPair, has_pair}
-use Rattle.dft_scan_frame.proofs.Fitting.{IsWhole, ports_fit, nets_fit, instances_fit, joins_fit, with_all_nets, with_all_instances, with_all_joins}
+use Rattle.dft_scan_frame.proofs.Fitting.{IsWhole, nets_fit, instances_fit, joins_fit, with_all_nets, with_all_instances, with_all_joins}
 use Rattle.dft_scan_frame.proofs.Joined.{join_sound}
 use Rattle.dft_scan_frame.proofs.Kept.{numbered_count, ports_count}
 use Rattle.dft_scan_frame.proofs.NamesOnce.{times_named, named-append, has_never, taken_times, stands_once}
 use Rattle.dft_scan_frame.proofs.Pairs.{shared_roles}
 use Rattle.dft_scan_frame.proofs.ScanPairs.{ScanPair}
 use Rattle.dft_scan_frame.proofs.SoundParts.{moved_live, moved_outputs, moved_sound, live_drop, live_first, none_none, none_cons, none_drop, none_first, pair_shared, pair_modelled, there, named_by}
-use Rattle.dft_scan_frame.proofs.Stages.{before_of, numbered_from, front_count, ports_stand}
+use Rattle.dft_scan_frame.proofs.Stages.{before_of, front_count, ports_stand}
 use Rattle.dft_scan_frame.proofs.Tabled.{from_at}
 use Rattle.dft_scan_frame.proofs.Whole.{length_map_from}
 use Rattle.dft_scan_frame.proofs.WholeNames.{length_ports, vectors_counted}
@@ -135,7 +135,7 @@ cell_named : (library : List Cell) (gap : Gap) (x : Instance) (o : Option CellId
 cell_named library gap x None = refl
 cell_named library gap x (Some id) = refl
 
-framed_named : (library : List Cell) (gap : Gap) (b : Bool) (x : Instance) → (framed_instance library gap b x).name ≡ x.name
+pub framed_named : (library : List Cell) (gap : Gap) (b : Bool) (x : Instance) → (framed_instance library gap b x).name ≡ x.name
 framed_named library gap false x = refl
 framed_named library gap true x = cell_named library gap x (scan_cell_in library x.cell)
 
@@ -218,19 +218,7 @@ frame_whole style n config sound e =
       few_instances = omega (arith, length_map_from (framed_at n config (gap_in style n config)) 0 n.instances, sound.few_instances);
     }
 
--- a sound netlist is whole
-netlist_whole : (n : Netlist) → IsNetlist n → IsWhole n
-netlist_whole n sound = record { once = λ q. stands_once q n sound.names; few_ports = sound.few_ports; few_nets = sound.few_nets; few_instances = sound.few_instances }
-
 -- ---- stage by stage
-
--- the design's ports
-pub ports_pass : (n : Netlist) (b : Netlist) → IsNetlist n → b ≡ empty_netlist n.name n.library → AllFit b (port_things n.ports)
-ports_pass n b sound is =
-    subst (λ (m : Netlist). AllFit m (port_things n.ports)) (sym is)
-    (ports_fit n (empty_netlist n.name n.library) n.ports [] sound.bits.rest n.instances (netlist_whole n sound)
-    (record { its_ports = sym (append-nil n.ports); its_nets = sound.bits.same; its_instances = refl })
-    refl (numbered_from 0 n.ports sound.widths sound.numbered))
 
 pub ports_done : (n : Netlist) (b new : Netlist) → IsNetlist n → b ≡ empty_netlist n.name n.library → new ≡ with_things b (port_things n.ports) → new ≡ ports_alone n
 ports_done n b new sound is added = ports_stand n b new sound is added

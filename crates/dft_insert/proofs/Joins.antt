@@ -150,7 +150,7 @@ none_joined Q (AnInstance cell its ∷ parts) i pins none h = none_joined Q part
 none_joined Q (APin j pin net ∷ parts) i pins none h = ap (joined_in parts i) (none_by Q i pins j.0 pin net (j.0 == i) refl h.0 none) ∙ none_joined Q parts i pins none h.1
 
 -- as many pins as before
-one_width : (pin : ℕ) (net : NetId) (pins : List Signal) → length (pin_joined pin net pins) ≡ length pins
+pub one_width : (pin : ℕ) (net : NetId) (pins : List Signal) → length (pin_joined pin net pins) ≡ length pins
 one_width pin net [] = refl
 one_width zero net (x ∷ pins) = refl
 one_width (suc pin) net (x ∷ pins) = ap suc (one_width pin net pins)

@@ -1,4 +1,3 @@
-pub mod Endings
 pub mod Weights
 pub mod WeighedRecipes
 pub mod Counted

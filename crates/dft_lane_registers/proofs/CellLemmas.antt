@@ -6,11 +6,12 @@ use Rattle.std.proofs.lemmas.List.{get_or_past, length-set, length-append, ext_g
 use Rattle.std.proofs.lemmas.List.{get_or-append-add, length-drop, length-take, length-replicate}
 use Rattle.dft_lanes.specs.declared.wide.Wide.{Wide}
 use Rattle.dft_evaluator.specs.Wides.{unknown_wide}
-use Rattle.dft_lane_registers.specs.declared.layout.Place.{Place}
-use Rattle.dft_lane_registers.specs.Layout.{Layout, place_at, cells_at, cell_at, IsLaid}
+use Rattle.dft_registers.specs.declared.layout.Place.{Place}
+use Rattle.dft_registers.specs.Layout.{Layout, place_at, cells_at, cell_at, IsLaid}
 use Rattle.dft_lane_registers.specs.declared.cells.Cells.TheInside.{Inside}
 use Rattle.dft_lane_registers.specs.Cells.{Contents, contents_of, AreCells, value_at, row_at, value_in, values_in, shifted_if, Rests, course_in, course, IsCarried}
-use Rattle.dft_lane_registers.proofs.ListLemmas.{same_all}
+use Rattle.dft_base.proofs.ListLemmas.{same_all}
+use Rattle.dft_registers.proofs.CellLemmas.{positive}
 
 -- ---- values are read
 
@@ -173,10 +174,6 @@ shifted_read row i less =
     let size : length front ≡ 1 = omega (arith, length-drop (n - 1) row, less) in
     let at : length front + i ≡ suc i = omega (arith, size) in
     ap (λ (k : ℕ). value_at (front ++ take (n - 1) row) k) (sym at) ∙ get_or-append-add front (take (n - 1) row) i unknown_wide ∙ get_or-take (n - 1) row i unknown_wide (omega (arith, less))
-
-positive : (r : ℕ) → (r ≡ 0 → ⊥) → 0 < r
-positive zero none = absurd (none refl)
-positive (suc r) none = omega arith
 
 true_false : true ≡ false → ⊥
 true_false e = absurd cc

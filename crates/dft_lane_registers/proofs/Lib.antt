@@ -1,3 +1,1 @@
-pub mod ListLemmas
-pub mod LayoutLemmas
 pub mod CellLemmas

@@ -3,8 +3,8 @@ use Rattle.std.specs.Prelude.{ℕ, zero, suc, Bool, false, ◌≡◌, ◌<◌, �
 use Rattle.std.specs.List.{zip}
 use Rattle.dft_lanes.specs.declared.wide.Wide.{Wide}
 use Rattle.dft_evaluator.specs.Wides.{unknown_wide}
-use Rattle.dft_lane_registers.specs.Layout.{Layout, place_at, cells_at, IsLaid}
-use Rattle.dft_lane_registers.specs.declared.layout.Place.{Place}
+use Rattle.dft_registers.specs.Layout.{Layout, place_at, cells_at, IsLaid}
+use Rattle.dft_registers.specs.declared.layout.Place.{Place}
 use Rattle.dft_lane_registers.specs.declared.cells.Cells.TheInside.{Inside}
 
 -- where cells lie, and the value of each

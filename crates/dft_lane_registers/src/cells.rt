@@ -2,13 +2,13 @@
 
 ghost use Rattle.dft_evaluator.specs.Wides.{unknown_wide};
 ghost use Rattle.std.specs.Prelude.{◌≡◌, ℕ, ◌<◌, [], length, replicate, true, false, IfOk, slice_set, slice_index_or};
-ghost use Rattle.dft_lane_registers.specs.Layout.{place_at, cells_at, cell_at};
+ghost use Rattle.dft_registers.specs.Layout.{place_at, cells_at, cell_at};
 ghost use Rattle.dft_lane_registers.specs.Cells as spec;
 
-use crate::layout::{Layout, Place};
 use crate::registers::{Values, unknown_row};
 use dft_evaluator::unknown;
 use dft_lanes::Wide;
+use dft_registers::{Layout, Place};
 use std::alloc::{AllocError, Global};
 use std::marker::Model;
 

@@ -2,8 +2,6 @@
 #![tactic(auto)]
 
 mod cells;
-mod layout;
 mod registers;
 
 pub use cells::Cells;
-pub use layout::Place;

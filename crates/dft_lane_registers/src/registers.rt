@@ -1,54 +1,13 @@
-//! Registers: the cells of one, in order, and their values.
+//! The values of a register.
 
 ghost use Rattle.dft_evaluator.specs.Wides.{unknown_wide};
-ghost use Rattle.std.specs.Prelude.{◌≡◌, ℕ, ◌<◌, ◌++◌, ◌∷◌, [], length, replicate, take, drop, ◌-◌, IfOk, OnOk, OnErr, slice_set, slice_index_or};
+ghost use Rattle.std.specs.Prelude.{◌≡◌, ℕ, ◌<◌, ◌++◌, length, replicate, take, drop, ◌-◌, IfOk, slice_set, slice_index_or};
 
 use dft_evaluator::unknown;
 use dft_lanes::Wide;
 use std::alloc::{AllocError, Global};
 use std::collections::VecDeque;
 use std::marker::Model;
-
-// The cells of a register, one behind the other. A clause sees them as a list.
-#[derive(Drop)]
-pub(crate) struct Register {
-    cells: Vec<usize>,
-}
-
-impl Model for Register {
-    ghost use Rattle.std.specs.Prelude.{ℕ, List};
-
-    ghost Value = { List ℕ };
-
-    ghost view = { λ r. r.cells.items };
-}
-
-impl Register {
-    // No cell yet.
-    pub(crate) fn new(alloc: Global) -> Register
-        ensures { result ≡ [] }
-    {
-        Register {
-            cells: Vec::new(alloc),
-        }
-    }
-
-    // Adds a cell at the end.
-    pub(crate) fn push(&mut self, cell: usize) -> Result<(), AllocError>
-        ensures ok { OnOk result (self.new ≡ self.old ++ cell ∷ []) }
-        ensures err { OnErr result (self.new ≡ self.old) }
-    {
-        self.cells.push(cell)?;
-        Ok(())
-    }
-
-    // The cells.
-    pub(crate) fn as_slice(&self) -> &[usize]
-        ensures { result.now ≡ self.now }
-    {
-        &self.cells
-    }
-}
 
 // So many values that nobody knows.
 pub(crate) fn unknown_row(alloc: Global, count: usize) -> Result<Vec<Wide>, AllocError>

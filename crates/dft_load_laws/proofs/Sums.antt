@@ -36,7 +36,7 @@ row_brings config cycles late chain place bits range chain_less place_less =
 
 -- ---- where a cell stands there is a row
 
-length_at : (chains : List (List InstanceId)) (chain : ℕ) (cells : List InstanceId) → slice_get chains chain ≡ Some cells → slice_index (map length chains) chain ≡ length cells
+pub length_at : (chains : List (List InstanceId)) (chain : ℕ) (cells : List InstanceId) → slice_get chains chain ≡ Some cells → slice_index (map length chains) chain ≡ length cells
 length_at [] chain cells at = absurd (none-some cells at)
 length_at (x ∷ chains) zero cells at = ap (λ (xs : List InstanceId). length xs) (same_Some x cells at)
 length_at (x ∷ chains) (suc chain) cells at = length_at chains chain cells at

@@ -29,3 +29,5 @@ pub mod EntryTableLemmas
 pub mod TakingLemmas
 pub mod PlanLemmas
 pub mod LookLemmas
+pub mod FlagLemmas
+pub mod Sweeps

@@ -15,7 +15,7 @@ more_listed : (before : List ℕ) (net : ℕ) (nets : List ℕ) → HasAll (is_l
 more_listed before net [] all = tt
 more_listed before net (k ∷ nets) all = (or_right (net == k) (is_listed before k) all.0, more_listed before net nets all.1)
 
-wider : (some all : ℕ → Bool) (nets : List ℕ) → ((k : ℕ) → some k ≡ true → all k ≡ true) → HasAll some nets → HasAll all nets
+pub wider : (some all : ℕ → Bool) (nets : List ℕ) → ((k : ℕ) → some k ≡ true → all k ≡ true) → HasAll some nets → HasAll all nets
 wider some all [] over has = tt
 wider some all (net ∷ nets) over has = (over net has.0, wider some all nets over has.1)
 

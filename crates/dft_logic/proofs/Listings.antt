@@ -1,7 +1,8 @@
 -- A list of nets is settled in its order: each keeps its driver's value while later ones are written.
 use Rattle.std.proofs.Common.{ℕ, suc, List, [], ◌∷◌, ◌≡◌, ◌<◌, ◌≤◌, ◌+◌, ◌≢◌, ◌⊎◌, inl, inr, length, drop, drop-cons, add-one, sym, ap, ◌∙◌, subst, get_or, slice_set, get_or-set_same, get_or-set_other, arith}
 use Rattle.std.specs.List.{AllByRecursion}
-use Rattle.std.proofs.lemmas.List.{get_or_read, get_or_default, drop_all}
+use Rattle.std.proofs.lemmas.Bool.Decides.{leb_tells}
+use Rattle.std.proofs.lemmas.List.{get_or_past, get_or_read, get_or_default, drop_all}
 use Rattle.dft_base.specs.declared.tri.Tri.{Tri}
 use Rattle.dft_base.specs.declared.tri.Tri.TheVariants.{Unknown}
 use Rattle.dft_netlist.specs.declared.ids.NetId.{NetId}
@@ -11,7 +12,7 @@ use Rattle.dft_netlist.specs.Orders.{Has, numbers_of}
 use Rattle.dft_logic.specs.declared.circuit.Op.{Op}
 use Rattle.dft_logic.specs.declared.circuit.Op.TheVariants as op
 use Rattle.dft_logic.specs.Values.{value_at}
-use Rattle.dft_logic.specs.Circuit.{meaning, op_at, Supply, leaves_from, AreOrdered}
+use Rattle.dft_logic.specs.Circuit.{Circuit, meaning, op_at, Supply, leaves_from, AreOrdered, IsCircuit}
 use Rattle.dft_logic.proofs.Settlings.{given_agree, all_more, IsGiven}
 
 -- the nets before a place of the order have their drivers' values
@@ -88,3 +89,12 @@ pub all_listed : (ops : List Op) (base : Supply) (order : List NetId) (values : 
 all_listed ops base order values j past s k has =
     let Q : List NetId → Type 0 = λ l. Has s.before k ⊎ Has (numbers_of l) k in
     elim (subst Q (drop_all j order past) (s.either k has)) [ inl older ↦ s.done k older | inr none ↦ absurd none ]
+
+-- where the order has each net of a circuit, each has its driver's value
+pub all_settled : (x : Circuit) (base : Supply) (values : List Tri) (j : ℕ) → IsCircuit x → length x.order ≤ j → length values ≡ length x.ops →
+    Listed x.ops base x.order values j → (k : ℕ) → IsGiven x.ops base values k
+all_settled x base values j is past len s k = elim (leb_tells (length x.ops) k) [
+  | inl out ↦ (let far : length values ≤ k = omega (arith, out.1) in
+      get_or_past values k Unknown far ∙ sym (ap (λ (o : Op). value_given (leaves_from base (value_at values)) (value_at values) k (meaning o)) (get_or_past x.ops k op.Free out.1)))
+  | inr live ↦ all_listed x.ops base x.order values j past s k (is.whole k live.1)
+]

@@ -1,5 +1,5 @@
 -- Nets are marked from the last to the first, where one that is settled from them is marked.
-use Rattle.std.proofs.Common.{ℕ, zero, suc, Bool, true, false, List, [], ◌∷◌, ◌≡◌, ◌<◌, ◌≤◌, ◌-◌, ◌⊎◌, ◌++◌, inl, inr, length, take, drop, drop-cons, refl, sym, ap, ◌∙◌, subst, get_or, true≢false, arith}
+use Rattle.std.proofs.Common.{ℕ, zero, suc, Bool, true, false, List, [], ◌∷◌, ◌≡◌, ◌<◌, ◌≤◌, ◌-◌, ◌⊎◌, ◌++◌, inl, inr, length, take, drop, drop-cons, sym, ap, ◌∙◌, subst, get_or, true≢false, arith}
 use Rattle.std.specs.Prelude.{if◌then◌else◌}
 use Rattle.std.specs.List.{AllByRecursion}
 use Rattle.std.proofs.lemmas.Bool.Decides.{leb_tells}
@@ -9,6 +9,7 @@ use Rattle.dft_netlist.specs.declared.ids.NetId.{NetId}
 use Rattle.dft_netlist.specs.Logic.{reads}
 use Rattle.dft_netlist.specs.Orders.{Has, numbers_of}
 use Rattle.dft_netlist.proofs.RankLemmas.{has_all}
+use Rattle.dft_netlist.proofs.ListingLemmas.{all_from}
 use Rattle.dft_logic.specs.Needs.{HasAll, IsStrobeClosed}
 use Rattle.dft_logic.specs.declared.circuit.Op.{Op}
 use Rattle.dft_logic.specs.declared.circuit.Op.TheVariants.{Free}
@@ -85,10 +86,6 @@ needing_more x start marked now j place d is e less read kept only n =
           ]);
       kept = λ k up. kept k (n.kept k up);
     }
-
-all_from : (P : ℕ → Type 0) (xs : List ℕ) → ((k : ℕ) → Has xs k → P k) → AllByRecursion P xs
-all_from P [] each = tt
-all_from P (x ∷ xs) each = (each x (inl refl), all_from P xs (λ k h. each k (inr h)))
 
 pub needing_ends : (x : Circuit) (start marked : List Bool) → IsCircuit x → Needing x.ops x.order start marked 0 → IsStrobeClosed (logic_at x) (flag_at marked)
 unfolding logic_at

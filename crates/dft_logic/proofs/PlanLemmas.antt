@@ -98,7 +98,7 @@ computes_needed k cell ports at h = taken_needed k cell.scan at cell.input (forc
 abbrev pub needs_of : (count : ℕ) (marked : List Bool) → ℕ → Bool
 needs_of count marked k = flag_at marked k || leb count k
 
-or_only : (b c : Bool) → c ≡ false → (b || c) ≡ true → b ≡ true
+pub or_only : (b c : Bool) → c ≡ false → (b || c) ≡ true → b ≡ true
 or_only true c down is = refl
 or_only false c down is = absurd (true≢false (sym is ∙ down))
 

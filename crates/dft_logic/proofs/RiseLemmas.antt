@@ -67,17 +67,17 @@ views_rise l rank p high low view its ranked over highs lows = views_monotone l 
 -- ---- what is read at a higher map
 
 -- the nets of the first source, and of the others
-first_all : (needs : ℕ → Bool) (source : Source) (sources : List Source) → HasAll needs (nets_of (source ∷ sources)) → HasAll needs (nets_of (source ∷ []))
+pub first_all : (needs : ℕ → Bool) (source : Source) (sources : List Source) → HasAll needs (nets_of (source ∷ sources)) → HasAll needs (nets_of (source ∷ []))
 first_all needs (Net net) sources all = (all.0, tt)
 first_all needs (Tied bit) sources all = tt
 first_all needs (Loose i pin) sources all = tt
 
-rest_all : (needs : ℕ → Bool) (source : Source) (sources : List Source) → HasAll needs (nets_of (source ∷ sources)) → HasAll needs (nets_of sources)
+pub rest_all : (needs : ℕ → Bool) (source : Source) (sources : List Source) → HasAll needs (nets_of (source ∷ sources)) → HasAll needs (nets_of sources)
 rest_all needs (Net net) sources all = all.1
 rest_all needs (Tied bit) sources all = all
 rest_all needs (Loose i pin) sources all = all
 
-more_all : (needs : ℕ → Bool) (source : Source) (sources : List Source) → HasAll needs (nets_of (source ∷ [])) → HasAll needs (nets_of sources) → HasAll needs (nets_of (source ∷ sources))
+pub more_all : (needs : ℕ → Bool) (source : Source) (sources : List Source) → HasAll needs (nets_of (source ∷ [])) → HasAll needs (nets_of sources) → HasAll needs (nets_of (source ∷ sources))
 more_all needs (Net net) sources one all = (one.0, all)
 more_all needs (Tied bit) sources one all = all
 more_all needs (Loose i pin) sources one all = all

@@ -20,11 +20,11 @@ use Rattle.dft_logic.proofs.StillLemmas.{still_is_strobe, one_pass, chosen_same}
 
 -- ---- what is still together is so apart
 
-two_domains : (same : Bool) (d e f : ℕ) → (e == f) ≡ same → is_still d (if same then Domain e else Several) ≡ true → (is_still d (Domain e) ≡ true) × (is_still d (Domain f) ≡ true)
+pub two_domains : (same : Bool) (d e f : ℕ) → (e == f) ≡ same → is_still d (if same then Domain e else Several) ≡ true → (is_still d (Domain e) ≡ true) × (is_still d (Domain f) ≡ true)
 two_domains true d e f is still = (still, eq-eqb f d (sym (eqb-true e f is) ∙ eqb-true e d still))
 two_domains false d e f is still = absurd cc
 
-both_still : (d : ℕ) (s t : Shown) → is_still d (with_shown s t) ≡ true → (is_still d s ≡ true) × (is_still d t ≡ true)
+pub both_still : (d : ℕ) (s t : Shown) → is_still d (with_shown s t) ≡ true → (is_still d s ≡ true) × (is_still d t ≡ true)
 both_still d Nothing t still = (refl, still)
 both_still d (Domain e) Nothing still = (still, refl)
 both_still d (Domain e) (Domain f) still = two_domains (e == f) d e f refl still

@@ -7,6 +7,7 @@ pub mod Entries
 pub mod Laws
 pub mod Values
 pub mod Circuit
+pub mod Sweepings
 pub mod CircuitShown
 pub mod Tables
 pub mod Packed

@@ -6,8 +6,8 @@ use Rattle.std.proofs.lemmas.Bool.{eqb-true, or_parts}
 use Rattle.std.proofs.lemmas.Option.{same_Some}
 use Rattle.std.proofs.lemmas.List.{drop_all, drop_more, with_items_is}
 use Rattle.std.proofs.lemmas.List.Elements.{All-more, All-weaker, filter_agree}
-use Rattle.dft_gf2.proofs.OneStated.{xor_same}
 use Rattle.dft_base.specs.Solutions.{xor}
+use Rattle.dft_base.proofs.BitLemmas.{xor_same}
 use Rattle.dft_merge.specs.Rows.{or_else}
 use Rattle.dft_merge.specs.Placement.{bit_in, has_opposite, is_opposite, missing}
 use Rattle.dft_merge.specs.Tables.{AreBelow, IsNoted, IsTable, SameBits, bit_of, missing_by, opposes_by}

@@ -94,7 +94,7 @@ none_turned false o is = sym is
 
 -- ---- the whole walk
 
-clock_walk : (n : Netlist) (k : ℕ) → IsClockWalk (clock_within n k)
+pub clock_walk : (n : Netlist) (k : ℕ) → IsClockWalk (clock_within n k)
 clock_walk n zero = record { constant = λ bit. refl; loose = λ i p. refl }
 clock_walk n (suc k) = record { constant = λ bit. refl; loose = λ i p. refl }
 

@@ -16,6 +16,7 @@ use Rattle.dft_netlist.specs.ClockSteps.{shown_clock, IsClockWalk}
 use Rattle.dft_netlist.proofs.LiveLemmas.{le_or_lt}
 use Rattle.dft_netlist.specs.ClockTables.{clock_among, clock_in, AreClocks}
 use Rattle.dft_netlist.proofs.RootTables.{has_below, past_free}
+use Rattle.dft_netlist.proofs.ClockLemmas.{clock_walk}
 
 -- two walks find the same where they do at the nets of these sources
 abbrev Agree : (Source → Option ClockRoot) → (Source → Option ClockRoot) → List ℕ → Type 0
@@ -42,10 +43,6 @@ same_step n one two a b net (Joined source) agree = same_source one two a b sour
 same_step n one two a b net (Flop i inverted) agree = refl
 same_step n one two a b net (drivers.Lockup i) agree = refl
 same_step n one two a b net Free agree = refl
-
-clock_walk : (n : Netlist) (k : ℕ) → IsClockWalk (clock_within n k)
-clock_walk n zero = record { constant = λ bit. refl; loose = λ i pin. refl }
-clock_walk n (suc k) = record { constant = λ bit. refl; loose = λ i pin. refl }
 
 -- one step more changes nothing where the steps are enough
 steady : (n : Netlist) (rank : ℕ → ℕ) → IsOrdered n rank → (k net : ℕ) → rank net < k → clock_within n k (Net net) ≡ clock_within n (suc k) (Net net)

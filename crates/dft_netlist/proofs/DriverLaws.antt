@@ -8,13 +8,13 @@ use Rattle.dft_netlist.specs.DesignLaws.{ListedDrives}
 abbrev pub times : List Driven → (net : ℕ) → ℕ
 times es net = count_by (λ (x : Driven). x.0 == net) es
 
-abbrev one_if : Bool → ℕ
+abbrev pub one_if : Bool → ℕ
 one_if t = cond t 1 0
 
-times-cons : (e : Driven) (es : List Driven) (net : ℕ) → times (e ∷ es) net ≡ one_if (e.0 == net) + times es net
+pub times-cons : (e : Driven) (es : List Driven) (net : ℕ) → times (e ∷ es) net ≡ one_if (e.0 == net) + times es net
 times-cons e es net = sum_by-cons (λ (x : Driven). cond (x.0 == net) 1 0) e es
 
-listed_once : (es : List Driven) (k : ℕ) (d : Driven) → slice_get es k ≡ Some d → 1 ≤ times es d.0
+pub listed_once : (es : List Driven) (k : ℕ) (d : Driven) → slice_get es k ≡ Some d → 1 ≤ times es d.0
 listed_once [] k d h = absurd (let f : ⊥ = cc in f)
 listed_once (e ∷ es) zero d h =
     let same : e ≡ d = cc in

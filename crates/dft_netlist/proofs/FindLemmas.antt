@@ -16,14 +16,14 @@ use Rattle.dft_base.proofs.TextLemmas.{same_text, bytes_eq-self}
 
 -- ---- nets
 
-abbrev IsAt : (from : ℕ) → List Text → Text → NetId → Type 0
+abbrev pub IsAt : (from : ℕ) → List Text → Text → NetId → Type 0
 IsAt from nets q k = (j : ℕ) × (k.0 ≡ from + j) × (slice_get nets j ≡ Some q)
 
 first_or : (t : Bool) (from : ℕ) (x : Text) (nets : List Text) (q : Text) (k : NetId) → bytes_eq x q ≡ t → (find_net_from (suc from) nets q ≡ Some k → IsAt (suc from) nets q k) → cond t (Some (record { 0 = from })) (find_net_from (suc from) nets q) ≡ Some k → IsAt from (x ∷ nets) q k
 first_or true from x nets q k is rest h = let e : record { 0 = from } ≡ k = cc in (0, sym (ap (λ (i : NetId). i.0) e) ∙ omega arith, ap Some (same_text x q is))
 first_or false from x nets q k is rest h = let r = rest h in (suc r.0, r.1 ∙ omega arith, r.2)
 
-found_at : (from : ℕ) (nets : List Text) (q : Text) (k : NetId) → find_net_from from nets q ≡ Some k → IsAt from nets q k
+pub found_at : (from : ℕ) (nets : List Text) (q : Text) (k : NetId) → find_net_from from nets q ≡ Some k → IsAt from nets q k
 found_at from [] q k h = absurd (let f : ⊥ = cc in f)
 found_at from (x ∷ nets) q k h = first_or (bytes_eq x q) from x nets q k refl (found_at (suc from) nets q k) h
 

@@ -38,3 +38,4 @@ pub mod PortNames
 pub mod PortLemmas
 pub mod SettledLemmas
 pub mod LiveDriven
+pub mod ListingLemmas

@@ -53,7 +53,7 @@ is_input_driver (by.Pin instance pin) = false
 is_input_driver (by.Join number) = false
 is_input_driver by.Nothing = false
 
-kind_is_no_input : (kind : Kind) (i : ℕ) (inverted : Bool) (inputs : List Source) → is_input (driver_of_kind kind i inverted inputs) ≡ false
+pub kind_is_no_input : (kind : Kind) (i : ℕ) (inverted : Bool) (inputs : List Source) → is_input (driver_of_kind kind i inverted inputs) ≡ false
 kind_is_no_input kind.Buf i inverted inputs = refl
 kind_is_no_input kind.Inv i inverted inputs = refl
 kind_is_no_input kind.And i inverted inputs = refl
@@ -75,7 +75,7 @@ kind_is_no_input kind.Sdffs i inverted inputs = refl
 kind_is_no_input kind.Lockup i inverted inputs = refl
 kind_is_no_input kind.Opaque i inverted inputs = refl
 
-join_is_no_input : (join : Option Join) → is_input (joined_by join) ≡ false
+pub join_is_no_input : (join : Option Join) → is_input (joined_by join) ≡ false
 join_is_no_input None = refl
 join_is_no_input (Some join) = refl
 

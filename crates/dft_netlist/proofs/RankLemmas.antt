@@ -66,7 +66,7 @@ read_earlier n before (x ∷ xs) o net r has reads = elim has [
       ])
 ]
 
-all_below : (rank : ℕ → ℕ) (k : ℕ) (xs : List ℕ) → ((r : ℕ) → Has xs r → rank r < k) → AreBelow rank k xs
+pub all_below : (rank : ℕ → ℕ) (k : ℕ) (xs : List ℕ) → ((r : ℕ) → Has xs r → rank r < k) → AreBelow rank k xs
 all_below rank k [] h = tt
 all_below rank k (x ∷ xs) h = (h x (inl refl), all_below rank k xs (λ r m. h r (inr m)))
 

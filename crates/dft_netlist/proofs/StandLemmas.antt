@@ -26,11 +26,11 @@ pub has_left : (xs ys : List ℕ) (k : ℕ) → Has xs k → Has (xs ++ ys) k
 has_left [] ys k h = absurd h
 has_left (x ∷ xs) ys k h = elim h [ inl e ↦ inl e | inr more ↦ inr (has_left xs ys k more) ]
 
-has_push : (xs : List ℕ) (k : ℕ) → Has (xs ++ k ∷ []) k
+pub has_push : (xs : List ℕ) (k : ℕ) → Has (xs ++ k ∷ []) k
 has_push [] k = inl refl
 has_push (x ∷ xs) k = inr (has_push xs k)
 
-has_push_cases : (xs : List ℕ) (y k : ℕ) → Has (xs ++ y ∷ []) k → Has xs k ⊎ (k ≡ y)
+pub has_push_cases : (xs : List ℕ) (y k : ℕ) → Has (xs ++ y ∷ []) k → Has xs k ⊎ (k ≡ y)
 has_push_cases [] y k h = elim h [ inl e ↦ inr e | inr never ↦ absurd never ]
 has_push_cases (x ∷ xs) y k h = elim h [ inl e ↦ inl (inl e) | inr more ↦ elim (has_push_cases xs y k more) [ inl was ↦ inl (inr was) | inr new ↦ inr new ] ]
 

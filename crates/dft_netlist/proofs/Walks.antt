@@ -27,7 +27,7 @@ passed_bit f Buf (input ∷ []) source is = let e : input ≡ source = cc in ap 
 passed_bit f Buf (input ∷ more ∷ inputs) source is = absurd cc
 passed_bit f _ inputs source is = absurd cc
 
-buffer_no_bit : (inputs : List Source) (bit : Bool) → passed_by_buffer inputs ≡ Bit bit → ⊥
+pub buffer_no_bit : (inputs : List Source) (bit : Bool) → passed_by_buffer inputs ≡ Bit bit → ⊥
 buffer_no_bit [] bit is = cc
 buffer_no_bit (input ∷ []) bit is = cc
 buffer_no_bit (input ∷ more ∷ inputs) bit is = cc

@@ -1,8 +1,6 @@
 -- Which token comes next.
-use Rattle.std.proofs.Common.{◌≡◌, ◌⊎◌, inl, inr, ℕ, Bool, true, false, cond, List, Ok, Err, refl, ap, subst, ◌∙◌, rules}
+use Rattle.std.proofs.Common.{◌≡◌, ◌⊎◌, inl, inr, ℕ, Bool, true, false, cond, List, Ok, Err, refl, ap, subst, ◌∙◌}
 use Rattle.dft_base.specs.Parser.{and_then}
-use denote.Enum.Bare.{same_true}
-use Rattle.dft_netlist_text.specs.contracts.text.TokenKind.{the_type}
 use Rattle.dft_netlist_text.specs.declared.text.TokenKind.{TokenKind}
 use Rattle.dft_netlist_text.specs.declared.text.TokenKind.TheVariants as kind
 use Rattle.dft_netlist_text.specs.declared.text.Site.{Site}
@@ -10,15 +8,7 @@ use Rattle.dft_netlist_text.specs.Lexemes.{Token}
 use Rattle.dft_netlist_text.specs.Modules.{Draft}
 use Rattle.dft_netlist_text.specs.Expressions.{Operand, constant_operand, named_operand, operand}
 use Rattle.dft_netlist_text.specs.Steps.{Outcome, Rule, kind_of, bytes, next, sees, same_kind, expect, refusal}
-
-same : (a b : TokenKind) → same_kind a b ≡ true → a ≡ b
-unfolding same_kind
-same a b h = same_true the_type (search rules) a b h
-
--- the token that is seen is of this kind
-pub seen : (k : TokenKind) (ts : List Token) → sees k ts ≡ true → kind_of ts ≡ k
-unfolding sees
-seen k ts h = same (kind_of ts) k h
+use Rattle.dft_netlist_text.proofs.KindLemmas.{kinds_same, kind_is}
 
 -- whether a token is seen is told by its kind
 pub sees_by : (k is : TokenKind) (ts : List Token) → kind_of ts ≡ is → sees k ts ≡ same_kind is k
@@ -82,8 +72,8 @@ Fronts ts = (kind_of ts ≡ kind.Name) ⊎ ((kind_of ts ≡ kind.Number) ⊎ (ki
 
 operand_by : (at : Site) (depth : ℕ) (d : Draft) (ts : List Token) (p : Operand × List Token) (b : Bool) → sees kind.Number ts ≡ b →
     cond b (constant_operand at depth d ts) (named_operand at depth d ts) ≡ Ok p → (kind_of ts ≡ kind.Name) ⊎ (kind_of ts ≡ kind.Number)
-operand_by at depth d ts p true h is = inr (seen kind.Number ts h)
-operand_by at depth d ts p false h is = inl (seen kind.Name ts (subst (Begins kind.Name ts) is (named at depth d ts)))
+operand_by at depth d ts p true h is = inr (kind_is kind.Number ts h)
+operand_by at depth d ts p false h is = inl (kind_is kind.Name ts (subst (Begins kind.Name ts) is (named at depth d ts)))
 
 pub operand_fronts : (at : Site) (depth : ℕ) (d : Draft) (ts : List Token) (o : Operand) (rest : List Token) → operand at depth d ts ≡ Ok (o, rest) → (kind_of ts ≡ kind.Name) ⊎ (kind_of ts ≡ kind.Number)
 unfolding operand

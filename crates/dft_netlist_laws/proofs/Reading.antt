@@ -7,8 +7,8 @@ use Rattle.dft_netlist_text.specs.Lexemes.{Token}
 use Rattle.dft_netlist_text.specs.Modules.{Draft}
 use Rattle.dft_netlist_text.specs.Steps.{Outcome, next, sees, refusal}
 use Rattle.dft_netlist_text.specs.Expressions.{Operand, OpenConcatenations, concatenations_from, operand}
+use Rattle.dft_netlist_text.proofs.KindLemmas.{kind_is}
 use Rattle.dft_netlist_laws.specs.Concatenations.{IsExpression, Single, Concatenation, AreMembers, Last, More}
-use Rattle.dft_netlist_laws.proofs.NextTokens.{seen}
 use Rattle.dft_netlist_laws.proofs.Steps.{awaiting, held, never, stops, brace_opens, operand_comes, operand_fails, comma_goes, brace_closes, neither}
 
 -- an expression was read, and reading goes on behind it
@@ -48,7 +48,7 @@ concatenation most claims n le at depth d ts bits r h e =
       fewer = omega (arith, a.fewer, b.fewer);
       o = (b.others.0, a.o.1 ++ b.others.1);
       mid = b.mid;
-      is = Concatenation (seen kind.OpenBrace ts h) (b.are d (next ts) a.o.1 a.is);
+      is = Concatenation (kind_is kind.OpenBrace ts h) (b.are d (next ts) a.o.1 a.is);
       on = ap (λ (x : List Signal). concatenations_from b.m at b.others.0 (held depth x) b.mid) (sym (append_assoc bits a.o.1 b.others.1)) ∙ b.on;
     }
 
@@ -87,7 +87,7 @@ another most claims n le at depth d ts bits r h e =
       fewer = omega (arith, a.fewer, b.fewer);
       others = (b.others.0, a.o.1 ++ b.others.1);
       mid = b.mid;
-      are = λ e us first is. More is (seen kind.Comma ts h) (b.are d (next ts) a.o.1 a.is);
+      are = λ e us first is. More is (kind_is kind.Comma ts h) (b.are d (next ts) a.o.1 a.is);
       on = ap (λ (x : List Signal). concatenations_from b.m at b.others.0 (held depth x) b.mid) (sym (append_assoc bits a.o.1 b.others.1)) ∙ b.on;
     }
 
@@ -98,7 +98,7 @@ last n at depth d ts bits r c e = record {
   fewer = omega arith;
   others = (d, []);
   mid = next ts;
-  are = λ e us first is. subst (λ (x : List Signal). AreMembers at depth e us (d, x) (next ts)) (sym (append-nil first)) (Last is (seen kind.CloseBrace ts c));
+  are = λ e us first is. subst (λ (x : List Signal). AreMembers at depth e us (d, x) (next ts)) (sym (append-nil first)) (Last is (kind_is kind.CloseBrace ts c));
   on = ap (λ (x : List Signal). concatenations_from n at d (held depth x) (next ts)) (append-nil bits) ∙ e;
 }
 

@@ -14,3 +14,4 @@ mod ModuleExamples
 mod LimitExamples
 pub mod ParserLemmas
 pub mod WordKinds
+pub mod KindLemmas

@@ -2,7 +2,7 @@
 use Rattle.std.proofs.Common.{ℕ, zero, suc, ◌<◌, ◌≤◌, ◌≡◌, Bool, true, false, List, [], ◌∷◌, ◌++◌, length, map, drop, Option, None, Some, is_some, slice_get, refl, sym, ap, subst, arith, ◌∙◌}
 use Rattle.std.specs.Prelude.{flat_map, if◌then◌else◌}
 use Rattle.std.specs.List.{AllByRecursion}
-use Rattle.std.proofs.lemmas.Bool.{eqb-true, eq-eqb}
+use Rattle.std.proofs.lemmas.Bool.{eqb-true}
 use Rattle.std.proofs.lemmas.Option.{none-some, same_Some, slice_get_within}
 use Rattle.dft_base.specs.Solutions.{bit_at}
 use Rattle.dft_base.specs.declared.dir.Dir.{Dir}
@@ -37,6 +37,7 @@ use Rattle.dft_config.specs.Cycles.{longest_segment}
 use Rattle.dft_config.proofs.Linearity.{loads_sum}
 use Rattle.dft_rules.specs.Rules.{is_net}
 use Rattle.dft_runs.specs.Passes.{AreRounds, after_rounds}
+use Rattle.dft_rules.proofs.ReadingLemmas.{is_itself}
 use Rattle.dft_stitch.specs.Chains.{cells_of, plan_of}
 use Rattle.dft_stitch.specs.Plans.{cell_at, falling_head}
 use Rattle.dft_stitch.proofs.BlockLemmas.{chain_count}
@@ -157,11 +158,6 @@ not_forced : (force : Option Force) (x : ℕ → Tri) (t : Tri) → ((f : Force)
 not_forced None x t one = refl
 not_forced (Some f) x t one = ap (λ (p : Tri). tri_forced f.value p t) (one f refl) ∙ forced_one f.value t
 
--- ---- clocks
-
-net_is : (net : NetId) → is_net net.0 (Some net) ≡ true
-net_is net = eq-eqb net.0 net.0 refl
-
 -- ---- cells
 
 modelled_old : (p : Places) (old new : Option Cell) (c : Cell) → new ≡ Some c → AreMatched p old new → is_some old ≡ true
@@ -195,7 +191,7 @@ front_of f [] more k x at = absurd (none-some x at)
 front_of f (y ∷ xs) more zero x at = ap (λ (z : NetId). Some (f z)) (same_Some y x at)
 front_of f (y ∷ xs) more (suc k) x at = front_of f xs more k x at
 
-drop_map : (f : NetId → Tri) (xs : List NetId) (more : List Tri) → drop (length xs) (map f xs ++ more) ≡ more
+pub drop_map : (f : NetId → Tri) (xs : List NetId) (more : List Tri) → drop (length xs) (map f xs ++ more) ≡ more
 drop_map f [] more = refl
 drop_map f (x ∷ xs) more = drop_map f xs more
 
@@ -264,7 +260,7 @@ module _ (n : Netlist) (config : Config) (ports : Ports) (p : Pattern) (domain :
 
   is_capture : edt.IsCapture s clock.0 capture
   is_capture = record {
-    pulsed = pulses clock.0 ∙ net_is clock;
+    pulsed = pulses clock.0 ∙ is_itself clock;
     alone = λ e pulse. sym (eqb-true clock.0 e (sym (pulses e) ∙ pulse));
     off = captures.off;
   }

@@ -21,17 +21,14 @@ use Rattle.dft_expect.specs.Loaded.{all_cells, loaded_values, or_unknown}
 use Rattle.dft_expect.specs.Captures.{Settled, after_edges, capture_clock, is_chained, next_state, original, vector_of}
 use Rattle.dft_expect.proofs.CellNumbers.{bit_none}
 use Rattle.dft_expect.proofs.VectorLemmas.{chained}
+use Rattle.dft_expect.proofs.PulseLemmas.{stays_apart}
 
 -- a flip-flop that is no cell of the chains is not known
 pub unknown_by : (chains : List (List InstanceId)) (loaded : List Bool) (c : ℕ) → is_chained chains c ≡ false → loaded_values chains loaded c ≡ Unknown
 unknown_by chains loaded c apart = ap or_unknown (bit_none (all_cells chains) loaded c (λ k at. (let never : true ≡ false = sym (chained (all_cells chains) k c at) ∙ apart in cc)))
 
--- what is no cell of the chains does not move
-unmoved : (l : Logic) (chains : List (List InstanceId)) (x : Vector) (rising : Bool) (values its : ℕ → Tri) (cell : ℕ) → is_chained chains cell ≡ false → after_edges l chains x rising values its cell ≡ its cell
-unmoved l chains x rising values its cell is = ap (λ (b : Bool). if b && (x.pulsed (l.cell cell).domain && takes rising (l.cell cell).falling) then next_from l x values cell else its cell) is
-
 pub unchained_next : (l : Logic) (chains : List (List InstanceId)) (x : Vector) (s : Settled) (its : ℕ → Tri) (cell : ℕ) → is_chained chains cell ≡ false → next_state l chains x its s cell ≡ its cell
-unchained_next l chains x s its cell is = unmoved l chains x false s.second (after_edges l chains x true s.first its) cell is ∙ unmoved l chains x true s.first its cell is
+unchained_next l chains x s its cell is = stays_apart l chains x false s.second (after_edges l chains x true s.first its) cell is ∙ stays_apart l chains x true s.first its cell is
 
 -- a vector of the design in which flip-flops take what they take in the pattern's, and no reset or set acts
 module _ (n : Netlist) (config : Config) (chains : List (List InstanceId)) (merged : Merged) (domain : ℕ) (clock : NetId) (captures : capture_clock n config domain ≡ Some clock) (y : Vector)
@@ -52,7 +49,7 @@ module _ (n : Netlist) (config : Config) (chains : List (List InstanceId)) (merg
   above_by : (values its : ℕ → Tri) (cell : ℕ) (b : Bool) → (is_chained chains cell ≡ false → its cell ≡ Unknown) → is_chained chains cell ≡ b → AboveTri (after_edges l chains x true values its cell) (after_edge l y clock.0 true values its cell)
   above_by values its cell true unknown is =
       subst (AboveTri (after_edges l chains x true values its cell)) (edges_same true values its cell is) (above_self (after_edges l chains x true values its cell))
-  above_by values its cell false unknown is = subst (λ (t : Tri). AboveTri t (after_edge l y clock.0 true values its cell)) (sym (unmoved l chains x true values its cell is ∙ unknown is)) tt
+  above_by values its cell false unknown is = subst (λ (t : Tri). AboveTri t (after_edge l y clock.0 true values its cell)) (sym (stays_apart l chains x true values its cell is ∙ unknown is)) tt
 
   -- after the rises no more is known than what flip-flops have, where flip-flops that are no cells of the chains are Unknown
   pub risen_above : (values its : ℕ → Tri) → ((cell : ℕ) → is_chained chains cell ≡ false → its cell ≡ Unknown) → (cell : ℕ) → AboveTri (after_edges l chains x true values its cell) (after_edge l y clock.0 true values its cell)

@@ -1,5 +1,5 @@
 -- A capture's vector, beside a netlist that covers the design.
-use Rattle.std.proofs.Common.{ℕ, zero, suc, ◌+◌, ◌≡◌, ◌<◌, ◌≤◌, ◌==◌, Bool, true, false, List, [], ◌∷◌, ◌++◌, map, drop, length, get_or, slice_get, Option, None, Some, is_some, refl, sym, subst, ap, arith, ◌∙◌}
+use Rattle.std.proofs.Common.{ℕ, zero, suc, ◌+◌, ◌≡◌, ◌<◌, ◌≤◌, ◌==◌, Bool, true, false, List, [], ◌∷◌, ◌++◌, map, length, get_or, slice_get, Option, None, Some, is_some, refl, sym, subst, ap, arith, ◌∙◌}
 use Rattle.std.specs.Prelude.{flat_map, if◌then◌else◌}
 use Rattle.std.specs.List.{AllByRecursion}
 use Rattle.std.proofs.lemmas.Bool.{eqb-true}
@@ -40,6 +40,7 @@ use Rattle.dft_scan_behavior.proofs.ClockFree.{clock_free, inputs_clear, is_clea
 use Rattle.dft_pattern_behavior.specs.Statements.{AreCaptureVectors, AreLoaded, ArePlacesOf, AreSteps, CapturesStandOver, IsCaptureVector, OutputsStand, Step, after_steps, value_in}
 use Rattle.dft_pattern_behavior.proofs.Edges.{captured_same, risen_above, unchained_next, unknown_by}
 use Rattle.dft_pattern_behavior.proofs.Inputs.{data_above, data_next, data_settled, data_stays, data_vector}
+use Rattle.dft_pattern_behavior.proofs.Capturing.{drop_map}
 
 -- ---- the loaded bits
 
@@ -125,10 +126,6 @@ front_value : (f : NetId → Tri) (xs : List NetId) (more : List Tri) (k : ℕ) 
 front_value f [] more k x at = absurd (none-some x at)
 front_value f (y ∷ xs) more zero x at = ap f (same_Some y x at)
 front_value f (y ∷ xs) more (suc k) x at = front_value f xs more k x at
-
-drop_map : (f : NetId → Tri) (xs : List NetId) (more : List Tri) → drop (length xs) (map f xs ++ more) ≡ more
-drop_map f [] more = refl
-drop_map f (x ∷ xs) more = drop_map f xs more
 
 -- ---- one capture vector
 

@@ -3,7 +3,7 @@ use Rattle.std.proofs.Common.{cond, add-one, drop, drop-cons, ◌⊎◌, inl, in
 use Rattle.std.proofs.lemmas.Bool.{cases_lt, or_right}
 use Rattle.std.proofs.lemmas.List.{length-set, length-replicate, get_or_past}
 use Rattle.dft_base.proofs.SumLemmas.{and_false as and_with_false}
-use Rattle.dft_base.proofs.BitLemmas.{or_false}
+use Rattle.dft_base.proofs.BitLemmas.{or_false, first_false}
 use Rattle.dft_patterns.specs.declared.act.Act.{Act}
 use Rattle.dft_patterns.specs.declared.act.Act.TheVariants.{Unset, Low, High, Pulse, ExpectLow, ExpectHigh, Ignore}
 use Rattle.dft_patterns.specs.declared.steadiness.Unsteady.{Unsteady}
@@ -123,14 +123,9 @@ unless : (t : Bool) (n : ℕ) (o : Option ℕ) → cond t (Some n) o ≡ None �
 unless true n o e = absurd (true≢false (ap is_some e))
 unless false n o e = (refl, e)
 
--- both tests, of which the second holds
-and_false : (a b : Bool) → (a && b) ≡ false → b ≡ true → a ≡ false
-and_false false b e h = refl
-and_false true b e h = absurd (true≢false (sym h ∙ e))
-
 none_here : (f : ℕ → Bool) (n : ℕ) (acts : List Act) → first_not_low f n acts ≡ None → (k : ℕ) → f (n + k) ≡ true → is_not_low (act_of_signal acts k) ≡ false
 none_here f n [] e k h = refl
-none_here f n (a ∷ acts) e zero h = and_false (is_not_low a) (f n) (unless _ n _ e).0 (ap f (omega arith) ∙ h)
+none_here f n (a ∷ acts) e zero h = first_false (is_not_low a) (f n) (unless _ n _ e).0 (ap f (omega arith) ∙ h)
 none_here f n (a ∷ acts) e (suc k) h = none_here f (suc n) acts (unless _ n _ e).1 k (ap f (omega arith) ∙ h)
 
 none_found : (v : ℕ) (o : Option ℕ) (behind : Option Unsteady) → found_or v o behind ≡ None → (o ≡ None) × (behind ≡ None)

@@ -6,13 +6,13 @@ use Rattle.std.proofs.lemmas.List.{length-set, ext_get_or}
 use Rattle.std.proofs.lemmas.List.{length-replicate}
 use Rattle.dft_base.specs.declared.tri.Tri.{Tri}
 use Rattle.dft_base.specs.declared.tri.Tri.TheVariants.{Unknown}
+use Rattle.dft_base.proofs.ListLemmas.{same_all}
 use Rattle.dft_registers.specs.declared.layout.Place.{Place}
 use Rattle.dft_registers.specs.Layout.{Layout, place_at, cells_at, cell_at, IsLaid}
 use Rattle.dft_registers.specs.declared.cells.Cells.TheInside.{Inside}
 use Rattle.dft_registers.specs.declared.moves.Move.{Move}
 use Rattle.dft_registers.specs.declared.moves.Move.TheVariants.{Stays, Shifts, Copies, Trails}
 use Rattle.dft_registers.specs.Cells.{Contents, contents_of, AreCells, value_at, row_at, value_in, values_in, move_at, moved_row, IfTakes, CanMove, course_in, course, IsCarried}
-use Rattle.dft_registers.proofs.ListLemmas.{same_all}
 use Rattle.dft_registers.proofs.MoveLemmas.{shifted_read, copied_read}
 
 -- ---- values are read
@@ -123,7 +123,7 @@ rows_kept rows r i value row k less named = elim (eqb_tells k r) [
 
 -- ---- values are carried
 
-positive : (r : ℕ) → (r ≡ 0 → ⊥) → 0 < r
+pub positive : (r : ℕ) → (r ≡ 0 → ⊥) → 0 < r
 positive zero none = absurd (none refl)
 positive (suc r) none = omega arith
 

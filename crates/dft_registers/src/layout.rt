@@ -18,9 +18,10 @@ pub struct Place {
     pub index: u32,
 }
 
-// Where cells lie. The first register has no cell: it is for those that rest.
+/// Where cells lie: those that follow each other in registers, and all others by themselves. The first register has no
+/// cell: it is for those that rest.
 #[derive(Drop)]
-pub(crate) struct Layout {
+pub struct Layout {
     places: Vec<Place>,
     registers: Vec<Register>,
 }
@@ -171,9 +172,9 @@ impl Layout {
         Ok(())
     }
 
-    // Where cells lie, by the cell before each, if there is one: those that follow one behind the other, if they are not too
-    // few, are a register.
-    pub(crate) fn of_chains(alloc: Global, before: &[Option<u32>]) -> Result<Layout, AllocError>
+    /// Where cells lie, by the cell before each, if there is one: those that follow one behind the other, if they are not
+    /// too few, are a register. An error is want of memory.
+    pub fn of_chains(alloc: Global, before: &[Option<u32>]) -> Result<Layout, AllocError>
         ensures { IfOk result (λ layout. length layout.places ≡ length before.now) }
     {
         let followers = find_followers(alloc, before)?;
@@ -186,23 +187,23 @@ impl Layout {
         Ok(layout)
     }
 
-    // How many cells there are.
-    pub(crate) fn count(&self) -> usize
+    /// How many cells there are.
+    pub fn count(&self) -> usize
         ensures count { result ≡ length self.now.places }
         ensures laid { IsLaid self.now }
     {
         self.places.len()
     }
 
-    // How many registers there are.
-    pub(crate) fn registers(&self) -> usize
+    /// How many registers there are.
+    pub fn registers(&self) -> usize
         ensures { result ≡ length self.now.registers }
     {
         self.registers.len()
     }
 
-    // The cells of a register, in their order; the first has none, and past the end there is none.
-    pub(crate) fn register(&self, number: usize) -> &[usize]
+    /// The cells of a register, in their order; the first has none, and past the end there is none.
+    pub fn register(&self, number: usize) -> &[usize]
         ensures { result.now ≡ cells_at self.now.registers number }
     {
         match self.registers.get(number) {
@@ -211,8 +212,8 @@ impl Layout {
         }
     }
 
-    // The place of a cell.
-    pub(crate) fn place(&self, cell: usize) -> Place
+    /// The place of a cell.
+    pub fn place(&self, cell: usize) -> Place
         requires { cell < length self.now.places }
         ensures { result ≡ place_at self.now.places cell }
     {

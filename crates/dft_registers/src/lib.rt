@@ -7,5 +7,5 @@ mod moves;
 mod registers;
 
 pub use cells::Cells;
-pub use layout::Place;
+pub use layout::{Layout, Place};
 pub use moves::Move;

@@ -1,5 +1,5 @@
 -- A signal is a bit of a port with its direction exactly where the net with its name is one of the first, those of the ports' bits, and has the direction.
-use Rattle.std.proofs.Common.{ℕ, zero, suc, ◌+◌, ◌<◌, ◌≤◌, Bool, true, false, List, [], ◌∷◌, ◌++◌, ◌≡◌, ◌⊎◌, inl, inr, Option, None, Some, length, map, drop, refl, sym, ap, ◌∙◌, subst, slice_get, get_or, arith, length-append, append_assoc, true≢false}
+use Rattle.std.proofs.Common.{ℕ, zero, suc, ◌+◌, ◌<◌, ◌≤◌, Bool, true, false, List, [], ◌∷◌, ◌++◌, ◌≡◌, inl, inr, Option, None, Some, length, map, drop, refl, sym, ap, ◌∙◌, subst, slice_get, get_or, arith, length-append, append_assoc, true≢false}
 use Rattle.std.proofs.Math.Seq.{drop-cons}
 use Rattle.std.specs.Prelude.{if◌then◌else◌}
 use Rattle.std.specs.Str.{bytes_eq}
@@ -17,7 +17,7 @@ use Rattle.dft_netlist.specs.Netlist.{Netlist}
 use Rattle.dft_netlist.specs.Names.{bit_names, find_net, find_net_from}
 use Rattle.dft_netlist.specs.Sound.{IsNetlist, bit_names_of}
 use Rattle.dft_base.specs.Lexing.{Text}
-use Rattle.dft_base.proofs.ListLemmas.{get_left, get_right, get_there}
+use Rattle.dft_base.proofs.ListLemmas.{get_left, get_right, get_there, at_either}
 use Rattle.dft_base.proofs.TextLemmas.{same_text}
 use Rattle.dft_netlist.proofs.NamesLemmas.{has_here, has_where}
 use Rattle.dft_netlist.proofs.LiveLemmas.{AreWide}
@@ -63,19 +63,6 @@ named_found n q k None sound at h = absurd (not_found 0 n.nets q h k at)
 named_found n q k (Some j) sound at h = (let e : Net j ≡ Net (record { 0 = k }) = sound.names q (Net j) (Net (record { 0 = k })) (found_named n q j h) at in let f : j ≡ record { 0 = k } = cc in h ∙ ap Some f)
 
 -- ---- places of joined lists
-
-pub record Behind {X : Type 0} (front back : List X) (k : ℕ) (x : X) : Type 0 where
-  pub place : ℕ
-  pub number : k ≡ length front + place
-  pub here : slice_get back place ≡ Some x
-
-at_either : {X : Type 0} (xs ys : List X) (k : ℕ) (x : X) → slice_get (xs ++ ys) k ≡ Some x → (slice_get xs k ≡ Some x) ⊎ Behind xs ys k x
-at_either [] ys k x h = inr (record { place = k; number = omega arith; here = h })
-at_either (y ∷ xs) ys zero x h = inl h
-at_either (y ∷ xs) ys (suc k) x h = elim (at_either xs ys k x h) [
-  | inl a ↦ inl a
-  | inr b ↦ inr (record { place = b.place; number = (let e = b.number in omega arith); here = b.here })
-]
 
 -- each element is the same
 same_at : {X Y : Type 0} (y : Y) (xs : List X) (k : ℕ) → k < length xs → slice_get (map (λ x. y) xs) k ≡ Some y

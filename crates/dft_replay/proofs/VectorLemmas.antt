@@ -14,6 +14,7 @@ use Rattle.dft_base.proofs.BitLemmas.{same_tests}
 use Rattle.dft_base.proofs.ListLemmas.{range_last}
 use Rattle.dft_netlist.specs.declared.ids.NetId.{NetId}
 use Rattle.dft_netlist.specs.Orders.{Has, numbers_of}
+use Rattle.dft_netlist.proofs.ListingLemmas.{has_kept, range_below, filter_has}
 use Rattle.dft_cycle.specs.Machine.{Machine, value_at, logic, is_one_of, pulses, IsSet}
 use Rattle.dft_cycle.specs.MachineLaws.{IsForced, StandsSince}
 use Rattle.dft_cycle.proofs.MachineRounds.{set_stands}
@@ -206,17 +207,6 @@ among_one nets (c ∷ clocks) e s has at = elim has [
   | inr later ↦ or_right ((net_at nets c).0 == e) (is_one_of (map (net_at nets) clocks) e) (among_one nets clocks e s later at)
 ]
 
-has_kept : (test : ℕ → Bool) (t : Bool) (x : ℕ) (xs : List ℕ) (s : ℕ) → test x ≡ t → (Has (filter test xs) s → Has xs s × (test s ≡ true)) → Has (if t then x ∷ filter test xs else filter test xs) s → Has (x ∷ xs) s × (test s ≡ true)
-has_kept test true x xs s is later has = elim has [
-  | inl here ↦ (inl here, ap test here ∙ is)
-  | inr there ↦ (let r = later there in (inr r.0, r.1))
-]
-has_kept test false x xs s is later has = (let r = later has in (inr r.0, r.1))
-
-pub filter_has : (test : ℕ → Bool) (xs : List ℕ) (s : ℕ) → Has (filter test xs) s → Has xs s × (test s ≡ true)
-filter_has test [] s has = absurd has
-filter_has test (x ∷ xs) s has = has_kept test (test x) x xs s refl (filter_has test xs s) has
-
 kept_has : (test : ℕ → Bool) (t : Bool) (x : ℕ) (xs : List ℕ) (s : ℕ) → test x ≡ t → (Has xs s → Has (filter test xs) s) → test s ≡ true → Has (x ∷ xs) s → Has (if t then x ∷ filter test xs else filter test xs) s
 kept_has test true x xs s is later up has = elim has [ inl here ↦ inl here | inr there ↦ inr (later there) ]
 kept_has test false x xs s is later up has = elim has [
@@ -227,10 +217,6 @@ kept_has test false x xs s is later up has = elim has [
 pub has_filter : (test : ℕ → Bool) (xs : List ℕ) (s : ℕ) → test s ≡ true → Has xs s → Has (filter test xs) s
 has_filter test [] s up has = absurd has
 has_filter test (x ∷ xs) s up has = kept_has test (test x) x xs s refl (has_filter test xs s up) up has
-
-range_below : (a n s : ℕ) → Has (range_with_len a n) s → s < a + n
-range_below a zero s has = absurd has
-range_below a (suc n) s has = elim has [ inl here ↦ omega arith | inr there ↦ (let r = range_below (a + 1) n s there in omega arith) ]
 
 below_range : (a n s : ℕ) → a ≤ s → s < a + n → Has (range_with_len a n) s
 below_range a zero s low high = absurd (omega arith)

@@ -2,7 +2,7 @@
 use Rattle.std.proofs.Common.{ℕ, ◌+◌, ◌≡◌, ◌<◌, ◌≤◌, ◌⊎◌, inl, inr, zero, suc, Bool, true, false, ◌&&◌, ◌||◌, cond, List, [], ◌∷◌, length, find, Option, None, Some, is_some, slice_get, slice_index_or, refl, sym, subst, ap, arith, ◌∙◌}
 use Rattle.std.specs.Prelude.{if◌then◌else◌, option_map}
 use Rattle.std.specs.List.{list_any, range_with_len}
-use Rattle.std.proofs.lemmas.Bool.{eq-eqb}
+use Rattle.std.proofs.lemmas.Bool.{eq-eqb, false_from_ne_true}
 use Rattle.std.proofs.lemmas.Map.Keys.{any_passes_from_place}
 use Rattle.std.proofs.lemmas.Option.{none-some}
 use Rattle.dft_cells.specs.declared.kind.Kind.{Kind}
@@ -121,15 +121,11 @@ no_data n config k sound passed shows =
     sym (ap (λ (b : Bool). b && list_any (is_data_of n.library k) n.instances) shows)
     ∙ none_found (is_clock_as_data n config.domains) (λ (j : ℕ). ClockAsData (slice_index_or n.nets j [])) (length n.nets) 0 k (clocks_pass n config passed) (omega arith) (omega (arith, live))
 
-shown_or_not : (b : Bool) → (b ≡ true → ⊥) → b ≡ false
-shown_or_not true never = absurd (never refl)
-shown_or_not false never = refl
-
 -- what an instance takes as data shows none
 pub data_apart : (n : Netlist) (config : Config) (i : ℕ) (x : Instance) (k : ℕ) → IsNetlist n → refusal n config ≡ None → slice_get n.instances i ≡ Some x → is_data_of n.library k x ≡ true →
     is_some (clock_of_source n config.domains (Net k)) ≡ false
 data_apart n config i x k sound passed at takes =
-    shown_or_not (is_some (clock_of_source n config.domains (Net k))) (λ shows. (
+    false_from_ne_true (is_some (clock_of_source n config.domains (Net k))) (λ shows. (
     let never : true ≡ false = sym (any_passes_from_place (is_data_of n.library k) n.instances i x at takes) ∙ no_data n config k sound passed shows in
     cc
     ))

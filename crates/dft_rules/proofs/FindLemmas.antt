@@ -1,7 +1,7 @@
 -- The first of some names, pins or numbers that passes a test, in loops over them.
 use Rattle.std.proofs.Common.{◌≡◌, ℕ, zero, suc, ◌+◌, ◌-◌, ◌<◌, ◌≤◌, Bool, true, false, cond, List, length, get_or, drop, find, Option, None, Some, refl, ◌∙◌, ap, arith}
 use Rattle.std.specs.List.{range_with_len}
-use Rattle.std.proofs.lemmas.List.{at_drop_more, at_drop_all}
+use Rattle.std.proofs.lemmas.List.{at_drop_more}
 use Rattle.dft_base.proofs.NumberLemmas.{one_left}
 
 -- the next item passes, or it does not, or there is none
@@ -10,9 +10,6 @@ find_here p xs k d less is = at_drop_more (find p) xs k d less ∙ ap (λ (b : B
 
 pub find_on : {X : Type 0} (p : X → Bool) (xs : List X) (k : ℕ) (d : X) → k < length xs → p (get_or xs k d) ≡ false → find p (drop k xs) ≡ find p (drop (k + 1) xs)
 find_on p xs k d less is = at_drop_more (find p) xs k d less ∙ ap (λ (b : Bool). cond b (Some (get_or xs k d)) (find p (drop (k + 1) xs))) is
-
-pub find_over : {X : Type 0} (p : X → Bool) (xs : List X) (k : ℕ) → length xs ≤ k → find p (drop k xs) ≡ None
-find_over p xs k past = at_drop_all (find p) xs k past
 
 pub range_here : (p : ℕ → Bool) (k total : ℕ) → k < total → p k ≡ true → find p (range_with_len k (total - k)) ≡ Some k
 range_here p k total less is = ap (λ (m : ℕ). find p (range_with_len k m)) (one_left k total less) ∙ ap (λ (b : Bool). cond b (Some k) (find p (range_with_len (k + 1) (total - (k + 1))))) is

@@ -12,3 +12,4 @@ pub mod WorkedEdges
 pub mod Scannable
 pub mod ClockReads
 pub mod ClockedFlops
+pub mod ReadingLemmas

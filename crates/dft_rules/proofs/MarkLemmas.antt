@@ -1,12 +1,9 @@
 -- Marks by numbers.
-use Rattle.std.proofs.Common.{◌≡◌, ℕ, ◌+◌, ◌<◌, ◌≤◌, ◌==◌, Bool, true, false, ◌||◌, List, [], ◌++◌, length, get_or, set, take, drop, Option, Some, sym, ◌∙◌, ap, subst, arith, inl, inr}
-use Rattle.std.proofs.lemmas.Bool.{cases_eq}
-use Rattle.std.proofs.lemmas.Bool.Decides.{nat_tests}
-use Rattle.std.proofs.lemmas.List.{get_or-set_same, get_or-set_other, take_all, drop_all, append-nil}
+use Rattle.std.proofs.Common.{◌≡◌, ℕ, ◌+◌, ◌<◌, ◌≤◌, ◌==◌, Bool, true, false, ◌||◌, List, length, get_or, set, take, Option, Some, sym, ◌∙◌, ap, subst, arith}
+use Rattle.std.proofs.lemmas.List.{take_all}
 use Rattle.std.proofs.lemmas.List.Folds.{list_any_more}
 use Rattle.dft_base.specs.Lexing.{Text}
-use Rattle.dft_base.proofs.BitLemmas.{or_false, or_true}
-use Rattle.dft_base.proofs.NumberLemmas.{same_number}
+use Rattle.dft_base.proofs.ListLemmas.{marked}
 use Rattle.dft_cells.specs.declared.cell.Cell.{Cell}
 use Rattle.dft_netlist.specs.declared.ids.InstanceId.{InstanceId}
 use Rattle.dft_netlist.specs.declared.instance.Instance.{Instance}
@@ -14,16 +11,6 @@ use Rattle.dft_netlist.specs.Netlist.{Netlist}
 use Rattle.dft_rules.specs.Findings.{AreUsed}
 use Rattle.dft_rules.specs.Refusals.{is_data_of}
 use Rattle.dft_rules.specs.Rules.{flip_flop_named, is_instance, is_kept}
-
-other_test : (i k : ℕ) → (i ≡ k → ⊥) → (k == i) ≡ false
-other_test i k apart = grind (arith, nat_tests)
-
--- a mark more
-pub marked : (marks : List Bool) (k i : ℕ) → k < length marks → get_or (set marks k true) i false ≡ (get_or marks i false || (k == i))
-marked marks k i live = elim (cases_eq i k) [
-  | inl e ↦ ap (λ (j : ℕ). get_or (set marks k true) j false) e ∙ get_or-set_same marks k true false live ∙ sym (ap (λ (j : ℕ). get_or marks i false || (k == j)) e ∙ ap (λ (b : Bool). get_or marks i false || b) (same_number k) ∙ or_true (get_or marks i false))
-  | inr apart ↦ get_or-set_other marks k i true false apart ∙ sym (ap (λ (b : Bool). get_or marks i false || b) (other_test i k apart) ∙ or_false (get_or marks i false))
-]
 
 -- the flip-flop of one name more is kept
 pub kept_more : (n : Netlist) (names : List Text) (k i : ℕ) (d : Text) (marks : List Bool) (id : InstanceId) → k < length names → flip_flop_named n (get_or names k d) ≡ Some id → id.0 < length marks →
@@ -37,12 +24,6 @@ pub kept_all : (n : Netlist) (names : List Text) (k i : ℕ) → length names �
 kept_all n names k i past = ap (λ (xs : List Text). is_kept n xs i) (take_all k names past)
 
 -- ---- what instances take as data
-
--- marks that were lent whole are as they were left
-pub refilled : (old new : List Bool) (count : ℕ) → count ≡ length old → length new ≡ length old → take count (new ++ drop (length new) old) ≡ new
-refilled old new count size same =
-    let none : drop (length new) old ≡ [] = drop_all (length new) old (omega arith) in
-    ap (λ (rest : List Bool). take count (new ++ rest)) none ∙ ap (take count) (append-nil new) ∙ take_all count new (omega arith)
 
 pub used_none : (library : List Cell) (instances : List Instance) (nets : ℕ) (marks : List Bool) → length marks ≡ nets → ((net : ℕ) → get_or marks net false ≡ false) → AreUsed library (take 0 instances) nets marks
 used_none library instances nets marks count none = record { count = count; each = λ net less. none net }

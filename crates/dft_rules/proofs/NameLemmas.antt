@@ -3,6 +3,7 @@ use Rattle.std.proofs.Common.{◌≡◌, ℕ, ◌+◌, ◌<◌, ◌≤◌, Bool,
 use Rattle.std.specs.Prelude.{if◌then◌else◌}
 use Rattle.std.proofs.lemmas.List.{at_drop_more, at_drop_all, append-nil, map-append}
 use Rattle.dft_base.specs.Lexing.{Text}
+use Rattle.dft_base.proofs.ListLemmas.{find_over}
 use Rattle.dft_netlist.specs.declared.ids.NetId.{NetId}
 use Rattle.dft_netlist.specs.declared.ids.InstanceId.{InstanceId}
 use Rattle.dft_netlist.specs.declared.instance.Instance.{Instance}
@@ -13,7 +14,7 @@ use Rattle.dft_netlist.proofs.LookUpLemmas.{instance_there}
 use Rattle.dft_rules.specs.declared.error.RuleError.{RuleError}
 use Rattle.dft_rules.specs.declared.error.RuleError.TheVariants.{UnknownName}
 use Rattle.dft_rules.specs.Rules.{flip_flop_named, may_be_scanned}
-use Rattle.dft_rules.proofs.FindLemmas.{find_here, find_on, find_over}
+use Rattle.dft_rules.proofs.FindLemmas.{find_here, find_on}
 
 -- ---- flip-flops
 

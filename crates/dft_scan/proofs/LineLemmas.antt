@@ -1,11 +1,9 @@
 -- A flip-flop that is judged has a name, and one that is scanned has a domain with a name.
 use Rattle.std.proofs.Common.{◌≡◌, ℕ, ◌<◌, Bool, true, false, cond, List, [], length, get_or, Option, None, Some, option_and_then, slice_get, refl, ◌∙◌, ap, arith, inl, inr}
-use Rattle.std.specs.Prelude.{IsTrue, IsSome, is_some}
+use Rattle.std.specs.Prelude.{IsSome, is_some}
 use Rattle.std.proofs.lemmas.Option.{slice_get_past, slice_get-get_or}
 use Rattle.std.proofs.lemmas.List.FromFn.{get_or-map-range_with_len}
 use Rattle.dft_base.specs.Lexing.{Text}
-use Rattle.dft_cells.specs.declared.kind.Kind.{Kind}
-use Rattle.dft_cells.specs.declared.kind.Kind.TheVariants as kind
 use Rattle.dft_cells.specs.declared.cell.Cell.{Cell}
 use Rattle.dft_netlist.specs.declared.instance.CellRef.{CellRef}
 use Rattle.dft_netlist.specs.declared.instance.CellRef.TheVariants.{Library, Gate}
@@ -13,13 +11,14 @@ use Rattle.dft_netlist.specs.declared.instance.Instance.{Instance}
 use Rattle.dft_netlist.specs.Netlist.{Netlist}
 use Rattle.dft_netlist.specs.Names.{instance_name}
 use Rattle.dft_netlist.specs.Drivers.{kind_at, kind_of, shape_of}
-use Rattle.dft_netlist.specs.Sound.{IsCellOf, IsNetlist, is_primitive}
+use Rattle.dft_netlist.specs.Sound.{IsCellOf, IsNetlist}
 use Rattle.dft_netlist.proofs.LiveLemmas.{le_or_lt}
 use Rattle.dft_config.specs.Config.{Config}
 use Rattle.dft_rules.specs.declared.judged.Judged.{Judged}
 use Rattle.dft_rules.specs.declared.judged.Judged.TheVariants.{Scanned, Unscanned}
 use Rattle.dft_base.specs.declared.rule.Rule.{Rule}
-use Rattle.dft_rules.specs.Rules.{judged, judged_by, judgements, may_be_scanned, clocked_by, are_held_at, scan_cell_of, is_kept}
+use Rattle.dft_rules.specs.Rules.{judged, judgements, may_be_scanned}
+use Rattle.dft_rules.proofs.ReadingLemmas.{no_gate, judged_may}
 use Rattle.dft_stitch.specs.Chains.{clock_in, clock_of, domain_in, is_falling}
 use Rattle.dft_stitch.proofs.OnceLemmas.{domain_within}
 use Rattle.dft_scan_frame.specs.Statements.{IsReady}
@@ -27,28 +26,6 @@ use Rattle.dft_scan.specs.Reports.{domain_name, name_of, scanned_as, unscanned_a
 use Rattle.dft_scan.specs.Laws.{FlipFlopsHaveLines, HasLine}
 
 -- ---- names
-
-no_gate : (k : Kind) → may_be_scanned k ≡ true → IsTrue (is_primitive k) → ⊥
-no_gate kind.Dff s p = cc
-no_gate kind.Dffr s p = cc
-no_gate kind.Dffs s p = cc
-no_gate kind.Buf s p = cc
-no_gate kind.Inv s p = cc
-no_gate kind.And s p = cc
-no_gate kind.Nand s p = cc
-no_gate kind.Or s p = cc
-no_gate kind.Nor s p = cc
-no_gate kind.Xor s p = cc
-no_gate kind.Xnor s p = cc
-no_gate kind.Mux2 s p = cc
-no_gate (kind.Table number) s p = cc
-no_gate kind.Tie0 s p = cc
-no_gate kind.Tie1 s p = cc
-no_gate kind.Sdff s p = cc
-no_gate kind.Sdffr s p = cc
-no_gate kind.Sdffs s p = cc
-no_gate kind.Lockup s p = cc
-no_gate kind.Opaque s p = cc
 
 named_cell : (library : List Cell) (name : Option Text) (ref : CellRef) → IsCellOf library name ref → may_be_scanned (shape_of library ref).kind ≡ true → IsSome name
 named_cell library name (Library cell) fits s = fits.1
@@ -64,9 +41,6 @@ flip_flop_by : (t : Bool) (o : Option Judged) (verdict : Judged) → cond t o No
 flip_flop_by true o verdict e = refl
 flip_flop_by false o verdict e = absurd (let f : ⊥ = cc in f)
 
-is_flip_flop : (n : Netlist) (config : Config) (i : ℕ) (verdict : Judged) → judged n config i ≡ Some verdict → may_be_scanned (kind_at n i) ≡ true
-is_flip_flop n config i verdict e = flip_flop_by (may_be_scanned (kind_at n i)) (judged_by (clocked_by n config i) (are_held_at n config i) (is_some (scan_cell_of n i)) (is_kept n config.keep i)) verdict e
-
 is_there : (n : Netlist) (i : ℕ) → may_be_scanned (kind_at n i) ≡ true → i < length n.instances
 is_there n i s = elim (le_or_lt (length n.instances) i) [
   | inl past ↦ (
@@ -79,7 +53,7 @@ is_there n i s = elim (le_or_lt (length n.instances) i) [
 
 domain_named : (n : Netlist) (config : Config) (i d : ℕ) (f : Bool) → judged n config i ≡ Some (Scanned d f) → IsSome (domain_name config (judgements n config) (record { 0 = i }))
 domain_named n config i d f h =
-    let less = is_there n i (is_flip_flop n config i (Scanned d f) h) in
+    let less = is_there n i (judged_may n config i (Scanned d f) h) in
     let verdict : get_or (judgements n config) i None ≡ Some (Scanned d f) = get_or-map-range_with_len (judged n config) 0 (length n.instances) i i None less (omega arith) ∙ h in
     let name : slice_get config.domains d ≡ Some (get_or config.domains d []) = slice_get-get_or config.domains d [] (domain_within n config i d f h) in
     let is : domain_name config (judgements n config) (record { 0 = i }) ≡ Some (get_or config.domains d []) = ap (λ (o : Option Judged). option_and_then (slice_get config.domains) (domain_in (clock_in o))) verdict ∙ name in
@@ -100,9 +74,9 @@ has_line : (n : Netlist) (config : Config) (i : ℕ) (verdict : Option Judged) �
 has_line n config i None ready e = _
 has_line n config i (Some (Scanned d f)) ready e = λ chain place.
     scanned_some chain place (is_falling (clock_of (judgements n config) (record { 0 = i }))) (name_of n i) (domain_name config (judgements n config) (record { 0 = i }))
-    (named_by n i (slice_get n.instances i) ready.netlist refl (is_flip_flop n config i (Scanned d f) e)) (domain_named n config i d f e)
+    (named_by n i (slice_get n.instances i) ready.netlist refl (judged_may n config i (Scanned d f) e)) (domain_named n config i d f e)
 has_line n config i (Some (Unscanned rule)) ready e =
-    unscanned_some (name_of n i) rule (named_by n i (slice_get n.instances i) ready.netlist refl (is_flip_flop n config i (Unscanned rule) e))
+    unscanned_some (name_of n i) rule (named_by n i (slice_get n.instances i) ready.netlist refl (judged_may n config i (Unscanned rule) e))
 
 pub flip_flops_lined : FlipFlopsHaveLines
 flip_flops_lined = λ n config i ready. has_line n config i (judged n config i) ready refl

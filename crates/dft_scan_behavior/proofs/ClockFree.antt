@@ -1,11 +1,13 @@
 -- Where the scan rules pass, nets that show no clock of the configuration are settled from such nets alone, and D of each flip-flop is one.
 use Rattle.std.proofs.Common.{ℕ, ◌+◌, ◌≡◌, ◌⊎◌, inl, inr, Bool, true, false, not, ◌&&◌, ◌||◌, cond, List, [], ◌∷◌, length, Option, None, Some, is_some, slice_get, refl, sym, subst, ap, ◌∙◌}
-use Rattle.std.specs.Prelude.{if◌then◌else◌, option_map}
+use Rattle.std.specs.Prelude.{if◌then◌else◌}
 use Rattle.std.specs.List.{list_any, position_from}
-use Rattle.std.proofs.lemmas.Bool.{eq-eqb}
 use Rattle.std.proofs.lemmas.Iterator.Adapters.{position_from-zero}
 use Rattle.std.proofs.lemmas.Option.{none-some, same_Some}
+use Rattle.std.proofs.lemmas.Bool.{not_from_false}
 use Rattle.dft_base.specs.Lexing.{Text}
+use Rattle.dft_base.proofs.BitLemmas.{not_itself, not_of}
+use Rattle.dft_base.proofs.OptionLemmas.{some_mapped}
 use Rattle.dft_cells.specs.declared.kind.Kind.{Kind}
 use Rattle.dft_cells.specs.declared.kind.Kind.TheVariants as kind
 use Rattle.dft_cells.specs.declared.kind.Role.{Role}
@@ -34,9 +36,10 @@ use Rattle.dft_netlist.proofs.TraceLemmas.{pin_driver}
 use Rattle.dft_netlist.proofs.StoredLemmas.{flop_cell}
 use Rattle.dft_config.specs.Config.{Config}
 use Rattle.dft_rules.specs.ConfigPorts.{config_ports}
-use Rattle.dft_rules.specs.Refusals.{refusal, takes_data, uses_data, takes, is_joined_to, is_data_of}
+use Rattle.dft_rules.specs.Refusals.{refusal, takes_data, uses_data, takes, is_data_of}
 use Rattle.dft_rules.specs.Rules.{is_net, place_of_port, place_of_clock, clock_of_source}
 use Rattle.dft_rules.proofs.ClockReads.{data_apart, gate_apart}
+use Rattle.dft_rules.proofs.ReadingLemmas.{joined_net}
 use Rattle.dft_edt.specs.Captures.{AllIn, IsClockFree}
 
 -- whether a net shows a clock of the configuration, or its inverse
@@ -46,17 +49,6 @@ shows n config net = is_some (clock_of_source n config.domains (Net net))
 -- it shows none
 abbrev pub is_clear : Netlist → Config → (net : ℕ) → Bool
 is_clear n config net = not (shows n config net)
-
-clear_by : (b : Bool) → b ≡ false → not b ≡ true
-clear_by b is = ap not is
-
-not_shown : (b : Bool) → not b ≡ true → b ≡ true → ⊥
-not_shown true e f = cc
-not_shown false e f = cc
-
-clear_or : (b : Bool) → (b ≡ true → ⊥) → not b ≡ true
-clear_or true never = absurd (never refl)
-clear_or false never = refl
 
 all_by : (free : ℕ → Bool) (nets : List ℕ) → ((k : ℕ) → Has nets k → free k ≡ true) → AllIn free nets
 all_by free [] each = tt
@@ -138,11 +130,6 @@ port_placed : (n : Netlist) (config : Config) (net : ℕ) → (config_ports n co
 port_placed n config net is =
     let test : Text → Bool = λ name. is_net net (input_net n name) in
     ap (λ (o : Option ℕ). is_some o) (position_from-zero test config.domains) ∙ placed test 0 config.domains is
-
--- whether a clock is the configuration's is a matter of its port
-some_mapped : (f : ℕ → ℕ × Bool) (o : Option ℕ) → is_some (option_map f o) ≡ is_some o
-some_mapped f None = refl
-some_mapped f (Some x) = refl
 
 by_port : (n : Netlist) (config : Config) (clock : ClockRoot) → is_some (place_of_clock n config.domains (Some clock)) ≡ is_some (place_of_port n config.domains clock.port)
 by_port n config clock = some_mapped (λ place. (place, clock.inverted)) (place_of_port n config.domains clock.port)
@@ -235,11 +222,6 @@ same_data : (r : Role) → same_role role.Din r ≡ true → takes_data r ≡ tr
 same_data role.Din is = refl
 same_data _ is = absurd cc
 
-joined_net : (i pin k : ℕ) (s : Signal) → Some (source_of i pin s) ≡ Some (Net k) → is_joined_to k s ≡ true
-joined_net i pin k (signal.Net net) e = eq-eqb net.0 k (cc)
-joined_net i pin k (signal.Constant bit) e = absurd cc
-joined_net i pin k signal.Unconnected e = absurd cc
-
 din_by : (i k : ℕ) (c : Connection) (cs : List Connection) (b : Bool) → same_role role.Din c.role ≡ b → (pin_of role.Din i cs ≡ Some (Net k) → list_any (takes k) cs ≡ true)
     → (if b then Some (source_of i c.pin c.to) else pin_of role.Din i cs) ≡ Some (Net k) → (takes k c || list_any (takes k) cs) ≡ true
 din_by i k c cs true is more e =
@@ -285,10 +267,10 @@ module _ (n : Netlist) (config : Config) (rank : ℕ → ℕ) (order : IsOrdered
 
   read_clear : (net k : ℕ) (a : Kind) (inputs : List Source) → is_clear n config net ≡ true → driver n net ≡ drivers.Gate a inputs → Has (nets_of inputs) k → is_clear n config k ≡ true
   read_clear net k a inputs clear is has = elim (data_or_turn a) [
-    | inl uses ↦ clear_by (shows n config k) (gate_apart n config net k a inputs sound passed is uses has)
+    | inl uses ↦ not_from_false (shows n config k) (gate_apart n config net k a inputs sound passed is uses has)
     | inr other ↦ elim other [
       | inl opaque ↦ absurd (opaque_gate n net inputs (is ∙ ap (λ (b : Kind). drivers.Gate b inputs) opaque))
-      | inr turn ↦ clear_or (shows n config k) (λ here. not_shown (shows n config net) clear (turn_reads net k a turn.0 inputs is turn.1 has here))
+      | inr turn ↦ not_of (shows n config k) (λ here. not_itself (shows n config net) clear (turn_reads net k a turn.0 inputs is turn.1 has here))
     ]
   ]
 
@@ -297,13 +279,13 @@ module _ (n : Netlist) (config : Config) (rank : ℕ → ℕ) (order : IsOrdered
 
   source_clear : (net : ℕ) (source : Source) → is_clear n config net ≡ true → driver n net ≡ drivers.Joined source → AllIn (is_clear n config) (nets_of (source ∷ []))
   source_clear net (Net k) clear is =
-      (clear_or (shows n config k) (λ here. not_shown (shows n config net) clear (passed_on n config rank net k (λ i. i) order (λ port inverted rooted. ThroughJoin {source = Net k} is rooted) here)), tt)
+      (not_of (shows n config k) (λ here. not_itself (shows n config net) clear (passed_on n config rank net k (λ i. i) order (λ port inverted rooted. ThroughJoin {source = Net k} is rooted) here)), tt)
   source_clear net (Tied bit) clear is = tt
   source_clear net (Loose i pin) clear is = tt
 
   pub clock_free : IsClockFree l (is_clear n config)
   clock_free = record {
-    clocks = λ net clear is. (let input = clock_by n ports net (driver n net) is in not_shown (shows n config net) clear (port_shows n config net input.0 input.1));
+    clocks = λ net clear is. (let input = clock_by n ports net (driver n net) is in not_itself (shows n config net) clear (port_shows n config net input.0 input.1));
     gates = gates_clear;
     joins = λ net source clear is. source_clear net source clear (join_by n ports net source (driver n net) is);
   }
@@ -314,7 +296,7 @@ module _ (n : Netlist) (config : Config) (rank : ℕ → ℕ) (order : IsOrdered
   instance_clear i k None at flop din = absurd cc
   instance_clear i k (Some x) at flop din =
       let taken : is_data_of n.library k x ≡ true = (λ j. flop_data (shape_of n.library x.cell).kind flop j && din_taken i k (connections_of n.library x) din j) in
-      clear_by (shows n config k) (data_apart n config i x k sound passed at taken)
+      not_from_false (shows n config k) (data_apart n config i x k sound passed at taken)
 
   din_clear : (i : ℕ) (o : Option Source) → is_flip_flop (kind_at n i) ≡ true → pin_of role.Din i (pins_of n i) ≡ o → AllIn (is_clear n config) (nets_of (or_loose i o ∷ []))
   din_clear i None flop is = tt

@@ -27,3 +27,4 @@ pub mod Joined
 pub mod Endings
 pub mod OpenLemmas
 pub mod ReadyLemmas
+pub mod EmptyFrames

@@ -1,5 +1,5 @@
 -- Nets that stand at instances of the scanned netlist are nets of it.
-use Rattle.std.proofs.Common.{ℕ, suc, ◌+◌, ◌≡◌, ◌≤◌, ◌<◌, Bool, true, false, List, ◌∷◌, length, nat_lt, Option, None, Some, option_map, option_and_then, slice_get, refl, arith, []}
+use Rattle.std.proofs.Common.{ℕ, suc, ◌+◌, ◌≡◌, ◌<◌, Bool, true, false, List, ◌∷◌, length, nat_lt, Option, None, Some, option_map, option_and_then, slice_get, refl, arith, []}
 use Rattle.std.specs.Prelude.{if◌then◌else◌}
 use Rattle.std.proofs.lemmas.Option.{none-some, same_Some}
 use Rattle.dft_base.specs.Lexing.{Text}
@@ -18,13 +18,9 @@ use Rattle.dft_netlist.specs.Logic.{same_role, pin_of}
 use Rattle.dft_netlist.specs.Sound.{IsNetlist, IsLive, AreLive}
 use Rattle.dft_netlist.specs.Connections.{is_input}
 use Rattle.dft_netlist.proofs.LookUpLemmas.{net_there}
+use Rattle.dft_netlist.proofs.ListingLemmas.{live_more}
 use Rattle.dft_scan_frame.specs.Moves.{Gap, moved}
 use Rattle.dft_scan_frame.specs.Pins.{net_of, own_output}
-
-pub live_more : (count more : ℕ) (s : Signal) → count ≤ more → IsLive count s → IsLive more s
-live_more count more (Net net) le live = omega (arith, le, live)
-live_more count more (Constant bit) le live = tt
-live_more count more Unconnected le live = tt
 
 pub pins_live : (n : Netlist) (k : ℕ) (x : Instance) → IsNetlist n → slice_get n.instances k ≡ Some x → AreLive MAX_NETS x.pins
 pins_live n k x sound at place s there = live_more (length n.nets) MAX_NETS s sound.few_nets ((sound.instances k x at).live place s there)

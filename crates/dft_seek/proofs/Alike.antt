@@ -1,9 +1,11 @@
 -- Two captures agree on a set of nets that is closed under reading, where what the set is settled from agrees.
-use Rattle.std.proofs.Common.{ℕ, zero, suc, ◌≡◌, ◌<◌, ◌==◌, Bool, true, false, ◌&&◌, ◌||◌, List, [], ◌∷◌, inl, inr, refl, sym, subst, ap, arith, ◌∙◌}
+use Rattle.std.proofs.Common.{ℕ, zero, suc, ◌≡◌, ◌<◌, ◌==◌, Bool, true, false, ◌||◌, List, [], ◌∷◌, inl, inr, refl, sym, subst, ap, arith, ◌∙◌}
 use Rattle.std.specs.Prelude.{if◌then◌else◌}
 use Rattle.std.specs.List.{list_any}
 use Rattle.std.proofs.lemmas.Bool.Decides.{eqb_tells}
+use Rattle.std.proofs.lemmas.Bool.{and_from}
 use Rattle.dft_base.specs.declared.tri.Tri.{Tri}
+use Rattle.dft_base.proofs.BitLemmas.{and_first}
 use Rattle.dft_cells.specs.Gates.{tri_of}
 use Rattle.dft_netlist.specs.declared.ids.InstanceId.{InstanceId}
 use Rattle.dft_netlist.specs.Netlist.{Netlist}
@@ -114,11 +116,6 @@ pub moved_same : (moves : Bool) (t u x y : Tri) → (moves ≡ true → t ≡ u)
 moved_same true t u x y next stays = next refl
 moved_same false t u x y next stays = stays refl
 
-and_true : (a b : Bool) → a ≡ true → b ≡ true → (a && b) ≡ true
-and_true true true p q = refl
-and_true true false p q = absurd cc
-and_true false b p q = absurd cc
-
 pub record AgreeTwice (s : Search) (a b : Settled) (Set : ℕ → Type 0) : Type 0 where
   pub first : (net : ℕ) → Set net → a.first net ≡ b.first net
   pub second : has_falling s ≡ true → (net : ℕ) → Set net → a.second net ≡ b.second net
@@ -142,7 +139,7 @@ agree_parts s n k rank g h a b Set order none alike are also =
       of_ports = alike.same.of_ports;
       of_cells = λ net i inverted in_set is held.
           moved_same (m.rises i) (next_by_pins n a.first i) (next_by_pins k b.first i) (g.cells i) (h.cells i)
-          (λ rises. next_alike s n k g h a.first b.first Set i false none rises alike first (λ from among. alike.passes net i inverted from in_set is (and_true (has_falling s) (takes_at s false i) falls rises) among))
+          (λ rises. next_alike s n k g h a.first b.first Set i false none rises alike first (λ from among. alike.passes net i inverted from in_set is (and_from (has_falling s) (takes_at s false i) falls rises) among))
           (λ stays. alike.same.of_cells net i inverted in_set is held);
     } in
     record {
@@ -172,12 +169,8 @@ falls_here (x ∷ cells) f c has is = elim (eqb_tells x.0 c) [
     or_second true q h = refl
     or_second false q h = h
 
-left_true : (a b : Bool) → (a && b) ≡ true → a ≡ true
-left_true true b h = refl
-left_true false b h = absurd cc
-
 pub has_some : (s : Search) (c : ℕ) → takes_at s true c ≡ true → has_falling s ≡ true
-has_some s c is = falls_here (cells_in s) (takes_at s true) c (left_true (has_cell (cells_in s) c) (is_of s.domain true (clock_of (judgements s.design s.config) (record { 0 = c }))) is) is
+has_some s c is = falls_here (cells_in s) (takes_at s true) c (and_first (has_cell (cells_in s) c) (is_of s.domain true (clock_of (judgements s.design s.config) (record { 0 = c }))) is) is
 
 -- a cell whose pins are in the set captures the same, if it moves or has the same value
 pub response_same : (s : Search) (n k : Netlist) (g h : Given) (a b : Settled) (Set : ℕ → Type 0) (c : ℕ) → HasNoScanPins s → AreAlike s n k g h Set → AgreeTwice s a b Set →

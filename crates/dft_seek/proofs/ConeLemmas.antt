@@ -7,6 +7,7 @@ use Rattle.std.proofs.lemmas.Bool.Decides.{leb_tells}
 use Rattle.std.proofs.lemmas.List.{get_or_default, get_or_past}
 use Rattle.std.proofs.lemmas.List.Elements.{filter-append}
 use Rattle.std.proofs.lemmas.Option.{none-some, same_Some}
+use Rattle.dft_base.proofs.BitLemmas.{or_right}
 use Rattle.dft_netlist.specs.declared.ids.NetId.{NetId}
 use Rattle.dft_netlist.specs.declared.ids.InstanceId.{InstanceId}
 use Rattle.dft_netlist.specs.Drivers.{Driver, Gate, Joined, Flop, Free, driver}
@@ -27,9 +28,10 @@ use Rattle.dft_seek.specs.Rigs.{IsRig, search_in, search_of, shows_in}
 use Rattle.dft_seek.specs.Steps.{shown_at}
 use Rattle.dft_seek.specs.declared.cones.Cone.{Cone}
 use Rattle.dft_seek.specs.declared.rig.Rig.{Rig}
-use Rattle.dft_seek.proofs.MarkLemmas.{among_one}
+use Rattle.dft_seek.proofs.MarkLemmas.{among_one, either_up, any_among, among_either}
 use Rattle.dft_seek.proofs.PinLemmas.{among_here, among_left, among_right}
 use Rattle.dft_seek.proofs.PinsKept.{taken_kept}
+use Rattle.dft_seek.proofs.OnceLemmas.{all_filter}
 
 -- ---- steps
 
@@ -79,15 +81,6 @@ any_here marked k (x ∷ nets) up among = by (x == k) refl (flag_at marked x) re
     by a same true is below h = refl
     by true same false is below h = absurd (true≢false (sym up ∙ sym (ap (flag_at marked) (eqb-true x k same)) ∙ is))
     by false same false is below h = below h
-
-any_at : (marked : List Bool) (nets : List ℕ) → list_any (flag_at marked) nets ≡ true → (k : ℕ) × ((flag_at marked k ≡ true) × (is_among k nets ≡ true))
-any_at marked [] is = absurd (true≢false (sym is))
-any_at marked (x ∷ nets) is = by (flag_at marked x) refl (any_at marked nets) is
-  where
-    by : (b : Bool) → flag_at marked x ≡ b → (list_any (flag_at marked) nets ≡ true → (k : ℕ) × ((flag_at marked k ≡ true) × (is_among k nets ≡ true))) → (b || list_any (flag_at marked) nets) ≡ true →
-        (k : ℕ) × ((flag_at marked k ≡ true) × (is_among k (x ∷ nets) ≡ true))
-    by true up below h = (x, (up, among_here x nets))
-    by false up below h = (let found = below h in (found.0, (found.1.0, among_right found.0 (x ∷ []) nets found.1.1)))
 
 -- ---- the nets that are reached
 
@@ -160,18 +153,10 @@ all_chosen test (x ∷ xs) = by (test x) refl (all_chosen test xs)
     by true is rest = (is, rest)
     by false is rest = rest
 
-all_left : {A : Type 0} (P : A → Type 0) (test : A → Bool) (xs : List A) → AllByRecursion P xs → AllByRecursion P (filter test xs)
-all_left P test [] all = tt
-all_left P test (x ∷ xs) all = by (test x) (all_left P test xs all.1)
-  where
-    by : (b : Bool) → AllByRecursion P (filter test xs) → AllByRecursion P (if b then x ∷ filter test xs else filter test xs)
-    by true rest = (all.0, rest)
-    by false rest = rest
-
 pub taking_left : (r : Rig) (test : InstanceId → Bool) (cells : List InstanceId) → IsRig r → cells ≡ filter test r.responses.items → AreTaking r cells
 taking_left r test cells rig is =
     subst (AreTaking r) (sym (is ∙ ap (filter test) rig.responses))
-    (all_left (λ (cell : InstanceId). (takes_at (search_of r) false cell.0 || takes_at (search_of r) true cell.0) ≡ true) test _ (all_chosen (λ cell. takes_at (search_of r) false cell.0 || takes_at (search_of r) true cell.0) (cells_in (search_of r))))
+    (all_filter (λ (cell : InstanceId). (takes_at (search_of r) false cell.0 || takes_at (search_of r) true cell.0) ≡ true) test _ (all_chosen (λ cell. takes_at (search_of r) false cell.0 || takes_at (search_of r) true cell.0) (cells_in (search_of r))))
 
 -- ---- points
 
@@ -202,7 +187,7 @@ points_are r f cone reached rig behind outs resps =
     sound : (point : Point) → chosen_point r reached point ≡ true → IsReached (search_in r f) point
     sound (Output net) up = record { to = net; ends = among_here net []; walk = behind.sound net up }
     sound (Response c) up =
-        let found = any_at reached (taken_by (pins_at r.pins.items c)) up in
+        let found = any_among reached (taken_by (pins_at r.pins.items c)) up in
         record { to = found.0; ends = ap (is_among found.0) (sym (taken_is c)) ∙ found.1.1; walk = behind.sound found.0 found.1.0 }
 
     whole : (point : Point) → IsReached (search_in r f) point → chosen_point r reached point ≡ true
@@ -225,25 +210,14 @@ record EndsAt (s : Search) (points : List Point) (to : ℕ) : Type 0 where
 ends_later : (s : Search) (point : Point) (points : List Point) (to : ℕ) → EndsAt s points to → EndsAt s (point ∷ points) to
 ends_later s point points to is = record { place = suc is.place; point = is.point; at = is.at; ends = is.ends }
 
-or_either : (a b : Bool) → (a || b) ≡ true → (a ≡ true) ⊎ (b ≡ true)
-or_either true b is = inl refl
-or_either false b is = inr is
-
-among_parts : (k : ℕ) (xs ys : List ℕ) → is_among k (xs ++ ys) ≡ true → (is_among k xs ≡ true) ⊎ (is_among k ys ≡ true)
-among_parts k [] ys is = inr is
-among_parts k (x ∷ xs) ys is = elim (or_either (x == k) (is_among k (xs ++ ys)) is) [
-  | inl here ↦ inl (ap (λ (b : Bool). b || is_among k xs) here)
-  | inr later ↦ elim (among_parts k xs ys later) [ inl first ↦ inl (among_right k (x ∷ []) xs first) | inr second ↦ inr second ]
-]
-
 ends_points : (r : Rig) (f : Fault) (outs : List NetId) (resps : List InstanceId) (to : ℕ) → IsRig r → is_among to (numbers_of outs ++ flat_map (λ cell. taken_by (pins_at r.pins.items cell.0)) resps) ≡ true →
     EndsAt (search_in r f) (map (λ net. Output net.0) outs ++ map (λ cell. Response cell.0) resps) to
 ends_points r f [] [] to rig is = absurd (true≢false (sym is))
-ends_points r f [] (c ∷ resps) to rig is = elim (among_parts to (taken_by (pins_at r.pins.items c.0)) (flat_map (λ cell. taken_by (pins_at r.pins.items cell.0)) resps) is) [
+ends_points r f [] (c ∷ resps) to rig is = elim (among_either to (taken_by (pins_at r.pins.items c.0)) (flat_map (λ cell. taken_by (pins_at r.pins.items cell.0)) resps) is) [
   | inl here ↦ record { place = 0; point = Response c.0; at = refl; ends = ap (is_among to) (sym (taken_kept r.design.now c.0 (pins_at r.pins.items c.0) (rig.pins.each c.0))) ∙ here }
   | inr later ↦ ends_later (search_in r f) (Response c.0) (map (λ cell. Response cell.0) resps) to (ends_points r f [] resps to rig later)
 ]
-ends_points r f (net ∷ outs) resps to rig is = elim (or_either (net.0 == to) (is_among to (numbers_of outs ++ flat_map (λ cell. taken_by (pins_at r.pins.items cell.0)) resps)) is) [
+ends_points r f (net ∷ outs) resps to rig is = elim (either_up (net.0 == to) (is_among to (numbers_of outs ++ flat_map (λ cell. taken_by (pins_at r.pins.items cell.0)) resps)) is) [
   | inl here ↦ record { place = 0; point = Output net.0; at = refl; ends = ap (λ (b : Bool). b || false) here }
   | inr later ↦ ends_later (search_in r f) (Output net.0) (map (λ net. Output net.0) outs ++ map (λ cell. Response cell.0) resps) to (ends_points r f outs resps to rig later)
 ]
@@ -267,7 +241,7 @@ points_ends r f (net ∷ outs) resps (suc place) to point rig at ends =
 shown_net : (shows_list : List (Option InstanceId)) (marked : List Bool) (c : ℕ) → shown_in shows_list marked c ≡ true → (net : ℕ) × ((flag_at marked net ≡ true) × (shows_in (shown_at shows_list net) c ≡ true))
 shown_net [] marked c is = absurd (true≢false (sym is))
 shown_net (o ∷ shows_list) [] c is = absurd (true≢false (sym is))
-shown_net (o ∷ shows_list) (true ∷ marked) c is = elim (or_either (shows_in o c) (shown_in shows_list marked c) is) [
+shown_net (o ∷ shows_list) (true ∷ marked) c is = elim (either_up (shows_in o c) (shown_in shows_list marked c) is) [
   | inl here ↦ (0, (refl, here))
   | inr later ↦ (let found = shown_net shows_list marked c later in (suc found.0, (found.1.0, found.1.1)))
 ]
@@ -292,21 +266,17 @@ reads_in (nets ∷ steps) (flag ∷ marked) net = (flag && is_among net (numbers
 read_net : (steps : List (List NetId)) (marked : List Bool) (net : ℕ) → reads_in steps marked net ≡ true → (to : ℕ) × ((flag_at marked to ≡ true) × (is_among net (steps_at steps to) ≡ true))
 read_net [] marked net is = absurd (true≢false (sym is))
 read_net (nets ∷ steps) [] net is = absurd (true≢false (sym is))
-read_net (nets ∷ steps) (true ∷ marked) net is = elim (or_either (is_among net (numbers_of nets)) (reads_in steps marked net) is) [
+read_net (nets ∷ steps) (true ∷ marked) net is = elim (either_up (is_among net (numbers_of nets)) (reads_in steps marked net) is) [
   | inl here ↦ (0, (refl, here))
   | inr later ↦ (let found = read_net steps marked net later in (suc found.0, (found.1.0, found.1.1)))
 ]
 read_net (nets ∷ steps) (false ∷ marked) net is = (let found = read_net steps marked net is in (suc found.0, (found.1.0, found.1.1)))
 
-or_second : (a b : Bool) → b ≡ true → (a || b) ≡ true
-or_second true b h = refl
-or_second false b h = h
-
 net_read : (steps : List (List NetId)) (marked : List Bool) (net to : ℕ) → flag_at marked to ≡ true → is_among net (steps_at steps to) ≡ true → reads_in steps marked net ≡ true
 net_read [] marked net to up is = absurd (true≢false (sym is))
 net_read (nets ∷ steps) [] net to up is = absurd (true≢false (sym up))
 net_read (nets ∷ steps) (flag ∷ marked) net zero up is = λ t. (up t && is t) || reads_in steps marked net
-net_read (nets ∷ steps) (flag ∷ marked) net (suc to) up is = or_second (flag && is_among net (numbers_of nets)) (reads_in steps marked net) (net_read steps marked net to up is)
+net_read (nets ∷ steps) (flag ∷ marked) net (suc to) up is = or_right (flag && is_among net (numbers_of nets)) (reads_in steps marked net) (net_read steps marked net to up is)
 
 -- from a net past the end: it is an end itself, or a walk goes on from it to a marked net
 abbrev past_leads : Rig → Cone → List Bool → (net : ℕ) → Bool
@@ -370,7 +340,7 @@ variables_are r f cone leading shown rig table before flags live cells ports =
         let leads = before.sound found.0 found.1.0 in
         variable_from (Cell c) found.0 leads.to (sym (rig.shows found.0 c) ∙ found.1.1) leads.among leads.walk
     sound (Port net) is = elim (leb_tells (length r.design.now.nets) net) [
-      | inl out ↦ elim (or_either (is_among net (ends_in r cone)) (reads_in r.steps.items leading net) (sym (port_past net out.1) ∙ is)) [
+      | inl out ↦ elim (either_up (is_among net (ends_in r cone)) (reads_in r.steps.items leading net) (sym (port_past net out.1) ∙ is)) [
         | inl end ↦ variable_from (Port net) net net (eq-eqb net net refl) end walks.Here
         | inr read ↦ (let found = read_net r.steps.items leading net read in
             let leads = before.sound found.0 found.1.0 in
@@ -388,7 +358,7 @@ variables_are r f cone leading shown rig table before flags live cells ports =
     past_end net leads = elim (path_first (steps_at r.steps.items) net leads.to (path_of r f net leads.to rig leads.walk)) [
       | inl same ↦ ap (λ (b : Bool). b || reads_in r.steps.items leading net) (ap (λ (k : ℕ). is_among k (ends_in r cone)) same ∙ leads.among)
       | inr first ↦ (let less = step_live r net first.0 first.1.0 in
-          or_second (is_among net (ends_in r cone)) (reads_in r.steps.items leading net)
+          or_right (is_among net (ends_in r cone)) (reads_in r.steps.items leading net)
           (net_read r.steps.items leading net first.0 (before.whole first.0 (omega (arith, less, table)) (record { to = leads.to; among = leads.among; walk = walk_of r f first.0 leads.to rig first.1.1 })) first.1.0))
     ]
 

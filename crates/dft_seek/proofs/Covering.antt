@@ -7,6 +7,7 @@ use Rattle.std.proofs.lemmas.Option.{none-some, same_Some}
 use Rattle.dft_base.specs.declared.tri.Tri.{Tri}
 use Rattle.dft_base.specs.declared.tri.Tri.TheVariants.{Zero, One, Unknown}
 use Rattle.dft_base.specs.Tri.{known, AboveTri}
+use Rattle.dft_base.proofs.BitLemmas.{true_false}
 use Rattle.dft_cells.proofs.Completions.{above_self}
 use Rattle.dft_netlist.specs.declared.ids.NetId.{NetId}
 use Rattle.dft_netlist.specs.declared.ids.InstanceId.{InstanceId}
@@ -278,9 +279,6 @@ reached_point s rank cone g b can none is_cone are some =
     (unreached_same s rank g b can none are point (λ reached. let e : false ≡ true = sym not_chosen ∙ is_cone.points.whole point reached in let f : ⊥ = cc in f)))
     (points_of s) some))
 
-fails : (b : Bool) → b ≡ true → b ≡ false → ⊥
-fails b is other = let e : true ≡ false = sym is ∙ other in let f : ⊥ = cc in f
-
 -- the stuck net keeps the fault's value where more is known
 stays_more : (s : Search) (rank : ℕ → ℕ) (g h : Given) (a b : Both) → CanSeek s rank → Completes g h → AreBoth s g a → AreBoth s h b → site_stays s a ≡ true → site_stays s b ≡ true
 stays_more s rank g h a b can more are also stays =
@@ -297,10 +295,10 @@ stays_more s rank g h a b can more are also stays =
 leaf_fails : (s : Search) (rank : ℕ → ℕ) (cone : Cone) (bits : List Bool) (g : Given) (a b : Both) → CanSeek s rank → HasNoScanPins s → IsCone s cone → Completes (node_at cone.variables bits) g → AreBoth s (node_at cone.variables bits) a → AreBoth s g b →
     (x y z : Bool) → site_stays s a ≡ x → list_all (agrees_at s (node_at cone.variables bits) a) cone.points ≡ y → is_whole cone.variables bits ≡ z → is_found s cone bits a ≡ false → (x || (y || z)) ≡ true → Passing (detects_at s g b) cone.points → ⊥
 leaf_fails s rank cone bits g a b can none is_cone more are also true y z stays agrees whole not_found is p =
-    fails (detects_at s g b p.point) p.passes (differ_apart (good_at s g b p.point) (faulty_at s g b p.point) (stays_same s rank g b can also (stays_more s rank (node_at cone.variables bits) g a b can more are also stays) p.point))
+    true_false (detects_at s g b p.point) p.passes (differ_apart (good_at s g b p.point) (faulty_at s g b p.point) (stays_same s rank g b can also (stays_more s rank (node_at cone.variables bits) g a b can more are also stays) p.point))
 leaf_fails s rank cone bits g a b can none is_cone more are also false true z stays agrees whole not_found is p =
     let node : Given = node_at cone.variables bits in
-    fails (detects_at s g b p.point) p.passes
+    true_false (detects_at s g b p.point) p.passes
     (agree_not (good_at s g b p.point) (faulty_at s g b p.point)
     (agree_stays (good_at s node a p.point) (faulty_at s node a p.point) (good_at s g b p.point) (faulty_at s g b p.point)
     (good_over s rank node g a b can more are also p.point) (faulty_over s rank node g a b can more are also p.point) (all_pass (agrees_at s node a) cone.points p.place p.point agrees p.at)))
@@ -309,7 +307,7 @@ leaf_fails s rank cone bits g a b can none is_cone more are also false false tru
     let moves : (cell : ℕ) → p.point ≡ Response cell → takes_at s true cell ≡ false → takes_at s false cell ≡ false → ⊥ = moves_not s p.point (all_pass (can_move s) cone.points p.place p.point (points_move s cone is_cone) p.at) in
     let good : good_at s node a p.point ≡ good_at s g b p.point = good_alike s rank cone bits g a b p.place p.point can none is_cone whole more are also p.at moves in
     let bad : faulty_at s node a p.point ≡ faulty_at s g b p.point = faulty_alike s rank cone bits g a b p.place p.point can none is_cone whole more are also p.at moves in
-    fails (detects_at s g b p.point) p.passes (sym (λ i. differ (good i) (bad i)) ∙ none_passes (detects_at s node a) cone.points p.place p.point not_found p.at)
+    true_false (detects_at s g b p.point) p.passes (sym (λ i. differ (good i) (bad i)) ∙ none_passes (detects_at s node a) cone.points p.place p.point not_found p.at)
 leaf_fails s rank cone bits g a b can none is_cone more are also false false false stays agrees whole not_found is p = absurd cc
 
 pub none_detects : NoneDetects

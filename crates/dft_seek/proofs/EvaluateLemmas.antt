@@ -14,6 +14,7 @@ use Rattle.dft_logic.specs.declared.circuit.Op.TheVariants as op
 use Rattle.dft_logic.specs.Circuit.{Circuit, IsCircuit, flag_at, meaning, op_at}
 use Rattle.dft_logic.specs.Tables.{list_at}
 use Rattle.dft_logic.specs.Values.{value_at}
+use Rattle.dft_logic.proofs.FlagLemmas.{down_all}
 use Rattle.dft_sweep.specs.declared.field.Stuck.{Stuck}
 use Rattle.dft_sweep.specs.Fields.{IsGivenBy, IsGivenIf, bit_at, is_needed, with_bit}
 use Rattle.dft_sweep.proofs.Sweeps.{given_any}
@@ -69,13 +70,6 @@ pub base_given : (r : Rig) (ports cells : ℕ → Tri) (values : List Tri) → I
 base_given r ports cells values rig no_port no_cell is = λ k. subst (λ (l : List Tri). IsGivenBy (means_of r.circuit None) (sources_in r ports cells) l k) (sym is)
     (rig.base.given k ∙ unknown_given r ports cells (value_at r.base.items) k (means_of r.circuit None k) no_port no_cell)
 
--- no flag is up
-pub none_up : (n k : ℕ) → flag_at (replicate n false) k ≡ false
-none_up n k = elim (leb_tells n k) [
-  | inl out ↦ get_or_past (replicate n false) k false (let past = out.1 in let e = length-replicate n false in omega (arith, past, e))
-  | inr less ↦ get_or-replicate n k false false less.1
-]
-
 -- where all nets are marked only what is past the end has its value
 pub base_near : (x : Circuit) (sources : TriSources) (values : List Tri) (marked : List Bool) (k : ℕ) → length values ≡ length x.ops → marked ≡ replicate (length x.ops) true → flag_at marked k ≡ false → IsGivenBy (means_of x None) sources values k
 base_near x sources values marked k size marks down = elim (leb_tells (length x.ops) k) [
@@ -89,7 +83,7 @@ pub base_settled : (r : Rig) (needed : List Bool) (t : Table) → IsRig r → t.
 base_settled r needed t rig values marks = record {
   values = ap (λ (l : List Tri). length l) values ∙ rig.base.size ∙ rig.nets;
   marked = ap (λ (l : List Bool). length l) marks ∙ length-replicate (length r.base.items) false ∙ rig.base.size ∙ rig.nets;
-  clear = λ k. ap (λ (l : List Bool). flag_at l k) marks ∙ none_up (length r.base.items) k;
+  clear = λ k. ap (λ (l : List Bool). flag_at l k) marks ∙ down_all (length r.base.items) k;
   settled = subst (IsSettledSome needed (means_of r.circuit None)) (sym values) (record { sources = sources_by r.resets.items r.holds.items (λ net. Unknown) (λ c. Unknown); given = λ k needs. rig.base.given k });
 }
 

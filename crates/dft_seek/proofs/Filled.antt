@@ -1,19 +1,15 @@
 -- Tables that are filled from the front, and flags that are raised.
-use Rattle.std.proofs.Common.{ℕ, zero, suc, ◌+◌, ◌≡◌, ◌<◌, ◌≤◌, ◌==◌, ◌||◌, ◌&&◌, Bool, true, false, List, [], ◌∷◌, ◌++◌, length, get_or, slice_get, take, drop, Some, append_assoc, append-nil, slice_set, inl, inr, refl, sym, subst, ap, arith, ◌∙◌, get_or-set_same, get_or-set_other}
-use Rattle.std.specs.Global.{Vec}
-use Rattle.std.specs.Vec.{with_items}
+use Rattle.std.proofs.Common.{ℕ, zero, suc, ◌+◌, ◌≡◌, ◌<◌, ◌≤◌, ◌==◌, ◌||◌, Bool, true, false, List, [], ◌∷◌, ◌++◌, length, get_or, slice_get, take, drop, Some, append_assoc, append-nil, slice_set, inl, inr, refl, sym, subst, ap, arith, ◌∙◌, get_or-set_same, get_or-set_other}
 use Rattle.std.specs.List.{AllByRecursion}
 use Rattle.std.proofs.lemmas.Bool.Decides.{eqb_tells}
-use Rattle.std.proofs.lemmas.List.{get_or_append_left, drop_all, get_or_push, length-set, take_all, with_items_is}
+use Rattle.std.proofs.lemmas.List.{get_or_append_left, drop_all, get_or_push, length-set, take_all}
 use Rattle.std.proofs.lemmas.List.Folds.{list_any_more}
-use Rattle.dft_base.proofs.BitLemmas.{or_false}
-use Rattle.dft_base.proofs.ListLemmas.{drop_at}
+use Rattle.dft_base.proofs.BitLemmas.{or_false, or_assoc}
+use Rattle.dft_base.proofs.ListLemmas.{drop_at, marked}
 use Rattle.dft_netlist.specs.declared.ids.InstanceId.{InstanceId}
-use Rattle.dft_rules.proofs.MarkLemmas.{marked}
 use Rattle.dft_expect.specs.Loaded.{all_cells}
 use Rattle.dft_logic.specs.Circuit.{flag_at}
 use Rattle.dft_seek.specs.Searches.{has_cell}
-use Rattle.dft_seek.proofs.ShownLemmas.{or_assoc}
 
 -- one place more of a table
 pub filled_more : {X : Type 0} (P : ℕ → X → Type 0) (old new : List X) (x d : X) (n : ℕ) → length old ≡ n → new ≡ old ++ x ∷ [] → ((k : ℕ) → k < n → P k (get_or old k d)) → P n x → (k : ℕ) → k < n + 1 → P k (get_or new k d)
@@ -73,14 +69,6 @@ written_more {X} f values d t j live is before k less = elim (eqb_tells k j) [
   | inr other ↦ get_or-set_other values j k t d other.1 ∙ before k (let far = other.1 in omega (arith, less, far))
 ]
 
--- a vector that was lent whole has as many items as before
-pub refilled : {X : Type 0} (v : Vec X) (ws : List X) → length (with_items v ws).items ≡ length v.items
-refilled v ws = sym (with_items v ws).ok.0 ∙ v.ok.0
-
--- its items
-pub filled : {X : Type 0} (v : Vec X) (ws rs : List X) → length ws ≡ length rs → rs ≡ v.items → (with_items v ws).items ≡ ws
-filled v ws rs a e = with_items_is v ws (a ∙ ap length e ∙ sym v.ok.0)
-
 -- ---- the cells of chains
 
 -- one chain more
@@ -91,7 +79,3 @@ chains_more chains k cells old new all at push before =
 
 pub chains_all : (chains : List (List InstanceId)) (k : ℕ) (old all : List InstanceId) → length chains ≤ k → old ++ all_cells (drop k chains) ≡ all → old ≡ all
 chains_all chains k old all past before = sym (append-nil old) ∙ ap (λ (l : List (List InstanceId)). old ++ all_cells l) (sym (drop_all k chains past)) ∙ before
-
-pub and_false : (a : Bool) → (a && false) ≡ false
-and_false true = refl
-and_false false = refl

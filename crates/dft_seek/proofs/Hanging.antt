@@ -7,6 +7,7 @@ use Rattle.std.proofs.lemmas.Bool.Decides.{eqb_tells}
 use Rattle.dft_base.specs.declared.tri.Tri.{Tri}
 use Rattle.dft_base.specs.declared.tri.Tri.TheVariants.{One}
 use Rattle.dft_base.specs.Tri.{known, AboveTri}
+use Rattle.dft_base.proofs.BitLemmas.{or_right}
 use Rattle.dft_netlist.specs.declared.ids.NetId.{NetId}
 use Rattle.dft_netlist.specs.declared.ids.InstanceId.{InstanceId}
 use Rattle.dft_netlist.specs.Netlist.{Netlist}
@@ -40,10 +41,6 @@ same_is (Cell c) (Port d) is = absurd cc
 same_is (Port c) (Cell d) is = absurd cc
 same_is (Port c) (Port d) is = ap Port (eqb-true c d is)
 
-or_last : (a b : Bool) → b ≡ true → (a || b) ≡ true
-or_last true b is = refl
-or_last false b is = is
-
 chosen_has : (chosen : Variable → Bool) (v : Variable) → chosen v ≡ true → (all : List Variable) → has_variable all v ≡ true → has_variable (filter chosen all) v ≡ true
 chosen_has chosen v is [] has = has
 chosen_has chosen v is (w ∷ ws) has = by (same_variable w v) refl (chosen w) refl (chosen_has chosen v is ws)
@@ -54,7 +51,7 @@ chosen_has chosen v is (w ∷ ws) has = by (same_variable w v) refl (chosen w) r
     by : (x : Bool) → same_variable w v ≡ x → (c : Bool) → chosen w ≡ c → (has_variable ws v ≡ true → has_variable (filter chosen ws) v ≡ true) → has_variable (if c then w ∷ filter chosen ws else filter chosen ws) v ≡ true
     by true same true it below = ap (λ (b : Bool). b || has_variable (filter chosen ws) v) same
     by true same false it below = absurd (let e : false ≡ true = sym it ∙ ap chosen (same_is w v same) ∙ is in let f : ⊥ = cc in f)
-    by false other true it below = or_last (same_variable w v) (has_variable (filter chosen ws) v) (below (rest other))
+    by false other true it below = or_right (same_variable w v) (has_variable (filter chosen ws) v) (below (rest other))
     by false other false it below = below (rest other)
 
 has_left : (v : Variable) (xs ys : List Variable) → has_variable xs v ≡ true → has_variable (xs ++ ys) v ≡ true
@@ -67,7 +64,7 @@ has_left v (x ∷ xs) ys has = by (same_variable x v) (has_variable xs v) (has_l
 
 has_right : (v : Variable) (xs ys : List Variable) → has_variable ys v ≡ true → has_variable (xs ++ ys) v ≡ true
 has_right v [] ys has = has
-has_right v (x ∷ xs) ys has = or_last (same_variable x v) (has_variable (xs ++ ys) v) (has_right v xs ys has)
+has_right v (x ∷ xs) ys has = or_right (same_variable x v) (has_variable (xs ++ ys) v) (has_right v xs ys has)
 
 cell_has : (c : ℕ) (cells : List InstanceId) → has_cell cells c ≡ true → has_variable (map (λ cell. Cell cell.0) cells) (Cell c) ≡ true
 cell_has c [] has = has
@@ -88,7 +85,7 @@ port_has f net is (x ∷ bits) has = by (x.0 == net) refl (f x.0) refl (port_has
         has_variable (map (λ bit. Port bit.0) (if c then x ∷ filter (λ bit. f bit.0) bits else filter (λ bit. f bit.0) bits)) (Port net) ≡ true
     by true same true it below = ap (λ (b : Bool). b || has_variable (map (λ bit. Port bit.0) (filter (λ bit. f bit.0) bits)) (Port net)) same
     by true same false it below = absurd (let e : false ≡ true = sym it ∙ ap f (eqb-true x.0 net same) ∙ is in let g : ⊥ = cc in g)
-    by false other true it below = or_last (x.0 == net) (has_variable (map (λ bit. Port bit.0) (filter (λ bit. f bit.0) bits)) (Port net)) (below (rest other))
+    by false other true it below = or_right (x.0 == net) (has_variable (map (λ bit. Port bit.0) (filter (λ bit. f bit.0) bits)) (Port net)) (below (rest other))
     by false other false it below = below (rest other)
 
 -- a scanned cell and a drivable port can be variables

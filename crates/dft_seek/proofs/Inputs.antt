@@ -6,7 +6,6 @@ use Rattle.dft_base.specs.declared.dir.Dir.{Dir}
 use Rattle.dft_base.specs.declared.dir.Dir.TheVariants as dir
 use Rattle.dft_cells.specs.declared.cell.Cell.{Cell}
 use Rattle.dft_cells.specs.declared.kind.Kind.{Kind}
-use Rattle.dft_cells.specs.declared.kind.Kind.TheVariants.{Buf, Inv, And, Nand, Or, Nor, Xor, Xnor, Mux2, Table, Tie0, Tie1, Dff, Dffr, Dffs, Sdff, Sdffr, Sdffs, Lockup, Opaque}
 use Rattle.dft_cells.specs.declared.kind.Role.{Role}
 use Rattle.dft_cells.specs.declared.kind.Role.TheVariants as role
 use Rattle.dft_netlist.specs.declared.ids.NetId.{NetId}
@@ -19,6 +18,7 @@ use Rattle.dft_netlist.specs.Netlist.{Netlist}
 use Rattle.dft_netlist.specs.Connections.{is_input}
 use Rattle.dft_netlist.specs.Drivers.{Source, Driver, Driven, Connection, at_role, at_signal, connections_of, driven_by, driven_by_bits, driven_by_instances, driven_by_joins, driven_by_pins, driven_by_ports, driver, driver_in, driver_of_kind, inputs_of, shape_of}
 use Rattle.dft_netlist.specs.Drivers as drivers
+use Rattle.dft_netlist.proofs.LookUpLemmas.{kind_is_no_input}
 use Rattle.dft_seek.specs.Searches.{bits_in, input_bits}
 
 -- none of these is a bit of an input port
@@ -30,36 +30,14 @@ none-append : (xs ys : List Driven) → NoInputs xs → NoInputs ys → NoInputs
 none-append [] ys h k = k
 none-append (x ∷ xs) ys h k = (h.0, none-append xs ys h.1 k)
 
-kind_inner : (k : Kind) (i : ℕ) (inverted : Bool) (inputs : List Source) → is_input (driver_of_kind k i inverted inputs) ≡ false
-kind_inner Opaque i inverted inputs = refl
-kind_inner Lockup i inverted inputs = refl
-kind_inner Dff i inverted inputs = refl
-kind_inner Dffr i inverted inputs = refl
-kind_inner Dffs i inverted inputs = refl
-kind_inner Sdff i inverted inputs = refl
-kind_inner Sdffr i inverted inputs = refl
-kind_inner Sdffs i inverted inputs = refl
-kind_inner Buf i inverted inputs = refl
-kind_inner Inv i inverted inputs = refl
-kind_inner And i inverted inputs = refl
-kind_inner Nand i inverted inputs = refl
-kind_inner Or i inverted inputs = refl
-kind_inner Nor i inverted inputs = refl
-kind_inner Xor i inverted inputs = refl
-kind_inner Xnor i inverted inputs = refl
-kind_inner Mux2 i inverted inputs = refl
-kind_inner (Table number) i inverted inputs = refl
-kind_inner Tie0 i inverted inputs = refl
-kind_inner Tie1 i inverted inputs = refl
-
 signal_inner : (to : Signal) (d : Driver) → is_input d ≡ false → NoInputs (at_signal to d)
 signal_inner (signal.Net net) d inner = (inner, tt)
 signal_inner (signal.Constant bit) d inner = tt
 signal_inner signal.Unconnected d inner = tt
 
 role_inner : (r : Role) (k : Kind) (i : ℕ) (inputs : List Source) (to : Signal) → NoInputs (at_role r k i inputs to)
-role_inner role.Output k i inputs to = signal_inner to (driver_of_kind k i false inputs) (kind_inner k i false inputs)
-role_inner role.Inverted k i inputs to = signal_inner to (driver_of_kind k i true inputs) (kind_inner k i true inputs)
+role_inner role.Output k i inputs to = signal_inner to (driver_of_kind k i false inputs) (kind_is_no_input k i false inputs)
+role_inner role.Inverted k i inputs to = signal_inner to (driver_of_kind k i true inputs) (kind_is_no_input k i true inputs)
 role_inner role.Input k i inputs to = tt
 role_inner role.Clock k i inputs to = tt
 role_inner role.Din k i inputs to = tt

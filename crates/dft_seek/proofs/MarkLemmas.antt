@@ -4,6 +4,7 @@ use Rattle.std.specs.List.{list_any}
 use Rattle.std.proofs.lemmas.Bool.{eqb-true}
 use Rattle.std.proofs.lemmas.Bool.Decides.{eqb_tells, leb_tells}
 use Rattle.std.proofs.lemmas.List.{length-set, get_or_past, drop_all, take_all, take_more}
+use Rattle.dft_base.proofs.BitLemmas.{both_down}
 use Rattle.dft_netlist.specs.declared.ids.NetId.{NetId}
 use Rattle.dft_netlist.specs.Orders.{numbers_of}
 use Rattle.dft_logic.specs.Circuit.{flag_at}
@@ -17,17 +18,9 @@ or_false : (a : Bool) → (a || false) ≡ true → a ≡ true
 or_false true is = refl
 or_false false is = is
 
-either_up : (a b : Bool) → (a || b) ≡ true → (a ≡ true) ⊎ (b ≡ true)
+pub either_up : (a b : Bool) → (a || b) ≡ true → (a ≡ true) ⊎ (b ≡ true)
 either_up true b is = inl refl
 either_up false b is = inr is
-
-neither_up : (a b : Bool) → (a || b) ≡ false → (a ≡ false) × (b ≡ false)
-neither_up true b is = absurd cc
-neither_up false b is = (refl, is)
-
-not_up : (a : Bool) → (a ≡ true → ⊥) → a ≡ false
-not_up true never = absurd (never refl)
-not_up false never = refl
 
 -- a flag that is up is there
 pub up_live : (flags : List Bool) (k : ℕ) → flag_at flags k ≡ true → k < length flags
@@ -39,7 +32,7 @@ up_live flags k is = elim (leb_tells (length flags) k) [
 pub among_one : (k net : ℕ) → is_among k (net ∷ []) ≡ true → k ≡ net
 among_one k net is = sym (eqb-true net k (or_false (net == k) is))
 
-among_either : (k : ℕ) (xs ys : List ℕ) → is_among k (xs ++ ys) ≡ true → (is_among k xs ≡ true) ⊎ (is_among k ys ≡ true)
+pub among_either : (k : ℕ) (xs ys : List ℕ) → is_among k (xs ++ ys) ≡ true → (is_among k xs ≡ true) ⊎ (is_among k ys ≡ true)
 among_either k [] ys is = inr is
 among_either k (x ∷ xs) ys is = by (x == k) (is_among k (xs ++ ys)) (is_among k xs) (among_either k xs ys) is
   where
@@ -68,7 +61,7 @@ pub grows_join : (a b c : List Bool) (p q : Bool) → Grows a b p → Grows b c 
 grows_join a b c p q one two = record {
   size = two.size ∙ one.size;
   kept = λ k up. two.kept k (one.kept k up);
-  still = λ is. two.still (neither_up p q is).1 ∙ one.still (neither_up p q is).0;
+  still = λ is. two.still (both_down p q is).1 ∙ one.still (both_down p q is).0;
   grows = omega (arith, one.grows, two.grows);
   more = λ is. elim (either_up p q is) [
     | inl fresh ↦ (let first = one.more fresh in omega (arith, first, two.grows))
@@ -144,7 +137,7 @@ path_join steps a b c one Here = one
 path_join steps a b c one (Onward {by = by} two step) = Onward (path_join steps a b by one two) step
 
 -- one of the nets from which a walk goes on is marked
-any_among : (flags : List Bool) (nets : List ℕ) → list_any (flag_at flags) nets ≡ true → (k : ℕ) × ((flag_at flags k ≡ true) × (is_among k nets ≡ true))
+pub any_among : (flags : List Bool) (nets : List ℕ) → list_any (flag_at flags) nets ≡ true → (k : ℕ) × ((flag_at flags k ≡ true) × (is_among k nets ≡ true))
 any_among flags [] is = absurd (true≢false (sym is))
 any_among flags (x ∷ nets) is = elim (either_up (flag_at flags x) (list_any (flag_at flags) nets) is) [
   | inl here ↦ (x, (here, among_here x nets))
@@ -188,10 +181,10 @@ spreads_join steps a b c xs ys p q one two = record {
   grown = grows_join a b c p q one.grown two.grown;
   only = λ k up. behind_more steps a b k one.only (two.only k up);
   closed = λ is k among less any.
-      (let same : c ≡ b = two.grown.still (neither_up p q is).1 in
+      (let same : c ≡ b = two.grown.still (both_down p q is).1 in
       elim (among_either k xs ys among) [
-        | inl first ↦ two.grown.kept k (one.closed (neither_up p q is).0 k first less (ap (λ (flags : List Bool). list_any (flag_at flags) (steps k)) (sym same) ∙ any))
-        | inr second ↦ two.closed (neither_up p q is).1 k second (let e = one.grown.size in omega (arith, less, e)) any
+        | inl first ↦ two.grown.kept k (one.closed (both_down p q is).0 k first less (ap (λ (flags : List Bool). list_any (flag_at flags) (steps k)) (sym same) ∙ any))
+        | inr second ↦ two.closed (both_down p q is).1 k second (let e = one.grown.size in omega (arith, less, e)) any
       ]);
 }
 
@@ -268,11 +261,11 @@ draws_more steps net nets a b c p q one two = record {
   grown = grows_join a b c p q one.grown two.grown;
   only = λ k up. before_more steps a b k one.only (two.only k up);
   closed = λ is k among up from step less.
-      (let same : c ≡ b = two.grown.still (neither_up p q is).1 in
-      let last : (net == k) ≡ true → flag_at c from ≡ true = λ q_is. two.closed (neither_up p q is).1 k (ap (λ (b : Bool). b || false) q_is) up from step (let e = one.grown.size in omega (arith, less, e)) in
+      (let same : c ≡ b = two.grown.still (both_down p q is).1 in
+      let last : (net == k) ≡ true → flag_at c from ≡ true = λ q_is. two.closed (both_down p q is).1 k (ap (λ (b : Bool). b || false) q_is) up from step (let e = one.grown.size in omega (arith, less, e)) in
       elim (either_up (net == k) (is_among k nets) among) [
         | inl first ↦ last first
-        | inr second ↦ two.grown.kept from (one.closed (neither_up p q is).0 k second (ap (λ (flags : List Bool). flag_at flags k) (sym same) ∙ up) from step less)
+        | inr second ↦ two.grown.kept from (one.closed (both_down p q is).0 k second (ap (λ (flags : List Bool). flag_at flags k) (sym same) ∙ up) from step less)
       ]);
 }
 

@@ -9,6 +9,8 @@ use Rattle.std.proofs.lemmas.List.Folds.{list_any-append, list_all-append}
 use Rattle.std.proofs.Common.{length-append}
 use Rattle.dft_base.specs.declared.tri.Tri.{Tri}
 use Rattle.dft_base.specs.declared.tri.Tri.TheVariants.{One, Unknown}
+use Rattle.dft_base.proofs.NumberLemmas.{other_test}
+use Rattle.dft_base.proofs.ListLemmas.{any_map}
 use Rattle.dft_netlist.specs.declared.ids.NetId.{NetId}
 use Rattle.dft_netlist.specs.declared.ids.InstanceId.{InstanceId}
 use Rattle.dft_netlist.specs.Netlist.{Netlist}
@@ -109,9 +111,6 @@ good_given r f g ports cells state v net rig of_ports of_cells given =
     given ∙ given_as r ports cells (port_values (search_in r f) g) state (value_at v) net (meaning (op_at r.circuit.ops net)) (port_as r f g ports net rig of_ports) of_cells
     ∙ ap (value_given (sources_at (port_values (search_in r f) g) state) (value_at v) net) (rig.means net)
 
-not_same : (a b : ℕ) → (a ≡ b → ⊥) → (b == a) ≡ false
-not_same a b other = elim (eqb_tells b a) [ inl same ↦ absurd (other (sym same.1)) | inr apart ↦ apart.0 ]
-
 -- that of one of the design with the fault
 bad_given : (r : Rig) (f : Fault) (g : Given) (ports cells state : ℕ → Tri) (v : List Tri) (net : ℕ) → IsRig r → IsFault r.design.now f → ((net : ℕ) → net < length r.design.now.nets → ports net ≡ g.ports net) →
     ((c : ℕ) → flag_at r.holds.items c ≡ true → cells c ≡ state c) → IsGivenBy (means_of r.circuit (stuck_of f)) (sources_in r ports cells) v net →
@@ -123,7 +122,7 @@ bad_given r f g ports cells state v net rig fault of_ports of_cells its =
     let from : Driver → Tri = λ d. value_given (sources_at (port_values s g) state) (value_at v) net (meaning_in (moving_of s) net d) in
     elim (eqb_tells net f.net.0) [
       | inl same ↦ its ∙ ap given (eq-eqb f.net.0 net (sym same.1)) ∙ sym (ap from (stuck_driver s net fault same.0))
-      | inr other ↦ its ∙ ap given (not_same net f.net.0 other.1) ∙ given_as r ports cells (port_values s g) state (value_at v) net m (port_as r f g ports net rig of_ports) of_cells
+      | inr other ↦ its ∙ ap given (other_test net f.net.0 other.1) ∙ given_as r ports cells (port_values s g) state (value_at v) net m (port_as r f g ports net rig of_ports) of_cells
           ∙ ap (value_given (sources_at (port_values s g) state) (value_at v) net) (rig.means net) ∙ sym (ap from (other_driver s net fault other.0))
     ]
 
@@ -272,10 +271,6 @@ captured_as r f n g first after c rig next takes = by (takes_at s true c) (takes
 
 -- ---- lists of points
 
-any_mapped : {A B : Type 0} (test : B → Bool) (g : A → B) (xs : List A) → list_any test (map g xs) ≡ list_any (λ x. test (g x)) xs
-any_mapped test g [] = refl
-any_mapped test g (x ∷ xs) = ap (λ (b : Bool). test (g x) || b) (any_mapped test g xs)
-
 all_mapped : {A B : Type 0} (test : B → Bool) (g : A → B) (xs : List A) → list_all test (map g xs) ≡ list_all (λ x. test (g x)) xs
 all_mapped test g [] = refl
 all_mapped test g (x ∷ xs) = ap (λ (b : Bool). test (g x) && b) (all_mapped test g xs)
@@ -318,7 +313,7 @@ found_same r f cone bits v rig taking =
     let g : Given = node_at (cone_of cone).variables bits in
     let test : Point → Bool = detects_at s g (told_by v) in
     list_any-append test (map (λ net. Output net.0) cone.outputs.items) (map (λ cell. Response cell.0) cone.responses.items)
-    ∙ (λ t. any_mapped test (λ (net : NetId). Output net.0) cone.outputs.items t || any_mapped test (λ (cell : InstanceId). Response cell.0) cone.responses.items t)
+    ∙ (λ t. any_map test (λ (net : NetId). Output net.0) cone.outputs.items t || any_map test (λ (cell : InstanceId). Response cell.0) cone.responses.items t)
     ∙ ap (λ (x : Bool). list_any (λ net. differ (value_at v.good.values.items net.0) (value_at v.bad.values.items net.0)) cone.outputs.items || x)
     (any_alike (λ (cell : InstanceId). (takes_at s false cell.0 || takes_at s true cell.0) ≡ true) (λ cell. test (Response cell.0))
     (λ cell. differ (captured_at r v.good.values.items v.good_after.values.items cell.0) (captured_at r v.bad.values.items v.bad_after.values.items cell.0)) cone.responses.items taking

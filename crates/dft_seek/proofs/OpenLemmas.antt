@@ -8,6 +8,7 @@ use Rattle.std.proofs.lemmas.List.{drop_all, get_or-replicate, get_or_past, leng
 use Rattle.dft_base.specs.declared.tri.Tri.{Tri}
 use Rattle.dft_base.specs.declared.tri.Tri.TheVariants.{One, Unknown}
 use Rattle.dft_base.specs.Tri.{known}
+use Rattle.dft_base.proofs.ListLemmas.{refilled_items}
 use Rattle.dft_netlist.specs.declared.ids.NetId.{NetId}
 use Rattle.dft_netlist.specs.declared.ids.InstanceId.{InstanceId}
 use Rattle.dft_netlist.specs.Logic.{Meaning, Input, Clock, Gate, Joined, Flop, Lockup, Free}
@@ -30,7 +31,6 @@ use Rattle.dft_seek.specs.declared.cones.Cone.{Cone}
 use Rattle.dft_seek.specs.declared.looking.Table.{Table}
 use Rattle.dft_seek.specs.declared.looking.Values.{Values}
 use Rattle.dft_seek.specs.declared.rig.Rig.{Rig}
-use Rattle.dft_seek.proofs.Filled.{filled}
 use Rattle.dft_seek.proofs.BitPlaces.{cell_grown, cell_shrunk, port_grown, port_shrunk}
 
 -- ---- marks
@@ -71,7 +71,7 @@ put_past old new place value is past = get_or_past old place Unknown past ∙ sy
 
 -- what is put into a vector that was lent
 pub put_lent : (v : Vec Tri) (ws rs : List Tri) (place : ℕ) (value : Tri) → rs ≡ v.items → IsPut rs ws place value → IsPut v.items (with_items v ws).items place value
-put_lent v ws rs place value same is = subst (λ (l : List Tri). IsPut v.items l place value) (sym (filled v ws rs is.size same)) (subst (λ (l : List Tri). IsPut l ws place value) same is)
+put_lent v ws rs place value same is = subst (λ (l : List Tri). IsPut v.items l place value) (sym (refilled_items v ws rs is.size same)) (subst (λ (l : List Tri). IsPut l ws place value) same is)
 
 -- a net of the circuit that shows a flip-flop is told
 shows : (r : Rig) (k c : ℕ) (inverted : Bool) → IsRig r → c < length r.design.now.instances → meaning (op_at r.circuit.ops k) ≡ Flop c inverted → Has (list_at r.showing.items c) k

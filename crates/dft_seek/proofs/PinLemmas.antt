@@ -1,10 +1,11 @@
 -- Next values by pins: a stuck net leaves the pins that a flip-flop reads, and the values at them decide.
 use Rattle.std.proofs.Common.{ℕ, suc, ◌≡◌, ◌==◌, Bool, true, false, ◌||◌, List, [], ◌∷◌, ◌++◌, Option, None, Some, option_map, slice_get, map, refl, sym, ap, ◌∙◌}
 use Rattle.std.specs.Prelude.{if◌then◌else◌}
-use Rattle.std.proofs.lemmas.Bool.{eq-eqb}
+use Rattle.std.proofs.lemmas.Bool.{eq-eqb, or_left}
 use Rattle.std.proofs.lemmas.Option.{slice_get-map}
 use Rattle.dft_base.specs.declared.tri.Tri.{Tri}
 use Rattle.dft_base.specs.Tri.{known}
+use Rattle.dft_base.proofs.BitLemmas.{or_right}
 use Rattle.dft_cells.specs.declared.cell.Cell.{Cell}
 use Rattle.dft_cells.specs.declared.kind.Role.{Role}
 use Rattle.dft_cells.specs.declared.kind.Role.TheVariants as role
@@ -67,14 +68,6 @@ next_stays n f values c =
 
 -- ---- what is among nets
 
-pub or_left : (a b : Bool) → a ≡ true → (a || b) ≡ true
-or_left true b is = refl
-or_left false b is = absurd cc
-
-pub or_right : (a b : Bool) → b ≡ true → (a || b) ≡ true
-or_right true b is = refl
-or_right false b is = is
-
 pub among_here : (net : ℕ) (nets : List ℕ) → is_among net (net ∷ nets) ≡ true
 among_here net nets = or_left (net == net) (is_among net nets) (eq-eqb net net refl)
 
@@ -100,13 +93,10 @@ nets-append (Loose i pin ∷ xs) ys = nets-append xs ys
 abbrev pub AgreeAt : List ℕ → (a b : ℕ → Tri) → Type 0
 AgreeAt nets a b = (from : ℕ) → is_among from nets ≡ true → a from ≡ b from
 
-source_same : (source : Source) (a b : ℕ → Tri) → AgreeAt (nets_of (source ∷ [])) a b → value_from a source ≡ value_from b source
-source_same (Net net) a b same = same net (among_here net [])
-source_same (Tied bit) a b same = refl
-source_same (Loose i pin) a b same = refl
-
 pub one_source : (source : Source) (a b : ℕ → Tri) → AgreeAt (nets_of (source ∷ [])) a b → value_from a source ≡ value_from b source
-one_source source a b same = source_same source a b same
+one_source (Net net) a b same = same net (among_here net [])
+one_source (Tied bit) a b same = refl
+one_source (Loose i pin) a b same = refl
 
 pub all_sources : (inputs : List Source) (a b : ℕ → Tri) → AgreeAt (nets_of inputs) a b → map (value_from a) inputs ≡ map (value_from b) inputs
 all_sources [] a b same = refl
@@ -119,11 +109,11 @@ all_sources (Loose i pin ∷ inputs) a b same = λ t. value_from a (Loose i pin)
 
 forced_same : (value : Bool) (o : Option Source) (a b : ℕ → Tri) (t u : Tri) → AgreeAt (nets_of (listed o)) a b → t ≡ u → forced_by_pin value o a t ≡ forced_by_pin value o b u
 forced_same value None a b t u same e = e
-forced_same value (Some pin) a b t u same e = λ x. tri_forced value (source_same pin a b same x) (e x)
+forced_same value (Some pin) a b t u same e = λ x. tri_forced value (one_source pin a b same x) (e x)
 
 data_same : (i : ℕ) (o : Option Source) (a b : ℕ → Tri) → AgreeAt (nets_of (listed o)) a b → value_from a (or_loose i o) ≡ value_from b (or_loose i o)
 data_same i None a b same = refl
-data_same i (Some pin) a b same = source_same pin a b same
+data_same i (Some pin) a b same = one_source pin a b same
 
 -- without scan pins the next value hangs on the values at the data, reset and set pins alone
 pub next_same : (n : Netlist) (a b : ℕ → Tri) (c : ℕ) → scan_of (pin_of role.ScanEnable c (pins_of n c)) (pin_of role.ScanIn c (pins_of n c)) ≡ None → AgreeAt (taken_nets n c) a b → next_by_pins n a c ≡ next_by_pins n b c

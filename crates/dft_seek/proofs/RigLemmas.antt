@@ -8,6 +8,7 @@ use Rattle.std.proofs.lemmas.Bool.Decides.{leb_tells}
 use Rattle.std.proofs.lemmas.Slice.Eq.{bytes_eq-Decides}
 use Rattle.std.proofs.lemmas.Option.{none-some, same_Some}
 use Rattle.dft_base.specs.Lexing.{Text}
+use Rattle.dft_base.proofs.TextLemmas.{same_text}
 use Rattle.dft_cells.specs.FlipFlops.{is_flip_flop}
 use Rattle.dft_cells.specs.declared.kind.Role.TheVariants as role
 use Rattle.dft_netlist.specs.declared.ids.NetId.{NetId}
@@ -35,15 +36,9 @@ use Rattle.dft_logic.specs.Compiling.{ports_by}
 use Rattle.dft_capture.specs.Captures.{Moving, meaning_in}
 use Rattle.dft_seek.specs.Searches.{has_cell}
 use Rattle.dft_seek.specs.Rigs.{held_meaning}
+use Rattle.dft_seek.proofs.MarkLemmas.{either_up}
 
 -- ---- a clock is no reset
-
-either_up : (a b : Bool) → (a || b) ≡ true → (a ≡ true) ⊎ (b ≡ true)
-either_up true b is = inl refl
-either_up false b is = inr is
-
-same_bytes : (a b : Text) → bytes_eq a b ≡ true → a ≡ b
-same_bytes a b is = (bytes_eq-Decides a b).0 is
 
 bytes_same : (a : Text) → bytes_eq a a ≡ true
 bytes_same a = (bytes_eq-Decides a a).1 refl
@@ -54,7 +49,7 @@ name_there from (x ∷ nets) name k is = by (bytes_eq x name) refl (name_there (
   where
     by : (b : Bool) → bytes_eq x name ≡ b → (find_net_from (suc from) nets name ≡ Some k → (i : ℕ) × ((k.0 ≡ suc from + i) × (slice_get nets i ≡ Some name))) →
         (if b then Some (record { 0 = from }) else find_net_from (suc from) nets name) ≡ Some k → (i : ℕ) × ((k.0 ≡ from + i) × (slice_get (x ∷ nets) i ≡ Some name))
-    by true same below h = (0, (sym (ap (λ (n : NetId). n.0) (same_Some (record { 0 = from }) k h)) ∙ (let e : from ≡ from + 0 = omega arith in e), ap (λ (t : Text). Some t) (same_bytes x name same)))
+    by true same below h = (0, (sym (ap (λ (n : NetId). n.0) (same_Some (record { 0 = from }) k h)) ∙ (let e : from ≡ from + 0 = omega arith in e), ap (λ (t : Text). Some t) (same_text x name same)))
     by false other below h = (let found = below h in (suc found.0, (found.1.0 ∙ (let e : suc from + found.0 ≡ from + suc found.0 = omega arith in e), found.1.1)))
 
 found_named : (n : Netlist) (o : Option NetId) (k : NetId) → option_and_then (λ net. if is_input (driver n net.0) then Some net else None) o ≡ Some k → o ≡ Some k
@@ -66,7 +61,7 @@ found_named n (Some net) k is = by (is_input (driver n net.0)) is
     by false h = absurd (none-some k h)
 
 -- a name that stands for a net, as the bit of an input port, is the net's
-net_named : (n : Netlist) (net : ℕ) (name : Text) (o : Option NetId) → input_net n name ≡ o → is_net net o ≡ true → slice_get n.nets net ≡ Some name
+pub net_named : (n : Netlist) (net : ℕ) (name : Text) (o : Option NetId) → input_net n name ≡ o → is_net net o ≡ true → slice_get n.nets net ≡ Some name
 net_named n net name None is found = absurd (true≢false (sym found))
 net_named n net name (Some k) is found =
     let there = name_there 0 n.nets name k (found_named n (find_net n name) k is) in

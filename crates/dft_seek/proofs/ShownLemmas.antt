@@ -1,17 +1,13 @@
 -- One net more that may show a flip-flop.
-use Rattle.std.proofs.Common.{ℕ, zero, suc, ◌+◌, ◌≡◌, ◌<◌, ◌≤◌, Bool, true, false, ◌||◌, List, [], ◌∷◌, length, take, Option, refl, sym, ap, arith, ◌∙◌}
+use Rattle.std.proofs.Common.{ℕ, zero, suc, ◌+◌, ◌≡◌, ◌<◌, ◌≤◌, Bool, ◌||◌, List, [], ◌∷◌, length, take, Option, sym, ap, arith, ◌∙◌}
 use Rattle.std.specs.Prelude.{◌&&◌}
 use Rattle.std.proofs.lemmas.List.{take_all}
-use Rattle.dft_base.proofs.BitLemmas.{or_false}
+use Rattle.dft_base.proofs.BitLemmas.{or_false, or_assoc}
 use Rattle.dft_netlist.specs.declared.ids.InstanceId.{InstanceId}
 use Rattle.dft_logic.specs.Circuit.{flag_at}
 use Rattle.dft_seek.specs.Cones.{shown_in}
 use Rattle.dft_seek.specs.Rigs.{shows_in}
 use Rattle.dft_seek.specs.Steps.{shown_at}
-
-pub or_assoc : (a b c : Bool) → ((a || b) || c) ≡ (a || (b || c))
-or_assoc true b c = refl
-or_assoc false b c = refl
 
 shown_suc : (shows : List (Option InstanceId)) (marked : List Bool) (k c : ℕ) → k < length shows → k < length marked → shown_in (take (suc k) shows) (take (suc k) marked) c ≡ (shown_in (take k shows) (take k marked) c || (flag_at marked k && shows_in (shown_at shows k) c))
 shown_suc [] marked k c less within = absurd (omega (arith, less))

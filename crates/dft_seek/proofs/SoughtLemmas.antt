@@ -1,6 +1,7 @@
 -- What a search tells is determined, and its dead nodes are few.
-use Rattle.std.proofs.Common.{ℕ, zero, suc, ◌+◌, ◌*◌, ◌^◌, ◌≡◌, ◌≤◌, Bool, true, false, List, [], ◌∷◌, ◌++◌, length, filter, Option, None, refl, sym, subst, arith, ◌∙◌}
+use Rattle.std.proofs.Common.{ℕ, zero, suc, ◌+◌, ◌*◌, ◌^◌, ◌≡◌, ◌≤◌, Bool, true, false, List, [], ◌∷◌, ◌++◌, length, filter, Option, None, sym, subst, arith, ◌∙◌}
 use Rattle.std.proofs.Math.Nat.{pow-suc}
+use Rattle.dft_base.proofs.BitLemmas.{same_tests}
 use Rattle.dft_seek.specs.Searches.{Point, Search, points_of}
 use Rattle.dft_seek.specs.Walks.{AreVariables, Cone, IsCone, Variable, candidates}
 use Rattle.dft_seek.specs.Trees.{Tree, Hit, Miss, Left, Right}
@@ -10,21 +11,15 @@ use Rattle.dft_seek.proofs.TreeLemmas.{ends_there, longer, tree_one, whole_at}
 
 -- ---- one cone
 
--- two tests that tell the same are the same
-tests_same : (a b : Bool) → (a ≡ true → b ≡ true) → (b ≡ true → a ≡ true) → a ≡ b
-tests_same true b to from = sym (to refl)
-tests_same false true to from = from refl
-tests_same false false to from = refl
-
 points_one : (s : Search) (a b : Cone) → IsCone s a → IsCone s b → a.points ≡ b.points
 points_one s a b ia ib =
-    let same : ia.points.chosen ≡ ib.points.chosen = λ i point. tests_same (ia.points.chosen point) (ib.points.chosen point)
+    let same : ia.points.chosen ≡ ib.points.chosen = λ i point. same_tests (ia.points.chosen point) (ib.points.chosen point)
     (λ is. ib.points.whole point (ia.points.sound point is)) (λ is. ia.points.whole point (ib.points.sound point is)) i in
     ia.points.are ∙ (λ i. filter (same i) (points_of s)) ∙ sym ib.points.are
 
 variables_one : (s : Search) (points : List Point) (a b : List Variable) → AreVariables s points a → AreVariables s points b → a ≡ b
 variables_one s points a b va vb =
-    let same : va.chosen ≡ vb.chosen = λ i v. tests_same (va.chosen v) (vb.chosen v) (λ is. vb.whole v (va.sound v is)) (λ is. va.whole v (vb.sound v is)) i in
+    let same : va.chosen ≡ vb.chosen = λ i v. same_tests (va.chosen v) (vb.chosen v) (λ is. vb.whole v (va.sound v is)) (λ is. va.whole v (vb.sound v is)) i in
     va.are ∙ (λ i. filter (same i) (candidates s)) ∙ sym vb.are
 
 pub cone_one : ConeIsOne

@@ -1,9 +1,9 @@
 -- From a dead node to the next one, and what the course of a search tells.
 use Rattle.std.proofs.Common.{ℕ, ◌+◌, ◌≡◌, ◌<◌, ◌≤◌, inl, inr, Bool, true, false, List, [], ◌∷◌, ◌++◌, length, Option, None, Some, sym, subst, ap, arith, ◌∙◌, append_assoc, append-nil}
-use Rattle.std.specs.Prelude.{if◌then◌else◌, nat_lt}
-use Rattle.std.proofs.lemmas.Bool.{le-ltb, lt-ltb}
+use Rattle.std.specs.Prelude.{if◌then◌else◌}
 use Rattle.std.proofs.lemmas.Bool.Decides.{leb_tells}
 use Rattle.dft_base.specs.Lexing.{Text}
+use Rattle.dft_base.proofs.NumberLemmas.{not_less, is_less}
 use Rattle.dft_seek.specs.Searches.{Search}
 use Rattle.dft_seek.specs.Walks.{Cone, IsCone}
 use Rattle.dft_seek.specs.Laws.{CanSeek}
@@ -61,12 +61,6 @@ left_turned s cone so_far bits next left same = subst (LeftOf s cone so_far) sam
 
 -- ---- what is told
 
-not_past : (limit dead : ℕ) → dead ≤ limit → nat_lt limit dead ≡ false
-not_past limit dead few = le-ltb limit dead few
-
-is_past : (limit dead : ℕ) → limit < dead → nat_lt limit dead ≡ true
-is_past limit dead more = lt-ltb limit dead more
-
 -- a found node
 pub tells_cube : (s : Search) (cone : Cone) (limit so_far : ℕ) (name : Text) (old new : List Bool) → IsCone s cone → so_far ≤ limit → LeftOf s cone so_far (old ∷ pending old) → IsLeaf s cone old new true →
     IsSought s limit name (told name s.domain cone.variables (Some new))
@@ -76,7 +70,7 @@ tells_cube s cone limit so_far name old new is few left leaf = record {
   dead = so_far + 0;
   found = Some new;
   tree = left.leads 0 (Some new) (leaf.leads 0 (Some new) (at_found s cone new (pending new) leaf.looks));
-  is = sym (ap (λ (b : Bool). if b then found.Aborted else told name s.domain cone.variables (Some new)) (not_past limit (so_far + 0) (omega (arith, few))));
+  is = sym (ap (λ (b : Bool). if b then found.Aborted else told name s.domain cone.variables (Some new)) (not_less limit (so_far + 0) (omega (arith, few))));
 }
 
 -- no node left
@@ -88,7 +82,7 @@ tells_none s cone limit so_far name old new is few left leaf none = record {
   dead = (so_far + 1) + 0;
   found = None;
   tree = (left_dead s cone so_far old new left leaf).leads 0 None (subst (λ (nodes : List (List Bool)). Forest s cone nodes 0 None) (sym none) End);
-  is = sym (ap (λ (b : Bool). if b then found.Aborted else told name s.domain cone.variables None) (not_past limit ((so_far + 1) + 0) (omega (arith, few))));
+  is = sym (ap (λ (b : Bool). if b then found.Aborted else told name s.domain cone.variables None) (not_less limit ((so_far + 1) + 0) (omega (arith, few))));
 }
 
 -- one dead node more than the limit
@@ -101,7 +95,7 @@ tells_aborted s rank cone limit name old new can is left leaf =
       dead = (limit + 1) + rest.0;
       found = rest.1.0;
       tree = (left_dead s cone limit old new left leaf).leads rest.0 rest.1.0 rest.1.1;
-      is = sym (ap (λ (b : Bool). if b then found.Aborted else told name s.domain cone.variables rest.1.0) (is_past limit ((limit + 1) + rest.0) (omega arith)));
+      is = sym (ap (λ (b : Bool). if b then found.Aborted else told name s.domain cone.variables rest.1.0) (is_less limit ((limit + 1) + rest.0) (omega arith)));
     }
 
 -- ---- the bits of the next node

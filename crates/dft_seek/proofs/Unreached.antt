@@ -1,10 +1,11 @@
 -- A point that no walk reaches shows the same with the fault and without it; and so do all points where the stuck net has the fault's value by itself.
-use Rattle.std.proofs.Common.{ℕ, ◌≡◌, ◌==◌, Bool, true, false, ◌&&◌, ◌||◌, not, [], inl, inr, refl, sym, subst, ap, ◌∙◌}
+use Rattle.std.proofs.Common.{ℕ, ◌≡◌, ◌==◌, Bool, true, false, ◌||◌, not, [], inl, inr, refl, sym, subst, ap, ◌∙◌}
 use Rattle.std.specs.Prelude.{if◌then◌else◌}
 use Rattle.std.proofs.lemmas.Bool.Decides.{eqb_tells}
 use Rattle.dft_base.specs.declared.tri.Tri.{Tri}
 use Rattle.dft_base.specs.declared.tri.Tri.TheVariants.{Zero, One, Unknown}
 use Rattle.dft_base.specs.Tri.{known}
+use Rattle.dft_base.proofs.BitLemmas.{and_first, and_second}
 use Rattle.dft_netlist.specs.Netlist.{Netlist}
 use Rattle.dft_netlist.specs.Drivers.{Driver, Gate, Joined, Flop, Free, Tied, driver, IsOrdered}
 use Rattle.dft_netlist.specs.Drivers as drivers
@@ -95,14 +96,6 @@ settled_with_fault s ports state values fault stays settled net = elim (eqb_tell
   | inr other ↦ settled net ∙ sym (ap (λ (d : Driver). value_given (sources_at ports state) values net (meaning_in (moving_of s) net d)) (other_driver s net fault other.0))
 ]
 
-and_left : (a b : Bool) → (a && b) ≡ true → a ≡ true
-and_left true b h = refl
-and_left false b h = absurd cc
-
-and_right : (a b : Bool) → (a && b) ≡ true → b ≡ true
-and_right true b h = h
-and_right false b h = absurd cc
-
 or_not : (a b : Bool) → a ≡ true → (not a || b) ≡ true → b ≡ true
 or_not true b is h = h
 or_not false b is h = absurd cc
@@ -110,7 +103,7 @@ or_not false b is h = absurd cc
 stays_first : (s : Search) (rank : ℕ → ℕ) (g : Given) (b : Both) → CanSeek s rank → AreBoth s g b → site_stays s b ≡ true → b.good.first ≡ b.faulty.first
 stays_first s rank g b can are stays =
     let value : b.good.first s.fault.net.0 ≡ known s.fault.value =
-    bit_is s.fault.value (b.good.first s.fault.net.0) (and_left (is_bit s.fault.value (b.good.first s.fault.net.0)) (not (has_falling s) || is_bit s.fault.value (b.good.second s.fault.net.0)) stays) in
+    bit_is s.fault.value (b.good.first s.fault.net.0) (and_first (is_bit s.fault.value (b.good.first s.fault.net.0)) (not (has_falling s) || is_bit s.fault.value (b.good.second s.fault.net.0)) stays) in
     λ i net. settled_one (faulty s.design s.fault) (moving_of s) rank (port_values s g) g.cells b.good.first b.faulty.first (order_stays s.design s.fault rank can.is can.ordered)
     (settled_with_fault s (port_values s g) g.cells b.good.first can.is value are.good.first) are.faulty.first net i
 
@@ -127,7 +120,7 @@ stays_second s rank g b can are stays falls =
     let ports : ℕ → Tri = port_values s g in
     let value : b.good.second s.fault.net.0 ≡ known s.fault.value =
     bit_is s.fault.value (b.good.second s.fault.net.0)
-    (or_not (has_falling s) (is_bit s.fault.value (b.good.second s.fault.net.0)) falls (and_right (is_bit s.fault.value (b.good.first s.fault.net.0)) (not (has_falling s) || is_bit s.fault.value (b.good.second s.fault.net.0)) stays)) in
+    (or_not (has_falling s) (is_bit s.fault.value (b.good.second s.fault.net.0)) falls (and_second (is_bit s.fault.value (b.good.first s.fault.net.0)) (not (has_falling s) || is_bit s.fault.value (b.good.second s.fault.net.0)) stays)) in
     let settled : IsSettledFrom bad m ports (after_moves s.design m.rises b.good.first g.cells) b.good.second =
     settled_with_fault s ports (after_moves s.design m.rises b.good.first g.cells) b.good.second can.is value are.good.second in
     let moved : IsSettledFrom bad m ports (after_moves bad m.rises b.faulty.first g.cells) b.good.second =

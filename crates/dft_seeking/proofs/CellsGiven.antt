@@ -1,6 +1,6 @@
 -- What the cubes of nodes give: each scanned cell and each drivable port once at most.
 use Rattle.std.proofs.Common.{ℕ, zero, suc, ◌+◌, ◌≡◌, ◌∙◌, ◌<◌, ◌≤◌, ◌⊎◌, inl, inr, Bool, true, false, List, [], ◌∷◌, ◌++◌, length, filter, map, Option, None, Some, slice_get, refl, sym, ap, subst, arith}
-use Rattle.std.specs.Prelude.{IsTrue, IsSome, not}
+use Rattle.std.specs.Prelude.{IsSome, not}
 use Rattle.std.specs.Option.{option_and_then}
 use Rattle.std.proofs.lemmas.Bool.{and_parts}
 use Rattle.std.proofs.lemmas.Option.{none-some, same_Some, slice_get_within}
@@ -8,9 +8,8 @@ use Rattle.dft_base.specs.Lexing.{Text}
 use Rattle.dft_base.specs.Name.{IsName}
 use Rattle.dft_base.specs.declared.dir.Dir.{Dir}
 use Rattle.dft_base.specs.declared.dir.Dir.TheVariants as dir
+use Rattle.dft_base.proofs.BitLemmas.{not_true}
 use Rattle.dft_cells.specs.declared.cell.Cell.{Cell as ACell}
-use Rattle.dft_cells.specs.declared.kind.Kind.{Kind}
-use Rattle.dft_cells.specs.declared.kind.Kind.TheVariants as kind
 use Rattle.dft_netlist.specs.declared.ids.NetId.{NetId}
 use Rattle.dft_netlist.specs.declared.ids.InstanceId.{InstanceId}
 use Rattle.dft_netlist.specs.declared.instance.CellRef.{CellRef}
@@ -22,13 +21,14 @@ use Rattle.dft_netlist.specs.Drivers.{driver, kind_at, kind_of, shape_of}
 use Rattle.dft_netlist.specs.Connections.{is_input}
 use Rattle.dft_netlist.specs.Names.{IsNameIfAny, instance_name}
 use Rattle.dft_netlist.specs.NetNumbers.{nets_from}
-use Rattle.dft_netlist.specs.Sound.{IsCellOf, IsNetlist, bits_of, is_primitive}
+use Rattle.dft_netlist.specs.Sound.{IsCellOf, IsNetlist, bits_of}
 use Rattle.dft_netlist.proofs.LiveDriven.{ports_fit}
 use Rattle.dft_config.specs.Config.{Config}
 use Rattle.dft_config.specs.Range.{IsInRange}
 use Rattle.dft_rules.specs.ConfigPorts.{config_ports}
 use Rattle.dft_rules.specs.Rules.{may_be_scanned}
 use Rattle.dft_rules.proofs.ClockedFlops.{verdict_passes}
+use Rattle.dft_rules.proofs.ReadingLemmas.{no_gate}
 use Rattle.dft_stitch.specs.Chains.{plan_of}
 use Rattle.dft_stitch.specs.Laws.{IsScanned, StandsOnce}
 use Rattle.dft_stitch.proofs.OnceLemmas.{cells_once, cells_scanned}
@@ -70,28 +70,6 @@ module _ (n : Netlist) (config : Config) (range : IsInRange config) where
 
 -- ---- their names
 
-no_primitive : (k : Kind) → may_be_scanned k ≡ true → IsTrue (is_primitive k) → ⊥
-no_primitive kind.Dff may is = absurd cc
-no_primitive kind.Dffr may is = absurd cc
-no_primitive kind.Dffs may is = absurd cc
-no_primitive kind.Sdff may is = absurd cc
-no_primitive kind.Sdffr may is = absurd cc
-no_primitive kind.Sdffs may is = absurd cc
-no_primitive kind.Lockup may is = absurd cc
-no_primitive kind.Opaque may is = absurd cc
-no_primitive kind.Buf may is = absurd cc
-no_primitive kind.Inv may is = absurd cc
-no_primitive kind.And may is = absurd cc
-no_primitive kind.Nand may is = absurd cc
-no_primitive kind.Or may is = absurd cc
-no_primitive kind.Nor may is = absurd cc
-no_primitive kind.Xor may is = absurd cc
-no_primitive kind.Xnor may is = absurd cc
-no_primitive kind.Mux2 may is = absurd cc
-no_primitive (kind.Table number) may is = absurd cc
-no_primitive kind.Tie0 may is = absurd cc
-no_primitive kind.Tie1 may is = absurd cc
-
 -- a text is there, and it is a name
 pub record IsNamed (o : Option Text) : Type 0 where
   pub name : Text
@@ -101,7 +79,7 @@ pub record IsNamed (o : Option Text) : Type 0 where
 cell_named : (library : List ACell) (o : Option Text) (cell : CellRef) → IsCellOf library o cell → IsNameIfAny o → may_be_scanned (shape_of library cell).kind ≡ true → IsNamed o
 cell_named library None (Library id) fits is may = absurd (let some = fits.1 in let f : ⊥ = cc in f)
 cell_named library (Some name) (Library id) fits is may = record { name = name; there = refl; is = is }
-cell_named library o (Gate k inputs) fits is may = absurd (no_primitive k may fits.0)
+cell_named library o (Gate k inputs) fits is may = absurd (no_gate k may fits.0)
 
 -- it is there, and has a name
 pub record IsThere (n : Netlist) (c : ℕ) (o : Option Instance) : Type 0 where
@@ -245,10 +223,6 @@ ports_given_once (Cell c ∷ vs) (bit ∷ bits) all j k a b at also same = ports
 
 -- ---- of some of the candidates
 
-no_is : (b : Bool) → not b ≡ true → b ≡ false
-no_is true is = absurd (let f : ⊥ = cc in f)
-no_is false is = refl
-
 module _ (s : Search) (sound : IsNetlist s.design) (range : IsInRange s.config) (chosen : Variable → Bool) (bits : List Bool) where
   abbrev variables : List Variable
   variables = filter chosen (candidates s)
@@ -276,7 +250,7 @@ module _ (s : Search) (sound : IsNetlist s.design) (range : IsInRange s.config) 
   given_free k given at =
       let first = and_parts (is_input (driver s.design given.0.0)) _ (port_stands k given at).1 in
       let second = and_parts (not ((config_ports s.design s.config).is_clock given.0.0)) _ first.1 in
-      (first.0, (no_is _ second.0, no_is _ second.1))
+      (first.0, (not_true _ second.0, not_true _ second.1))
 
   variables_apart : AreApart variables
   variables_apart = apart_filter chosen (candidates s) (candidates_apart s sound range)

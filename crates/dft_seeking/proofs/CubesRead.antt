@@ -19,7 +19,7 @@ use Rattle.dft_cubes.specs.Cubes.{cubes_of}
 use Rattle.dft_cubes.specs.Laws.{IsCube}
 use Rattle.dft_cubes_out.specs.Laws.{CanBeWritten, IsWord}
 use Rattle.dft_cubes_out.specs.Written.{clock_name, name_of, port_name}
-use Rattle.dft_cubes_out.proofs.ReadLemmas.{written_cubes_are_read}
+use Rattle.dft_cubes_out.proofs.ReadLemmas.{written_cubes_are_read, there as stands_there}
 use Rattle.dft_faults.specs.declared.fault.Fault.{Fault}
 use Rattle.dft_seek.specs.declared.found.Found.{Found}
 use Rattle.dft_seek.specs.declared.found.Found.TheVariants as found
@@ -136,11 +136,6 @@ told_cubes n config domain limit told sound range there are =
     record { names = from.apart; each = λ k cube at. (let f = from.each k cube at in is_sound n config domain f.0 cube sound range there f.1.1.1) }
 
 -- ---- each can be written
-
-stands_there : (names : List Text) (k : ℕ) → k < length names → slice_get names k ≡ Some (name_of (slice_get names k))
-stands_there [] k lt = absurd (omega (arith, lt))
-stands_there (x ∷ names) zero lt = refl
-stands_there (x ∷ names) (suc k) lt = stands_there names k (omega (arith, lt))
 
 can_be : (n : Netlist) (config : Config) (domain number : ℕ) (cube : Cube) → IsNetlist n → IsInRange config → number < 2 ^ 64 → IsWord (clock_name config domain) → IsOf n config domain number cube → GivesPlain n cube → CanBeWritten n config cube
 can_be n config domain number cube sound range few clock its plain =

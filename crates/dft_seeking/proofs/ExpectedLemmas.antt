@@ -10,7 +10,6 @@ use Rattle.dft_base.specs.Lexing.{Text}
 use Rattle.dft_base.specs.declared.tri.Tri.{Tri}
 use Rattle.dft_base.specs.declared.tri.Tri.TheVariants.{One, Unknown}
 use Rattle.dft_cells.specs.declared.kind.Role.TheVariants as role
-use Rattle.dft_netlist.specs.declared.ids.NetId.{NetId}
 use Rattle.dft_netlist.specs.declared.ids.InstanceId.{InstanceId}
 use Rattle.dft_netlist.specs.Netlist.{Netlist}
 use Rattle.dft_netlist.specs.Connections.{input_net}
@@ -28,7 +27,6 @@ use Rattle.dft_rules.specs.ConfigPorts.{config_ports}
 use Rattle.dft_rules.specs.declared.judged.Judged.TheVariants.{Scanned}
 use Rattle.dft_rules.specs.Rules.{is_net, judged, judgements}
 use Rattle.dft_rules.proofs.ClockedFlops.{IsClocked, IsVerdict, clocked, force_pins, scanned_flop, verdict_passes}
-use Rattle.dft_rules.proofs.NamedPorts.{input_there, name_at}
 use Rattle.dft_stitch.specs.Chains.{clock_in, clock_of, plan_of}
 use Rattle.dft_stitch.specs.Laws.{IsScanned}
 use Rattle.dft_cubes.specs.declared.cube.Domains.{Domains}
@@ -47,7 +45,7 @@ use Rattle.dft_expect.proofs.ScannedCells.{no_lockup}
 use Rattle.dft_expect.proofs.VectorLemmas.{chained as chained_at}
 use Rattle.dft_capture.specs.Captures.{IsSettledFrom, after_moves, captured, meaning_in, next_by_pins, sources_at}
 use Rattle.dft_seek.specs.Searches.{Search, cells_in, has_cell, is_of, moving_of, port_values, takes_at}
-use Rattle.dft_seek.proofs.RigLemmas.{cell_live, cell_there}
+use Rattle.dft_seek.proofs.RigLemmas.{cell_live, cell_there, net_named}
 use Rattle.dft_seeking.specs.Expected.{ExpectedIsShown, IsShown, given_by}
 use Rattle.dft_seeking.proofs.ApartLemmas.{StandsIn}
 use Rattle.dft_seeking.proofs.CellsGiven.{scanned_there}
@@ -55,17 +53,10 @@ use Rattle.dft_seeking.proofs.PinsHigh.{one_pin, pins_high}
 
 -- ---- the clock that pulses
 
--- a name that stands for a net is the net's
-named_net : (n : Netlist) (net : ℕ) (name : Text) (o : Option NetId) → input_net n name ≡ o → is_net net o ≡ true → slice_get n.nets net ≡ Some name
-named_net n net name None is found = absurd cc
-named_net n net name (Some other) is found =
-    let e : other.0 ≡ net = eqb-true other.0 net found in
-    name_at n name net ((input_there n name other is).0 ∙ ap (λ (k : ℕ). Some (record { 0 = k })) e)
-
 -- two places whose names stand for one net are one
 same_domain : (n : Netlist) (config : Config) (net a b : ℕ) (x y : Text) → IsInRange config → slice_get config.domains a ≡ Some x → slice_get config.domains b ≡ Some y → is_net net (input_net n x) ≡ true → is_net net (input_net n y) ≡ true → a ≡ b
 same_domain n config net a b x y range at also one other =
-    let same : x ≡ y = same_Some x y (sym (named_net n net x (input_net n x) refl one) ∙ named_net n net y (input_net n y) refl other) in
+    let same : x ≡ y = same_Some x y (sym (net_named n net x (input_net n x) refl one) ∙ net_named n net y (input_net n y) refl other) in
     same_Some a b (sym (domain_found config.domains x a range.domains_differ at) ∙ domain_found config.domains x b range.domains_differ (also ∙ ap (λ (name : Text). Some name) (sym same)))
 
 rests_by : (n : Netlist) (config : Config) (net a b : ℕ) (x : Text) (o : Option Text) → IsInRange config → slice_get config.domains a ≡ Some x → slice_get config.domains b ≡ o → is_net net (input_net n x) ≡ true → (a ≡ b → ⊥) → is_net net (option_and_then (input_net n) o) ≡ false

@@ -1,5 +1,5 @@
 -- Faults are searched one after another.
-use Rattle.std.proofs.Common.{ℕ, zero, suc, ◌+◌, ◌*◌, ◌≤◌, ◌<◌, ◌^◌, ◌≡◌, ◌∙◌, Bool, true, false, List, [], ◌∷◌, ◌++◌, length, filter, map, drop, Some, slice_get, refl, sym, ap, subst, arith, append-nil, length-append}
+use Rattle.std.proofs.Common.{ℕ, zero, suc, ◌+◌, ◌≤◌, ◌<◌, ◌^◌, ◌≡◌, ◌∙◌, Bool, true, false, List, [], ◌∷◌, ◌++◌, length, filter, map, drop, Some, slice_get, refl, sym, ap, subst, arith, append-nil, length-append}
 use Rattle.std.specs.Prelude.{if◌then◌else◌, slice_index_or}
 use Rattle.std.specs.List.{All, range_with_len}
 use Rattle.std.proofs.lemmas.List.{drop_more, length-map}
@@ -9,14 +9,16 @@ use Rattle.std.proofs.lemmas.Option.{none-some, same_Some}
 use Rattle.dft_base.specs.Name.{IsName}
 use Rattle.dft_base.proofs.TextLemmas.{IsPrinted, digits_printed}
 use Rattle.std.specs.Fmt.{decimal}
+use Rattle.dft_base.proofs.ListLemmas.{drop_over}
 use Rattle.dft_netlist.specs.Netlist.{Netlist}
 use Rattle.dft_netlist.specs.declared.limits.TheConstants.{MAX_NETS}
 use Rattle.dft_config.specs.Config.{Config}
 use Rattle.dft_rules.specs.ConfigPorts.{config_ports}
 use Rattle.dft_faults.specs.declared.fault.Fault.{Fault}
-use Rattle.dft_faults.specs.Faults.{both_of, faults, has_faults}
+use Rattle.dft_faults.specs.Faults.{faults, has_faults}
 use Rattle.dft_faults.specs.Faulty.{IsFault}
 use Rattle.dft_faults.proofs.Listed.{listed_faults}
+use Rattle.dft_faults.proofs.ListingLemmas.{both_few}
 use Rattle.dft_seek.specs.declared.found.Found.{Found}
 use Rattle.dft_seek.specs.Sought.{IsSought}
 use Rattle.dft_seek.specs.SoughtFaults.{is_untraced, seek_faults}
@@ -53,10 +55,6 @@ pub each_is : (n : Netlist) (config : Config) (listed : List Fault) → listed �
 each_is n config listed is place f at =
     let from = kept_from (is_untraced n (config_ports n config).is_reset) (faults n (config_ports n config).is_clock) place f (ap (λ (fs : List Fault). slice_get fs place) (sym is) ∙ at) in
     listed_faults n (config_ports n config).is_clock from.0 f from.1
-
-both_few : (nets : List ℕ) → length (both_of nets) ≡ 2 * length nets
-both_few [] = refl
-both_few (net ∷ nets) = omega (arith, both_few nets)
 
 kept_few : {A : Type 0} (t : Bool) (x : A) (xs : List A) (count : ℕ) → length xs ≤ count → length (if t then x ∷ xs else xs) ≤ suc count
 kept_few true x xs count few = omega (arith, few)
@@ -141,16 +139,10 @@ has_room n config domain limit faults k g less few so_far =
       aborted = count_by-le-length _ told;
     })
 
-none_after : (faults : List Fault) (k : ℕ) → length faults ≤ k → drop k faults ≡ []
-none_after [] zero far = refl
-none_after [] (suc k) far = refl
-none_after (f ∷ faults) zero far = absurd (omega (arith, far))
-none_after (f ∷ faults) (suc k) far = none_after faults k (omega (arith, far))
-
 pub all_done : (n : Netlist) (config : Config) (domain limit : ℕ) (faults : List Fault) (k : ℕ) (g : Gathered) → length faults ≤ k → SoFar n config domain limit faults k g → AreSearched n config domain limit faults g
 all_done n config domain limit faults k g far so_far = record {
   told = so_far.told;
-  faults_are = sym (append-nil (faults_in so_far.told)) ∙ ap (λ (fs : List Fault). faults_in so_far.told ++ fs) (sym (none_after faults k far)) ∙ so_far.faults_are;
+  faults_are = sym (append-nil (faults_in so_far.told)) ∙ ap (λ (fs : List Fault). faults_in so_far.told ++ fs) (sym (drop_over faults k far)) ∙ so_far.faults_are;
   sought = so_far.sought;
   gathered = so_far.gathered;
 }

@@ -7,7 +7,7 @@ use Rattle.std.proofs.lemmas.List.{get_or_past}
 use Rattle.std.proofs.lemmas.Option.{same_Some, slice_get_within, slice_get_past}
 use Rattle.std.proofs.lemmas.List.FromFn.{get_or-map-range_with_len, length-map-range_with_len}
 use Rattle.dft_base.proofs.NumberLemmas.{same_number}
-use Rattle.dft_base.proofs.ListLemmas.{get_left, get_right}
+use Rattle.dft_base.proofs.ListLemmas.{get_left, get_right, at_either}
 use Rattle.dft_netlist.specs.declared.ids.InstanceId.{InstanceId}
 use Rattle.dft_netlist.specs.declared.instance.Instance.{Instance}
 use Rattle.dft_netlist.specs.Netlist.{Netlist}
@@ -26,26 +26,16 @@ use Rattle.dft_stitch.proofs.EvenLemmas.{chains_hold}
 
 -- ---- items of lists, by their places
 
-pub record Behind {X : Type 0} (xs ys : List X) (k : ℕ) (x : X) : Type 0 where
-  pub place : ℕ
-  pub far : k ≡ length xs + place
-  pub at : slice_get ys place ≡ Some x
-
-pub split_at : {X : Type 0} (xs ys : List X) (k : ℕ) (x : X) → slice_get (xs ++ ys) k ≡ Some x → (slice_get xs k ≡ Some x) ⊎ Behind xs ys k x
-split_at [] ys k x h = inr (record { place = k; far = omega arith; at = h })
-split_at (y ∷ xs) ys zero x h = inl h
-split_at (y ∷ xs) ys (suc k) x h = elim (split_at xs ys k x h) [ inl here ↦ inl here | inr b ↦ inr (record { place = b.place; far = (let f = b.far in omega arith); at = b.at }) ]
-
 -- no item stands at two places
 abbrev Once : {X : Type 0} → List X → Type 0
 Once {X} xs = (a b : ℕ) (x : X) → slice_get xs a ≡ Some x → slice_get xs b ≡ Some x → a ≡ b
 
 once_append : {X : Type 0} (xs ys : List X) → Once xs → Once ys → ((a b : ℕ) (x : X) → slice_get xs a ≡ Some x → slice_get ys b ≡ Some x → ⊥) → Once (xs ++ ys)
-once_append xs ys one two apart a b x p q = elim (split_at xs ys a x p) [
-  | inl p1 ↦ elim (split_at xs ys b x q) [ inl q1 ↦ one a b x p1 q1 | inr q2 ↦ absurd (apart a q2.place x p1 q2.at) ]
-  | inr p2 ↦ elim (split_at xs ys b x q) [
-    | inl q1 ↦ absurd (apart b p2.place x q1 p2.at)
-    | inr q2 ↦ (let e = two p2.place q2.place x p2.at q2.at in let f = p2.far in let g = q2.far in omega arith)
+once_append xs ys one two apart a b x p q = elim (at_either xs ys a x p) [
+  | inl p1 ↦ elim (at_either xs ys b x q) [ inl q1 ↦ one a b x p1 q1 | inr q2 ↦ absurd (apart a q2.place x p1 q2.here) ]
+  | inr p2 ↦ elim (at_either xs ys b x q) [
+    | inl q1 ↦ absurd (apart b p2.place x q1 p2.here)
+    | inr q2 ↦ (let e = two p2.place q2.place x p2.here q2.here in let f = p2.number in let g = q2.number in omega arith)
   ]
 ]
 
@@ -59,9 +49,9 @@ once_none a b x p q = absurd (let f : ⊥ = cc in f)
 
 in_chains : (chains : List (List InstanceId)) (r : ℕ) (x : InstanceId) → slice_get (flat_map (λ chain. chain) chains) r ≡ Some x → (c : ℕ) × (k : ℕ) × (cell_at chains c k ≡ Some x)
 in_chains [] r x h = absurd (let f : ⊥ = cc in f)
-in_chains (cells ∷ rest) r x h = elim (split_at cells (flat_map (λ chain. chain) rest) r x h) [
+in_chains (cells ∷ rest) r x h = elim (at_either cells (flat_map (λ chain. chain) rest) r x h) [
   | inl here ↦ (0, r, here)
-  | inr b ↦ (let more = in_chains rest b.place x b.at in (suc more.0, more.1, more.2))
+  | inr b ↦ (let more = in_chains rest b.place x b.here in (suc more.0, more.1, more.2))
 ]
 
 in_cells : (chains : List (List InstanceId)) (c k : ℕ) (x : InstanceId) → cell_at chains c k ≡ Some x → (r : ℕ) × (slice_get (flat_map (λ chain. chain) chains) r ≡ Some x)
@@ -178,9 +168,9 @@ has_cell v domains g k (suc m) i low high is = elim (cases_eq k i) [
 
 pub in_groups : (v : List (Option Judged)) (domains g m p : ℕ) (x : InstanceId) → slice_get (flat_map (cells_in v domains) (range_with_len g m)) p ≡ Some x → (h : ℕ) × (g ≤ h) × InGroup v domains h x
 in_groups v domains g zero p x h = absurd (let f : ⊥ = cc in f)
-in_groups v domains g (suc m) p x h = elim (split_at (cells_in v domains g) (flat_map (cells_in v domains) (range_with_len (g + 1) m)) p x h) [
+in_groups v domains g (suc m) p x h = elim (at_either (cells_in v domains g) (flat_map (cells_in v domains) (range_with_len (g + 1) m)) p x h) [
   | inl here ↦ (g, omega arith, (in_range v domains g 0 (length v) p x here).group)
-  | inr b ↦ (let more = in_groups v domains (g + 1) m b.place x b.at in let low = more.1 in (more.0, omega arith, more.2))
+  | inr b ↦ (let more = in_groups v domains (g + 1) m b.place x b.here in let low = more.1 in (more.0, omega arith, more.2))
 ]
 
 -- a cell is in one group

@@ -2,7 +2,7 @@
 use Rattle.std.proofs.Common.{◌≡◌, ℕ, zero, suc, ◌+◌, ◌*◌, ◌<◌, ◌≤◌, Bool, true, false, cond, List, [], ◌∷◌, ◌++◌, length, flat_map, Option, Some, option_map, slice_get, slice_index_or, refl, sym, ◌∙◌, ap, arith, inl, inr}
 use Rattle.std.specs.List.{range_with_len}
 use Rattle.std.proofs.lemmas.Option.{none-some, slice_get_within, slice_get-map, get_or_from_slice_get}
-use Rattle.dft_base.proofs.ListLemmas.{get_left, get_right}
+use Rattle.dft_base.proofs.ListLemmas.{get_left, get_right, at_either}
 use Rattle.dft_netlist.specs.declared.ids.InstanceId.{InstanceId}
 use Rattle.dft_rules.specs.declared.judged.Judged.{Judged}
 use Rattle.dft_stitch.specs.declared.places.CellClock.{CellClock}
@@ -10,7 +10,7 @@ use Rattle.dft_stitch.specs.Chains.{begins_falling, cells_in, chains_of, clock_a
 use Rattle.dft_stitch.specs.Laws.{FallingFirst}
 use Rattle.dft_stitch.specs.Plans.{cell_at}
 use Rattle.dft_stitch.proofs.EvenLemmas.{chains_hold}
-use Rattle.dft_stitch.proofs.OnceLemmas.{InGroup, split_at, in_range, in_groups, one_group}
+use Rattle.dft_stitch.proofs.OnceLemmas.{InGroup, in_range, in_groups, one_group}
 
 -- ---- groups along the list
 
@@ -21,16 +21,16 @@ sorted v domains g zero a b i j x y less p q one other = absurd (none-some x p)
 sorted v domains g (suc m) a b i j x y less p q one other =
     let here = cells_in v domains g in
     let rest = flat_map (cells_in v domains) (range_with_len (g + 1) m) in
-    elim (split_at here rest a x p) [
+    elim (at_either here rest a x p) [
       | inl p1 ↦ (
           let first : i ≡ g = one_group v domains i g x one (in_range v domains g 0 (length v) a x p1).group in
-          elim (split_at here rest b y q) [
+          elim (at_either here rest b y q) [
             | inl q1 ↦ (let second : j ≡ g = one_group v domains j g y other (in_range v domains g 0 (length v) b y q1).group in omega (arith, first, second))
-            | inr q2 ↦ (let there = in_groups v domains (g + 1) m q2.place y q2.at in let second : j ≡ there.0 = one_group v domains j there.0 y other there.2 in omega (arith, first, second, there.1))
+            | inr q2 ↦ (let there = in_groups v domains (g + 1) m q2.place y q2.here in let second : j ≡ there.0 = one_group v domains j there.0 y other there.2 in omega (arith, first, second, there.1))
           ])
-      | inr p2 ↦ elim (split_at here rest b y q) [
-        | inl q1 ↦ absurd (let within = slice_get_within here b y q1 in omega (arith, within, p2.far, less))
-        | inr q2 ↦ sorted v domains (g + 1) m p2.place q2.place i j x y (omega (arith, p2.far, q2.far, less)) p2.at q2.at one other
+      | inr p2 ↦ elim (at_either here rest b y q) [
+        | inl q1 ↦ absurd (let within = slice_get_within here b y q1 in omega (arith, within, p2.number, less))
+        | inr q2 ↦ sorted v domains (g + 1) m p2.place q2.place i j x y (omega (arith, p2.number, q2.number, less)) p2.here q2.here one other
       ]
     ]
 

@@ -16,12 +16,6 @@ filter_on h k total less = ap (λ (m : ℕ). filter_map h (range_with_len k m)) 
 pub filter_over : {T : Type 0} (h : ℕ → Option T) (k total : ℕ) → total ≤ k → filter_map h (range_with_len k (total - k)) ≡ []
 filter_over h k total past = ap (filter_map h) (range_over k total past)
 
-pub flat_on : {T : Type 0} (f : ℕ → List T) (k total : ℕ) → k < total → flat_map f (range_with_len k (total - k)) ≡ f k ++ flat_map f (range_with_len (k + 1) (total - (k + 1)))
-flat_on f k total less = ap (λ (m : ℕ). flat_map f (range_with_len k m)) (one_left k total less)
-
-pub flat_over : {T : Type 0} (f : ℕ → List T) (k total : ℕ) → total ≤ k → flat_map f (range_with_len k (total - k)) ≡ []
-flat_over f k total past = ap (flat_map f) (range_over k total past)
-
 pub filter_start : {T : Type 0} (h : ℕ → Option T) (total : ℕ) → filter_map h (range_with_len 0 (total - 0)) ≡ filter_map h (range_with_len 0 total)
 filter_start h total = let all : total - 0 ≡ total = omega arith in ap (λ (m : ℕ). filter_map h (range_with_len 0 m)) all
 

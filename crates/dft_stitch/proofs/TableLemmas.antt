@@ -1,9 +1,10 @@
 -- The table of places, as it is filled.
-use Rattle.std.proofs.Common.{◌≡◌, ℕ, zero, suc, ◌+◌, ◌<◌, ◌≤◌, List, [], length, get_or, set, take, drop, ◌++◌, Option, None, Some, option_and_then, slice_get, replicate, refl, sym, ◌∙◌, ap, arith, inl, inr}
+use Rattle.std.proofs.Common.{◌≡◌, ℕ, ◌+◌, ◌<◌, ◌≤◌, List, [], length, get_or, set, take, drop, ◌++◌, Option, None, Some, option_and_then, slice_get, replicate, refl, sym, ◌∙◌, ap, arith, inl, inr}
 use Rattle.std.specs.Prelude.{IfNone, IfSome}
 use Rattle.std.proofs.lemmas.Bool.{cases_eq}
 use Rattle.std.proofs.lemmas.List.{length-set, length-replicate, get_or-set_same, get_or-set_other, take_all, drop_all, append-nil}
 use Rattle.std.proofs.lemmas.Option.{slice_get_within}
+use Rattle.dft_base.proofs.ListLemmas.{same_all}
 use Rattle.dft_netlist.specs.declared.ids.InstanceId.{InstanceId}
 use Rattle.dft_stitch.specs.declared.places.CellPlace.{CellPlace}
 use Rattle.dft_stitch.specs.Plans.{cell_at}
@@ -57,15 +58,10 @@ pub record KnowsSome (count : ℕ) (chains : List (List InstanceId)) (done : ℕ
   pub says : (i : ℕ) (p : CellPlace) → get_or places i None ≡ Some p → cell_at chains p.chain p.place ≡ Some (record { 0 = i })
   pub misses : (i : ℕ) → get_or places i None ≡ None → (chain place : ℕ) → chain < done → cell_at chains chain place ≡ Some (record { 0 = i }) → ⊥
 
-nothing_there : {X : Type 0} (count i : ℕ) (x : X) → get_or (replicate count x) i x ≡ x
-nothing_there zero i x = refl
-nothing_there (suc count) zero x = refl
-nothing_there (suc count) (suc i) x = nothing_there count i x
-
 pub knows_none : (count : ℕ) (chains : List (List InstanceId)) (done : ℕ) (places : List (Option CellPlace)) → done ≡ 0 → places ≡ replicate count None → KnowsSome count chains done places
 knows_none count chains done places e is = record {
   size = ap length is ∙ length-replicate count None;
-  says = λ i p some. absurd (let f : ⊥ = (let none : get_or places i None ≡ None = ap (λ (xs : List (Option CellPlace)). get_or xs i None) is ∙ nothing_there count i None in cc) in f);
+  says = λ i p some. absurd (let f : ⊥ = (let none : get_or places i None ≡ None = ap (λ (xs : List (Option CellPlace)). get_or xs i None) is ∙ same_all count i None in cc) in f);
   misses = λ i none chain place less. absurd (omega arith);
 }
 

@@ -2,22 +2,20 @@
 use Rattle.std.proofs.Common.{ℕ, zero, suc, Bool, true, false, List, [], ◌∷◌, ◌≡◌, ◌<◌, ◌≤◌, ◌+◌, ◌-◌, ◌*◌, ◌/◌, ◌%◌, ◌^◌, ◌||◌, ◌⊎◌, inl, inr, length, drop, drop-cons, add-one, refl, sym, ap, ◌∙◌, subst, get_or, slice_set, get_or-set_same, get_or-set_other, true≢false, arith}
 use Rattle.std.proofs.lemmas.Bool.Decides.{eqb_tells, leb_tells}
 use Rattle.std.proofs.lemmas.Bool.{and_from, eq-eqb, le-leb, lt-leb, leb-true, or_cases, or_right}
-use Rattle.std.proofs.lemmas.List.{drop_all, get_or-replicate, get_or_past, length-replicate}
+use Rattle.std.proofs.lemmas.List.{drop_all, get_or-replicate, length-replicate}
 use Rattle.std.proofs.lemmas.Nat.{and_le_l}
 use Rattle.std.proofs.lemmas.Nat.Bits.{bit_at-lt, bit_at-trailing_zeros, bit_at-zero, bit_at_and, bit_at_mask_below, bit_at_mask_inside, bit_at_ones, ones_shl}
 use Rattle.std.specs.Int.{bit_at, trailing_zeros, w64}
 use Rattle.std.specs.Prelude.{bit_and, min, nat_le, replicate, ◌&&◌, ◌==◌, if◌then◌else◌}
-use Rattle.dft_base.specs.declared.tri.Tri.{Tri}
 use Rattle.dft_base.specs.Packed.{packed_bit}
 use Rattle.dft_netlist.specs.declared.ids.NetId.{NetId}
-use Rattle.dft_netlist.specs.Logic.{Meaning}
-use Rattle.dft_netlist.specs.Settled.{TriSources}
 use Rattle.dft_netlist.specs.Orders.{Has, numbers_of}
 use Rattle.dft_logic.specs.declared.circuit.Op.{Op}
 use Rattle.dft_logic.specs.Circuit.{Circuit, AreOrdered, IsCircuit, flag_at}
+use Rattle.dft_logic.specs.Sweepings.{Sweeping}
+use Rattle.dft_logic.proofs.FlagLemmas.{down_all}
+use Rattle.dft_logic.proofs.Sweeps.{sweeping_more}
 use Rattle.dft_sweep.specs.Places.{ArePlaces, is_busy, net_at, place_at}
-use Rattle.dft_sweep.specs.Sweepings.{Sweeping}
-use Rattle.dft_sweep.proofs.Sweeps.{sweeping_more}
 
 -- ---- the places of nets
 
@@ -81,16 +79,10 @@ all_ones m p = elim (leb_tells m (p / 64)) [
   | inr less ↦ busy_here (replicate m (2 ^ 64 - 1)) p (ap (λ (w : ℕ). bit_at w (p % 64) == 1) (get_or-replicate m (p / 64) (2 ^ 64 - 1) 0 less.1) ∙ ap (λ (v : ℕ). v == 1) (bit_at_ones 64 (p % 64) (omega arith)))
 ]
 
-none_up : (n k : ℕ) → flag_at (replicate n false) k ≡ false
-none_up n k = elim (leb_tells n k) [
-  | inl out ↦ get_or_past (replicate n false) k false (let past = out.1 in let e = length-replicate n false in omega arith)
-  | inr less ↦ get_or-replicate n k false false less.1
-]
-
 -- where a net is marked all are, and all places are busy
 pub all_busy : (n m : ℕ) (up : Bool) (marked : List Bool) (busy : List ℕ) (k p : ℕ) → marked ≡ replicate n up → busy ≡ replicate m (if up then 2 ^ 64 - 1 else 0) → flag_at marked k ≡ true → is_busy busy p ≡ true
 all_busy n m true marked busy k p e f is = ap (λ (l : List ℕ). is_busy l p) f ∙ all_ones m p
-all_busy n m false marked busy k p e f is = absurd (true≢false (sym is ∙ ap (λ (l : List Bool). flag_at l k) e ∙ none_up n k))
+all_busy n m false marked busy k p e f is = absurd (true≢false (sym is ∙ ap (λ (l : List Bool). flag_at l k) e ∙ down_all n k))
 
 -- ---- a place is noted
 
@@ -162,26 +154,26 @@ word_idle busy word from end p there zeros few low high =
 -- ---- nets that are passed over
 
 -- past the end of the order nothing is left to be swept
-pub sweeping_past : (ops : List Op) (needed : List Bool) (means : ℕ → Meaning) (sources : TriSources) (order : List NetId) (values : List Tri) (marked : List Bool) (j m : ℕ) → length order ≤ j → j ≤ m →
-    Sweeping ops needed means sources order values marked j → Sweeping ops needed means sources order values marked m
-sweeping_past ops needed means sources order values marked j m past up s =
+pub sweeping_past : (ops : List Op) (Given : ℕ → Type 0) (order : List NetId) (marked : List Bool) (j m : ℕ) → length order ≤ j → j ≤ m →
+    Sweeping ops Given order marked j → Sweeping ops Given order marked m
+sweeping_past ops Given order marked j m past up s =
     let e : drop j order ≡ drop m order = drop_all j order past ∙ sym (drop_all m order (omega arith)) in
     let P : List NetId → Type 0 = λ l. AreOrdered ops s.before (numbers_of l) in
     let Q : List NetId → Type 0 = λ l. (k : ℕ) → k < length ops → Has s.before k ⊎ Has (numbers_of l) k in
     record { before = s.before; rest = subst P e s.rest; closed = s.closed; clean = s.clean; given = s.given; either = subst Q e s.either }
 
 -- nets that are not marked are passed over
-pub sweeping_skips : (ops : List Op) (needed : List Bool) (means : ℕ → Meaning) (sources : TriSources) (order : List NetId) (values : List Tri) (marked : List Bool) (j d : ℕ) →
+pub sweeping_skips : (ops : List Op) (Given : ℕ → Type 0) (order : List NetId) (marked : List Bool) (j d : ℕ) →
     ((i : ℕ) → j ≤ i → i < j + d → i < length order → flag_at marked (net_at order i).0 ≡ false) →
-    Sweeping ops needed means sources order values marked j → Sweeping ops needed means sources order values marked (j + d)
-sweeping_skips ops needed means sources order values marked j zero down s = (let P : ℕ → Type 0 = λ n. Sweeping ops needed means sources order values marked n in subst P (omega arith) s)
-sweeping_skips ops needed means sources order values marked j (suc d) down s =
-    let so : Sweeping ops needed means sources order values marked (j + d) = sweeping_skips ops needed means sources order values marked j d (λ i low high. down i low (omega arith)) s in
+    Sweeping ops Given order marked j → Sweeping ops Given order marked (j + d)
+sweeping_skips ops Given order marked j zero down s = (let P : ℕ → Type 0 = λ n. Sweeping ops Given order marked n in subst P (omega arith) s)
+sweeping_skips ops Given order marked j (suc d) down s =
+    let so : Sweeping ops Given order marked (j + d) = sweeping_skips ops Given order marked j d (λ i low high. down i low (omega arith)) s in
     elim (leb_tells (length order) (j + d)) [
-      | inl past ↦ sweeping_past ops needed means sources order values marked (j + d) (j + suc d) past.1 (omega arith) so
-      | inr less ↦ (let P : ℕ → Type 0 = λ n. Sweeping ops needed means sources order values marked n in
+      | inl past ↦ sweeping_past ops Given order marked (j + d) (j + suc d) past.1 (omega arith) so
+      | inr less ↦ (let P : ℕ → Type 0 = λ n. Sweeping ops Given order marked n in
           let low : flag_at marked (net_at order (j + d)).0 ≡ false = down (j + d) (omega arith) (omega arith) less.1 in
-          subst P (omega arith) (sweeping_more ops needed means sources order values values marked marked (j + d) (net_at order (j + d)) (record { 0 = 0 }) less.1 refl so so.given
+          subst P (omega arith) (sweeping_more ops Given Given order marked marked (j + d) (net_at order (j + d)) (record { 0 = 0 }) less.1 refl so so.given
           (λ k up. inl (up, λ e. (let F : ℕ → Bool = flag_at marked in true≢false (sym up ∙ ap F e ∙ low))))))
     ]
 
@@ -194,10 +186,10 @@ idle x places marked busy i are all down less = down_or (flag_at marked (net_at 
   down_or true is = absurd (true≢false (sym (all (net_at x.order i).0 is) ∙ ap (is_busy busy) (are i less) ∙ down))
 
 -- the places up to the next busy one are passed over
-pub sweeping_goes : (x : Circuit) (places : List ℕ) (needed : List Bool) (means : ℕ → Meaning) (sources : TriSources) (values : List Tri) (marked : List Bool) (busy : List ℕ) (j m : ℕ) → ArePlaces x places →
+pub sweeping_goes : (x : Circuit) (places : List ℕ) (Given : ℕ → Type 0) (marked : List Bool) (busy : List ℕ) (j m : ℕ) → ArePlaces x places →
     ((k : ℕ) → flag_at marked k ≡ true → is_busy busy (place_at places k) ≡ true) → j ≤ m → ((p : ℕ) → j ≤ p → p < m → is_busy busy p ≡ false) →
-    Sweeping x.ops needed means sources x.order values marked j → Sweeping x.ops needed means sources x.order values marked m
-sweeping_goes x places needed means sources values marked busy j m are all up none s =
-    let P : ℕ → Type 0 = λ n. Sweeping x.ops needed means sources x.order values marked n in
+    Sweeping x.ops Given x.order marked j → Sweeping x.ops Given x.order marked m
+sweeping_goes x places Given marked busy j m are all up none s =
+    let P : ℕ → Type 0 = λ n. Sweeping x.ops Given x.order marked n in
     let e : j + (m - j) ≡ m = omega arith in
-    subst P e (sweeping_skips x.ops needed means sources x.order values marked j (m - j) (λ i low high less. idle x places marked busy i are all (none i low (omega arith)) less) s)
+    subst P e (sweeping_skips x.ops Given x.order marked j (m - j) (λ i low high less. idle x places marked busy i are all (none i low (omega arith)) less) s)

@@ -1,5 +1,5 @@
 -- Marked nets are evaluated one after another; every net that is not marked has its value.
-use Rattle.std.proofs.Common.{ℕ, zero, suc, Bool, true, false, List, [], ◌∷◌, ◌≡◌, ◌<◌, ◌≤◌, ◌+◌, ◌≢◌, ◌⊎◌, inl, inr, Option, None, Some, length, drop, drop-cons, add-one, refl, sym, ap, ◌∙◌, subst, get_or, slice_set, get_or-set_same, get_or-set_other, true≢false, arith}
+use Rattle.std.proofs.Common.{ℕ, Bool, true, false, List, [], ◌∷◌, ◌≡◌, ◌<◌, ◌≤◌, ◌+◌, ◌≢◌, ◌⊎◌, inl, inr, Option, None, Some, length, drop, refl, sym, ap, ◌∙◌, subst, get_or, slice_set, get_or-set_same, get_or-set_other, true≢false, arith}
 use Rattle.std.specs.Prelude.{if◌then◌else◌}
 use Rattle.std.specs.List.{AllByRecursion}
 use Rattle.std.proofs.lemmas.Bool.Decides.{eqb_tells, leb_tells}
@@ -7,19 +7,18 @@ use Rattle.std.proofs.lemmas.List.{get_or_past, drop_all, length-set}
 use Rattle.dft_base.specs.declared.tri.Tri.{Tri}
 use Rattle.dft_base.specs.declared.tri.Tri.TheVariants.{Unknown}
 use Rattle.dft_cells.specs.Gates.{tri_of}
-use Rattle.dft_netlist.specs.declared.ids.NetId.{NetId}
 use Rattle.dft_netlist.specs.Logic.{Meaning, Input, Clock, Gate, Joined, Flop, Lockup, Free, reads}
 use Rattle.dft_netlist.specs.Settled.{TriSources, value_given}
-use Rattle.dft_netlist.specs.Orders.{Has, numbers_of}
-use Rattle.dft_netlist.proofs.RankLemmas.{has_all}
+use Rattle.dft_netlist.specs.Orders.{Has}
+use Rattle.dft_netlist.proofs.ListingLemmas.{has_item, has_front, all_other}
 use Rattle.dft_logic.specs.declared.circuit.Op.{Op}
 use Rattle.dft_logic.specs.declared.circuit.Op.TheVariants as op
 use Rattle.dft_logic.specs.Values.{value_at}
-use Rattle.dft_logic.specs.Circuit.{Circuit, meaning, op_at, AreOrdered, IsCircuit, flag_at, source_places}
+use Rattle.dft_logic.specs.Circuit.{Circuit, meaning, op_at, IsCircuit, flag_at, source_places}
 use Rattle.dft_logic.specs.Tables.{list_at}
-use Rattle.dft_logic.proofs.Settlings.{all_more, inputs_agree, source_agree}
+use Rattle.dft_logic.proofs.Settlings.{inputs_agree, source_agree}
+use Rattle.dft_logic.proofs.FlagLemmas.{blind}
 use Rattle.dft_sweep.specs.Fields.{IsGivenBy, IsGivenIf, is_needed, with_bit}
-use Rattle.dft_sweep.specs.Sweepings.{Sweeping}
 
 -- ---- marks
 
@@ -27,17 +26,6 @@ use Rattle.dft_sweep.specs.Sweepings.{Sweeping}
 pub record Marking (needed : List Bool) (nets : List ℕ) (start marked : List Bool) (j : ℕ) : Type 0 where
   pub lowered : (k : ℕ) → flag_at marked k ≡ false → (flag_at start k ≡ false) × (is_needed needed k ≡ true → Has nets k → Has (drop j nets) k)
   pub raised : (k : ℕ) → flag_at marked k ≡ true → (flag_at start k ≡ true) ⊎ Has nets k
-
-pub has_item : (xs : List ℕ) (j : ℕ) (d : ℕ) → j < length xs → Has xs (get_or xs j d)
-has_item xs j d less = at xs j less where
-  at : (ys : List ℕ) (i : ℕ) → i < length ys → Has ys (get_or ys i d)
-  at [] i h = absurd (omega arith)
-  at (y ∷ ys) zero h = inl refl
-  at (y ∷ ys) (suc i) h = inr (at ys i (omega arith))
-
--- the numbers from a place on
-pub has_front : (xs : List ℕ) (j d k : ℕ) → j < length xs → Has (drop j xs) k → (k ≡ get_or xs j d) ⊎ Has (drop (j + 1) xs) k
-has_front xs j d k less has = (let P : List ℕ → Type 0 = λ l. Has l k in rw (add-one) (subst P (drop-cons xs j d less) has))
 
 pub marking_starts : (needed : List Bool) (nets : List ℕ) (start : List Bool) → Marking needed nets start start 0
 marking_starts needed nets start = record { lowered = λ k down. (down, λ needs h. h); raised = λ k up. inl up }
@@ -75,10 +63,6 @@ pub marking_ends : (needed : List Bool) (nets : List ℕ) (start marked : List B
 marking_ends needed nets start marked j k past m down = (let was = m.lowered k down in let P : List ℕ → Type 0 = λ l. Has l k in (was.0, λ needs h. subst P (drop_all j nets past) (was.1 needs h)))
 
 -- ---- one net gets its value
-
-all_other : (net : ℕ) (xs : List ℕ) → (Has xs net → ⊥) → AllByRecursion (λ m. m ≢ net) xs
-all_other net [] none = tt
-all_other net (x ∷ xs) none = (λ e. none (inl (sym e)), all_other net xs (λ h. none (inr h)))
 
 -- a value hangs on what it reads
 pub value_agree : (P : ℕ → Type 0) (sources : TriSources) (v w : ℕ → Tri) (net : ℕ) (m : Meaning) → AllByRecursion P (reads m) → ((k : ℕ) → P k → v k ≡ w k) → value_given sources v net m ≡ value_given sources w net m
@@ -118,71 +102,9 @@ kept means sources values net k t given same before = elim before [
 pub unneeded : (needed : List Bool) (means : ℕ → Meaning) (sources : TriSources) (values : List Tri) (net k : ℕ) → is_needed needed net ≡ false → (k ≡ net) ⊎ IsGivenIf needed means sources values k → IsGivenIf needed means sources values k
 unneeded needed means sources values net k idle before needs = elim before [ inl e ↦ absurd (true≢false (sym needs ∙ ap (is_needed needed) e ∙ idle)) | inr is ↦ is needs ]
 
--- a net that is none of the readers does not read it, nor where it is stuck
-pub blind : (x : Circuit) (net k : ℕ) (readers : List ℕ) → IsCircuit x → net < length x.ops → readers ≡ list_at x.readers net → (Has readers k → ⊥) → Has (reads (meaning (op_at x.ops k))) net → ⊥
-blind x net k readers is live e none h = elim (leb_tells (length x.ops) k) [
-  | inl out ↦ (let P : Op → Type 0 = λ o. Has (reads (meaning o)) net in subst P (get_or_past x.ops k op.Free out.1) h)
-  | inr less ↦ (let Q : List ℕ → Type 0 = λ l. Has l k in none (subst Q (sym e) (is.tables.readers.each net k less.1 live h)))
-]
-
 pub reads_with : (o : Option Bool) (m : Meaning) (net : ℕ) → Has (reads (with_bit o m)) net → Has (reads m) net
 reads_with None m net has = has
 reads_with (Some bit) m net has = absurd has
-
--- ---- the order
-
-pub sweeping_starts : (x : Circuit) (needed : List Bool) (means : ℕ → Meaning) (sources : TriSources) (values : List Tri) (marked : List Bool) → IsCircuit x →
-    ((k : ℕ) → flag_at marked k ≡ false → IsGivenIf needed means sources values k) → Sweeping x.ops needed means sources x.order values marked 0
-sweeping_starts x needed means sources values marked is given = record { before = []; rest = is.after; closed = λ k h. absurd h; clean = λ k h. absurd h; given = given; either = λ k less. inr (is.whole k less) }
-
-front : (ops : List Op) (needed : List Bool) (means : ℕ → Meaning) (sources : TriSources) (order : List NetId) (values : List Tri) (marked : List Bool) (j : ℕ) (net d : NetId) → j < length order → net ≡ get_or order j d →
-    Sweeping ops needed means sources order values marked j → drop j order ≡ net ∷ drop (j + 1) order
-front ops needed means sources order values marked j net d less is s = rw (add-one) (drop-cons order j d less ∙ ap (λ (n : NetId). n ∷ drop (suc j) order) (sym is))
-
-pub swept_live : (ops : List Op) (needed : List Bool) (means : ℕ → Meaning) (sources : TriSources) (order : List NetId) (values : List Tri) (marked : List Bool) (j : ℕ) (net d : NetId) → j < length order → net ≡ get_or order j d →
-    Sweeping ops needed means sources order values marked j → net.0 < length ops
-swept_live ops needed means sources order values marked j net d less is s = (let P : List NetId → Type 0 = λ l. AreOrdered ops s.before (numbers_of l) in (subst P (front ops needed means sources order values marked j net d less is s) s.rest).1)
-
-pub sweeping_more : (ops : List Op) (needed : List Bool) (means : ℕ → Meaning) (sources : TriSources) (order : List NetId) (values new : List Tri) (marked now : List Bool) (j : ℕ) (net d : NetId) → (less : j < length order) → (is : net ≡ get_or order j d) →
-    Sweeping ops needed means sources order values marked j → (given : ((k : ℕ) → flag_at now k ≡ false → IsGivenIf needed means sources new k)) →
-    (raised : ((k : ℕ) → flag_at now k ≡ true → ((flag_at marked k ≡ true) × (k ≡ net.0 → ⊥)) ⊎ Has (reads (meaning (op_at ops k))) net.0)) → Sweeping ops needed means sources order new now (j + 1)
-sweeping_more ops needed means sources order values new marked now j net d less is s given raised =
-    let e = front ops needed means sources order values marked j net d less is s in
-    let P : List NetId → Type 0 = λ l. AreOrdered ops s.before (numbers_of l) in
-    let Q : List NetId → Type 0 = λ l. (k : ℕ) → k < length ops → Has s.before k ⊎ Has (numbers_of l) k in
-    let here = subst P e s.rest in
-    let later = subst Q e s.either in
-    record {
-      before = net.0 ∷ s.before;
-      rest = here.3;
-      closed = λ k h. elim h [
-        | inl q ↦ (let R : ℕ → Type 0 = λ n. AllByRecursion (Has (net.0 ∷ s.before)) (reads (meaning (op_at ops n))) in subst R (sym q) (all_more s.before net.0 (reads (meaning (op_at ops net.0))) here.2))
-        | inr older ↦ all_more s.before net.0 (reads (meaning (op_at ops k))) (s.closed k older)
-      ];
-      clean = λ k h. down k (flag_at now k) refl (λ up. elim (raised k up) [
-        | inl was ↦ elim h [ inl q ↦ was.1 q | inr older ↦ true≢false (sym was.0 ∙ s.clean k older) ]
-        | inr reader ↦ elim h [
-          | inl q ↦ (let R : ℕ → Type 0 = λ n. Has (reads (meaning (op_at ops n))) net.0 in here.0 (has_all (Has s.before) (reads (meaning (op_at ops net.0))) net.0 here.2 (subst R q reader)))
-          | inr older ↦ here.0 (has_all (Has s.before) (reads (meaning (op_at ops k))) net.0 (s.closed k older) reader)
-        ]
-      ]);
-      given = given;
-      either = λ k h. elim (later k h) [
-        | inl older ↦ inl (inr older)
-        | inr now ↦ elim now [ inl q ↦ inl (inl q) | inr rest ↦ inr rest ]
-      ];
-    } where
-      down : (k : ℕ) (b : Bool) → flag_at now k ≡ b → (flag_at now k ≡ true → ⊥) → flag_at now k ≡ false
-      down k false is never = is
-      down k true is never = absurd (never is)
-
-pub swept : (x : Circuit) (needed : List Bool) (means : ℕ → Meaning) (sources : TriSources) (values : List Tri) (marked : List Bool) (j : ℕ) → length x.order ≤ j → length marked ≡ length x.ops →
-    Sweeping x.ops needed means sources x.order values marked j → (k : ℕ) → flag_at marked k ≡ false
-swept x needed means sources values marked j past len s k = elim (leb_tells (length x.ops) k) [
-  | inl out ↦ (let far : length marked ≤ k = omega (arith, out.1) in get_or_past marked k false far)
-  | inr live ↦ (let Q : List NetId → Type 0 = λ l. Has s.before k ⊎ Has (numbers_of l) k in
-      elim (subst Q (drop_all j x.order past) (s.either k live.1)) [ inl older ↦ s.clean k older | inr none ↦ absurd none ])
-]
 
 -- ---- these nets, one after another
 

@@ -89,7 +89,7 @@ answered pass (Seek files) held o suits accepts is = seek_done files o suits acc
 abbrev Completes : Command → Held → Answer → Type 0
 Completes command held answer = (answer.status ≡ OutOfMemory) ⊎ IsAnswered command held answer.status
 
-status_is : (a b : Answer) → a ≡ b → a.status ≡ b.status
+pub status_is : (a b : Answer) → a ≡ b → a.status ≡ b.status
 status_is a b same = ap (λ (c : Answer). c.status) same
 
 delivered : JobsPass → (command : Command) (held : Held) (o : Outcome) (before after : Seen) (answer : Answer) → NoneFailed before after → Suits (Some command) o → IsAccepted o → IsOutcomeFor (Some command) held o →

@@ -10,6 +10,7 @@ use Rattle.dft_answers.specs.Texts.{FileGives}
 use Rattle.dft_answers.specs.Steps.{IsGiven, IsGivenTold, LoadFails, SeenFiles, Takes}
 use Rattle.dft_cells.specs.declared.cell.Cell.{Cell}
 use Rattle.dft_cells.specs.Standard.{standard_cells}
+use Rattle.dft_answers.proofs.TextSteps.{no_fault}
 use Rattle.dft_top.specs.Checks.{LibraryGives}
 use Rattle.dft_top.specs.Courses.{Allows, Course, End, Reaches, Step, TurnComes}
 use Rattle.dft_top.specs.Follows.{ComesTo, Follows, still}
@@ -136,17 +137,11 @@ given_told gives (Some h) (Err (Refused refusal)) given = given
 given_told gives (Some h) (Err ReadFault) given = tt
 given_told gives (Some h) (Err OutOfMemory) given = tt
 
-given_quiet : {A : Type 0} (gives : Result A Refusal → Type 0) (r : Result A Stop) → IsGiven gives r → r ≡ Err ReadFault → ⊥
-given_quiet gives (Ok value) given is = cc
-given_quiet gives (Err (Refused refusal)) given is = cc
-given_quiet gives (Err ReadFault) given is = given
-given_quiet gives (Err OutOfMemory) given is = cc
-
 -- what is given whatever is held
 pub given_takes : {A : Type 0} (gives : Result A Refusal → Type 0) (seen : SeenFiles) (r : Result A Stop) → IsGiven gives r → Takes None (λ h. gives) seen seen r
 given_takes gives seen r given = record {
   given = given_told gives seen.held r given;
-  fault = λ is. absurd (given_quiet gives r given is);
+  fault = λ is. absurd (no_fault gives r given is);
   held = refl;
   read_faults = omega arith;
   write_faults = refl;
@@ -164,7 +159,7 @@ pub file_takes : {A : Type 0} (limit : ℕ) (option : List ℕ) (gives : List �
     file_at name held ≡ Some text → IsGiven (FileGives limit option gives (Some text)) r → Takes (Some name) (λ h. FileGives limit option gives (file_at name h)) (still held) (still held) r
 file_takes limit option gives name text held r at given = record {
   given = file_told limit option gives name text held r at given;
-  fault = λ is. absurd (given_quiet (FileGives limit option gives (Some text)) r given is);
+  fault = λ is. absurd (no_fault (FileGives limit option gives (Some text)) r given is);
   held = refl;
   read_faults = omega arith;
   write_faults = refl;

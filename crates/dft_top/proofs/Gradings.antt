@@ -1,7 +1,7 @@
 -- What a grading comes to.
-use Rattle.std.proofs.Common.{ℕ, ◌≡◌, ◌∙◌, ◌<◌, ◌≤◌, true, false, inl, List, length, nat_lt, refl, sym, ap, subst, Option, None, Some, Ok, Result, Err, arith}
+use Rattle.std.proofs.Common.{ℕ, ◌≡◌, ◌∙◌, ◌<◌, ◌≤◌, true, false, inl, List, length, refl, sym, ap, subst, Option, None, Some, Ok, Result, Err}
 use Rattle.std.specs.Prelude.{ℤ, if◌then◌else◌, pos}
-use Rattle.std.proofs.lemmas.Bool.Decides.{nat_tests}
+use Rattle.dft_base.proofs.NumberLemmas.{not_less, is_less}
 use Rattle.dft_files.specs.Outside.{Held}
 use Rattle.dft_netlist.specs.Netlist.{Netlist}
 use Rattle.dft_netlist.specs.Drivers.{IsOrdered}
@@ -43,18 +43,12 @@ use Rattle.dft_top.proofs.Steps.{GradeOn, GradeOver}
 
 -- ---- the report
 
-less_told : (limit bytes : ℕ) → limit < bytes → nat_lt limit bytes ≡ true
-less_told = grind (arith, nat_tests)
-
-not_less_told : (limit bytes : ℕ) → bytes ≤ limit → nat_lt limit bytes ≡ false
-not_less_told = grind (arith, nat_tests)
-
 -- a report within its limit is not refused, and one past it is, with its length
 fits_told : (text : List ℕ) → length text ≤ MAX_BYTES → too_long text ≡ None
-fits_told text few = ap (λ t. if t then Some (K6 (pos (length text))) else None) (not_less_told MAX_BYTES (length text) few)
+fits_told text few = ap (λ t. if t then Some (K6 (pos (length text))) else None) (not_less MAX_BYTES (length text) few)
 
 long_told : (text : List ℕ) → MAX_BYTES < length text → too_long text ≡ Some (K6 (pos (length text)))
-long_told text many = ap (λ t. if t then Some (K6 (pos (length text))) else None) (less_told MAX_BYTES (length text) many)
+long_told text many = ap (λ t. if t then Some (K6 (pos (length text))) else None) (is_less MAX_BYTES (length text) many)
 
 pub graded_is : (n : Netlist) (p : Patterns) (graded : List Graded) (counts : Counts) (report : List ℕ) → counts ≡ counts_of graded → report ≡ report_text n p graded → length (report_text n p graded) ≤ MAX_BYTES →
     IsOutcomeOfGraded n p graded (too_long (report_text n p graded)) (outcome.Finished (work.Graded counts.faults counts.detected counts.undetected report))

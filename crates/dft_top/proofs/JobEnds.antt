@@ -1,5 +1,5 @@
 -- How the run of a generated job ends.
-use Rattle.std.proofs.Common.{ℕ, ◌≡◌, ◌⊎◌, ◌∙◌, inl, inr, List, [], refl, ap, subst, Option, Some}
+use Rattle.std.proofs.Common.{ℕ, ◌≡◌, ◌⊎◌, ◌∙◌, inl, inr, List, [], refl, subst, Option, Some}
 use Rattle.dft_files.specs.Outside.{Rose}
 use Rattle.dft_generate.specs.Jobs.{IsSize}
 use Rattle.dft_command_line.specs.Words.{AreFor, Command, Generate, JobNumbers}
@@ -15,6 +15,7 @@ use Rattle.dft_top.specs.Run.{EndsFor, GeneratesJob, IsDelivered, IsOf, MayBeRef
 use Rattle.dft_top.proofs.JobFits.{JobsFit}
 use Rattle.dft_top.proofs.JobReplays.{JobsPass}
 use Rattle.dft_top.proofs.Kept.{no_failing}
+use Rattle.dft_top.proofs.Completed.{status_is}
 
 -- how it ends
 abbrev JobEnds : JobNumbers → (put_faults put_faults' : ℕ) → Answer → Type 0
@@ -23,9 +24,6 @@ JobEnds numbers put_faults put_faults' answer =
     ⊎ ((refusal : Refusal) × (MayBeRefused numbers refusal × (IsOutcomeOfJob numbers (outcome.Refused refusal) × (answer ≡ answer_of (outcome.Refused refusal)))))
     ⊎ ((answer.status ≡ WriteFault) × Rose put_faults put_faults')
     ⊎ (answer.status ≡ OutOfMemory)
-
-status_is : (a b : Answer) → a ≡ b → a.status ≡ b.status
-status_is a b same = ap (λ (c : Answer). c.status) same
 
 -- where its outcome is answered
 answered : JobsPass → JobsFit → (numbers : JobNumbers) (o : Outcome) (put_faults put_faults' : ℕ) (answer : Answer) → IsSize numbers.size → IsOf (Generate numbers) o → IsOutcomeOfJob numbers o → answer ≡ answer_of o → JobEnds numbers put_faults put_faults' answer

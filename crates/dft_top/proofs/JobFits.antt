@@ -1,5 +1,5 @@
 -- A generated job is refused only for its size: where its patterns have more vectors than are read, or its report has more bytes than it may; and not up to 16,240 cells.
-use Rattle.std.proofs.Common.{ℕ, ◌≡◌, ◌<◌, ◌≤◌, ◌⊎◌, ◌∙◌, inl, inr, nat_lt, true, false, pos, List, [], ◌∷◌, codes, length, refl, sym, ap, subst, arith, Option, None, Some, option_map, Result, Ok, Err}
+use Rattle.std.proofs.Common.{ℕ, ◌≡◌, ◌<◌, ◌≤◌, ◌⊎◌, ◌∙◌, inl, inr, nat_lt, true, pos, List, [], ◌∷◌, codes, length, refl, sym, ap, subst, arith, Option, None, Some, option_map, Result, Ok, Err}
 use Rattle.std.proofs.lemmas.Bool.{cases_lt}
 use Rattle.std.proofs.lemmas.Bool.Decides.{nat_tests}
 use Rattle.dft_files.specs.Outside.{Held}
@@ -50,6 +50,7 @@ use Rattle.dft_compile.specs.declared.texts.Counts.{Counts}
 use Rattle.dft_compile.specs.Refusals.{first_failing, first_refusal, of_length, too_long, too_many}
 use Rattle.dft_compile.specs.Texts as compiled
 use Rattle.dft_compile.proofs.BytesLemmas.{bytes_told, vector_count}
+use Rattle.dft_compile.proofs.LateLemmas.{not_many, not_long}
 use Rattle.dft_compile_laws.specs.Holding.{CompilationsHold, HoldsOf, without_notes}
 use Rattle.dft_compile_laws.specs.Passing.{set_of}
 use Rattle.dft_compile_laws.specs.Written.{all_compared}
@@ -252,12 +253,6 @@ counted n c p text counts replay o x bytes (inr few) refusal is =
 
 late_none : (a : Option StilError) (b : Option ReportError) → a ≡ None → b ≡ None → first_failing (option_map TooManyPatterns a ∷ option_map TooLongReport b ∷ []) ≡ None
 late_none a b p q = rw (p, q) refl
-
-not_many : (bytes : ℕ) → bytes ≤ MAX_TEXT → too_many bytes ≡ None
-not_many bytes le = let below : nat_lt MAX_TEXT bytes ≡ false = grind (arith, nat_tests) in rw below refl
-
-not_long : (bytes : ℕ) → bytes ≤ MAX_BYTES → of_length bytes ≡ None
-not_long bytes le = let below : nat_lt MAX_BYTES bytes ≡ false = grind (arith, nat_tests) in rw below refl
 
 late_some : (a : Option StilError) (b : Option ReportError) (error : ReportError) → a ≡ None → b ≡ Some error → first_failing (option_map TooManyPatterns a ∷ option_map TooLongReport b ∷ []) ≡ Some (TooLongReport error)
 late_some a b error p q = rw (p, q) refl

@@ -132,7 +132,7 @@ passes files held o done h =
 
 -- ---- a scan
 
-refusal_not_done : (r : Option Refusal) (o : Outcome) → IsRefusal r o → status_of o ≡ Done → ⊥
+pub refusal_not_done : (r : Option Refusal) (o : Outcome) → IsRefusal r o → status_of o ≡ Done → ⊥
 refusal_not_done None o is done = is
 refusal_not_done (Some refusal) o is done = not_done refusal o is done
 
@@ -302,7 +302,7 @@ test_done report (Some error) o done h = absurd (refusal_not_done (refusals.cert
 test_done report None o done h = refl
 
 -- a plan that the checks pass
-planned_is : (n : Netlist) (c : Config) (plan : Plan) → IsPlanned n c plan → PlanGives n c (Ok (plan_of n c))
+pub planned_is : (n : Netlist) (c : Config) (plan : Plan) → IsPlanned n c plan → PlanGives n c (Ok (plan_of n c))
 planned_is n c plan planned = record { is = refl; ready = planned.ready; accepted = planned.accepted }
 
 certifies : CertifiedExactly → CertifiedInRuns → (files : CertifyFiles) (held : Held) (o : Outcome) → status_of o ≡ Done → Reaches (course_of_certify files) held o → Certifies files held

@@ -1,5 +1,5 @@
 -- What Done says of the files of a search.
-use Rattle.std.proofs.Common.{ℕ, ◌≡◌, ◌∙◌, List, [], ◌∷◌, refl, sym, ap, subst, Option, None, Some, Ok}
+use Rattle.std.proofs.Common.{ℕ, ◌≡◌, ◌∙◌, List, [], ◌∷◌, refl, sym, ap, subst, Option, None, Some}
 use Rattle.dft_base.proofs.TextLemmas.{differ}
 use Rattle.dft_files.specs.Outside.{Held, Told as ToldOf, ToldChange}
 use Rattle.dft_netlist.specs.Netlist.{Netlist}
@@ -7,8 +7,6 @@ use Rattle.dft_netlist.proofs.RankLemmas.{order_ranks}
 use Rattle.dft_config.specs.Config.{Config}
 use Rattle.dft_cubes.specs.Cubes.{domain_named}
 use Rattle.dft_cubes_out.specs.Written.{cubes_text}
-use Rattle.dft_stitch.specs.Chains.{plan_of}
-use Rattle.dft_stitch.specs.Plans.{Plan}
 use Rattle.dft_seeking.specs.declared.error.SeekError.{SeekError}
 use Rattle.dft_seeking.specs.Refusals.{refusal}
 use Rattle.dft_seeking.specs.Told.{Told, AreTold, counts_of, cubes_in}
@@ -17,26 +15,20 @@ use Rattle.dft_seeking.proofs.OneLemmas.{told_true}
 use Rattle.dft_command_line.specs.Words.{Command, AreFor, Seek, SeekFiles}
 use Rattle.dft_command_line.proofs.Understood.{for_once}
 use Rattle.dft_answers.specs.declared.answer.Answer.{Answer}
-use Rattle.dft_answers.specs.declared.answer.Refusal.{Refusal}
 use Rattle.dft_answers.specs.declared.answer.Status.TheVariants.{Done}
 use Rattle.dft_answers.specs.declared.outcome.Outcome.{Outcome}
 use Rattle.dft_answers.specs.declared.outcome.Outcome.TheVariants.{Finished}
 use Rattle.dft_answers.specs.declared.outcome.Work.TheVariants as work
 use Rattle.dft_answers.specs.Answers.{status_of}
 use Rattle.dft_answers.specs.Refusals.{seek_refusal}
-use Rattle.dft_top.specs.Checks.{ConfigGives, IsPlanned, LibraryGives, NetlistGives, PlanGives}
+use Rattle.dft_top.specs.Checks.{ConfigGives, LibraryGives, NetlistGives, PlanGives}
 use Rattle.dft_top.specs.Courses.{Reaches}
-use Rattle.dft_top.specs.Outcomes.{IsOutcomeOfSeek, IsOutcomeOfTold, IsRefusal, course_of_seek}
+use Rattle.dft_top.specs.Outcomes.{IsOutcomeOfSeek, IsOutcomeOfTold, course_of_seek}
 use Rattle.dft_top.specs.Promises.{Seeks}
 use Rattle.dft_top.specs.Run.{EndsFor, Seen, SeeksTold}
 use Rattle.dft_top.specs.Saves.{AreSaved, HaveSaved, Saving, savings}
-use Rattle.dft_top.proofs.Promised.{design_of, ends_done, saved_lost, saved_untold, then_done}
+use Rattle.dft_top.proofs.Promised.{design_of, ends_done, saved_lost, saved_untold, then_done, refusal_not_done, planned_is}
 use Rattle.dft_top.proofs.Steps.{SeekOf, SeekOn, SeekOver}
-
--- a refusal is not done
-not_done : (r : Option Refusal) (o : Outcome) → IsRefusal r o → status_of o ≡ Done → ⊥
-not_done None o is done = is
-not_done (Some told) o is done = let e = ap status_of (sym is) ∙ done in cc
 
 record IsDoneSearch (n : Netlist) (config : Config) (domain limit : ℕ) (o : Outcome) : Type 0 where
   told : List Told
@@ -44,7 +36,7 @@ record IsDoneSearch (n : Netlist) (config : Config) (domain limit : ℕ) (o : Ou
   is : o ≡ Finished (work.Sought (counts_of told) (cubes_text n config (cubes_in told)) (report_text n told))
 
 told_done : (n : Netlist) (config : Config) (told : List Told) (refused : Option SeekError) (o : Outcome) → status_of o ≡ Done → IsOutcomeOfTold n config told refused o → o ≡ Finished (work.Sought (counts_of told) (cubes_text n config (cubes_in told)) (report_text n told))
-told_done n config told (Some error) o done is = absurd (not_done (seek_refusal error) o is done)
+told_done n config told (Some error) o done is = absurd (refusal_not_done (seek_refusal error) o is done)
 told_done n config told None o done is = is
 
 record IsDoneSeek (n : Netlist) (config : Config) (clock : List ℕ) (limit : ℕ) (o : Outcome) : Type 0 where
@@ -63,9 +55,6 @@ seek_done n config clock limit (Some domain) o named done is = record {
 -- the two files that a search saves
 abbrev both_savings : SeekFiles → Netlist → Config → List Told → List Saving
 both_savings files n config told = record { name = files.out_cubes; bytes = cubes_text n config (cubes_in told) } ∷ record { name = files.out_report; bytes = report_text n told } ∷ []
-
-planned_as : (n : Netlist) (config : Config) (plan : Plan) → IsPlanned n config plan → PlanGives n config (Ok (plan_of n config))
-planned_as n config plan is = record { is = refl; ready = is.ready; accepted = is.accepted }
 
 seeks : (files : SeekFiles) (old new : Held) (o : Outcome) → status_of o ≡ Done → Reaches (course_of_seek files) old o → HaveSaved (savings (Some (Seek files)) o) (Some old) (Some new) → Seeks files old new
 seeks files old new o done h saved =
@@ -86,7 +75,7 @@ seeks files old new o done h saved =
       settings = y.1.0;
       netlist = n;
       design = z.1.0;
-      plan = planned_as n c p.0 p.1.0;
+      plan = planned_is n c p.0 p.1.0;
       domain = d.domain;
       clock = d.clock_is;
       told = s.told;

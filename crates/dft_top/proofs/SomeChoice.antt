@@ -4,6 +4,8 @@ use Rattle.std.specs.Prelude.{if◌then◌else◌}
 use Rattle.std.proofs.lemmas.Bool.{eqb-true, eq-eqb}
 use Rattle.dft_base.specs.Solutions.{Equation, Holds, IsChosen, IsSolvable, Solves, bit_at, equation_at, sum_over}
 use Rattle.dft_gf2.proofs.Echelons.{sums_agree}
+use Rattle.dft_gf2.proofs.Choices.{other_of}
+use Rattle.dft_gf2.proofs.Unsolvable.{solves_cons}
 
 -- ---- tables
 
@@ -58,14 +60,10 @@ same_bit true false = inr (λ e. cc)
 same_bit false true = inr (λ e. cc)
 same_bit false false = inl refl
 
-solves_more : (n : ℕ) (x : ℕ → Bool) (e : Equation) (es : List Equation) → Holds n x e → Solves n x es → Solves n x (e ∷ es)
-solves_more n x e es here rest zero less = here
-solves_more n x e es here rest (suc j) less = rest j (omega arith)
-
 both_solved : (n : ℕ) (x : ℕ → Bool) (e : Equation) (es : List Equation) → Holds n x e ⊎ (Holds n x e → ⊥) → Solves n x es ⊎ (Solves n x es → ⊥) → Solves n x (e ∷ es) ⊎ (Solves n x (e ∷ es) → ⊥)
 both_solved n x e es (inr never) rest = inr (λ all. never (all zero (omega arith)))
 both_solved n x e es (inl here) (inr never) = inr (λ all. never (λ j less. all (suc j) (omega arith)))
-both_solved n x e es (inl here) (inl rest) = inl (solves_more n x e es here rest)
+both_solved n x e es (inl here) (inl rest) = inl (solves_cons n x e es here rest)
 
 solved_or : (n : ℕ) (es : List Equation) (x : ℕ → Bool) → Solves n x es ⊎ (Solves n x es → ⊥)
 solved_or n [] x = inl (λ j less. absurd (omega arith))
@@ -145,12 +143,6 @@ left n es fill c x never r =
       turned = λ d past less none. turned_from n es fill c r.table (λ it. here) r.turned d (here_or_later c d past) less none;
     }
 
-other_bit : (a b : Bool) → (a ≡ b → ⊥) → a ≡ not b
-other_bit true true never = absurd (never refl)
-other_bit true false never = refl
-other_bit false true never = refl
-other_bit false false never = absurd (never refl)
-
 chosen_from : (n : ℕ) (es : List Equation) (fill : List Bool) (k c : ℕ) (x : ℕ → Bool) → c + k ≡ n → Extends n es c x → Choice n es fill c x
 chosen_from n es fill zero c x all some = record {
   table = some.0;
@@ -164,7 +156,7 @@ chosen_from n es fill (suc k) c x all some =
     elim (extends_or n es k (suc c) (with_bit x c bit) (omega arith)) [
       | inl can ↦ taken n es fill c x (chosen_from n es fill k (suc c) (with_bit x c bit) (omega arith) can)
       | inr never ↦ (
-          let other : some.0 c ≡ not bit = other_bit (some.0 c) bit (λ same. never (more_extends n es c x some.0 bit some.1.0 some.1.1 same)) in
+          let other : some.0 c ≡ not bit = other_of (some.0 c) bit (λ same. never (more_extends n es c x some.0 bit some.1.0 some.1.1 same)) in
           left n es fill c x never (chosen_from n es fill k (suc c) (with_bit x c (not bit)) (omega arith) (more_extends n es c x some.0 (not bit) some.1.0 some.1.1 other)))
     ]
 

@@ -6,9 +6,10 @@ use Rattle.dft_base.proofs.TextLemmas.{bytes_eq-self, differ, same_text}
 use Rattle.dft_command_line.specs.Words.{AreNumbers, Command, CertifyFiles, CompileFiles, ConfigureFiles, GradeFiles, HardwareTexts, IsCertify, IsCompile, IsConfigure, IsFor, IsGenerate, IsGrade, IsOne, IsPerhapsWithin, IsReplay, IsScan, IsSeek, JobNumbers, OutputsDiffer, ReplayFiles, ScanFiles, SeekFiles, Replay, Scan, Compile, Certify, Generate, Grade, Configure, Seek, certify_options, compile_options, configure_options, generate_options, grade_options, list_of, replay_options, scan_options, seek_options}
 use Rattle.dft_explain.specs.Faults.{Fault, OneFile, Form, Pair, Range, Text, certify_form, chains, channels, compile_form, configure_form, fault_of_both, fault_of_command, fault_of_first, fault_of_number, fault_of_options, fault_of_right_options, first_fault, further_form, generate_form, grade_form, limit, longest, masks, missing, no_number, not_one, one_file, or_else, outputs, replay_form, scan_form, seed, seek_form, size, wrong_option}
 use Rattle.dft_explain.specs.Options.{compile_saves, grade_saves, is_text, value_of}
+use Rattle.dft_explain.proofs.FaultLemmas.{or_none}
 use Rattle.dft_usage_laws.proofs.Forms.{Backed, all_there, backed, none_missing, plain_of, whole}
 use Rattle.dft_usage_laws.proofs.Numbers.{Number, chains_number, channels_number, limit_number, longest_number, masks_number, number_chains, number_channels, number_limit, number_longest, number_masks, number_outputs, number_seed, number_size, outputs_number, seed_number, size_number}
-use Rattle.dft_usage_laws.proofs.Taking.{IsPlain, or_both, or_none}
+use Rattle.dft_usage_laws.proofs.Taking.{IsPlain, or_both}
 use Rattle.dft_usage_laws.specs.Usage.{FaultsAreUsage, IsCommandLine}
 
 -- ---- the faults of a form

@@ -6,8 +6,9 @@ use Rattle.std.specs.Str.{bytes_eq}
 use Rattle.dft_command_line.specs.Words.{AreWordsOf, Given, IsOneOf, Valued, is_value, list_of, values_of, words_of}
 use Rattle.dft_explain.specs.Faults.{Form, Text, fault_where_none, is_among, missing, wrong_option}
 use Rattle.dft_explain.specs.Options.{value_of}
+use Rattle.dft_explain.proofs.FaultLemmas.{or_none}
 use Rattle.dft_usage_laws.proofs.OptionWords.{OfName}
-use Rattle.dft_usage_laws.proofs.Taking.{IsPlain, IsRight, given_right, or_both, or_none, read}
+use Rattle.dft_usage_laws.proofs.Taking.{IsPlain, IsRight, given_right, or_both, read}
 use Rattle.dft_usage_laws.proofs.GivenValues.{IsNamed, among_one, at_most_one, few_given, first, once_from, one_among, unknown_none, value_given}
 
 -- the options of a form

@@ -1,11 +1,12 @@
 -- The values of options that are given.
-use Rattle.std.proofs.Common.{◌≡◌, ◌∙◌, ◌⊎◌, ◌≤◌, ◌==◌, ◌&&◌, ℕ, Bool, true, false, not, List, [], ◌∷◌, ◌++◌, codes, length, map, inl, inr, Option, Some, None, refl, sym, ap, ap₂, subst, arith, true≢false}
+use Rattle.std.proofs.Common.{◌≡◌, ◌∙◌, ◌⊎◌, ◌≤◌, ◌==◌, ◌&&◌, ℕ, Bool, true, false, List, [], ◌∷◌, ◌++◌, codes, length, map, inl, inr, Option, Some, None, refl, sym, ap, ap₂, subst, arith, true≢false}
 use Rattle.std.proofs.lemmas.Bool.{and_parts}
-use Rattle.std.proofs.lemmas.Bool.Decides.{nat_tests}
 use Rattle.std.specs.List.{AllByRecursion}
 use Rattle.std.specs.Prelude.{flat_map, if◌then◌else◌, option_and_then}
 use Rattle.std.specs.Str.{bytes_eq}
 use Rattle.dft_base.proofs.TextLemmas.{bytes_eq-self, same_text}
+use Rattle.dft_base.proofs.BitLemmas.{not_true}
+use Rattle.dft_base.proofs.NumberLemmas.{eqb_turned}
 use Rattle.dft_command_line.specs.Words.{Given, IsOneOf, Valued, is_value, is_value_word, list_of, values_of, words_of}
 use Rattle.dft_explain.specs.Faults.{Text, is_among}
 use Rattle.dft_explain.specs.Options.{behind, or_else, value_behind, value_of}
@@ -13,13 +14,6 @@ use Rattle.dft_usage_laws.proofs.OptionWords.{OfName, behind_own}
 use Rattle.dft_usage_laws.proofs.Taking.{Once, words_by}
 
 -- ---- the value of an option, in the words of one that is given
-
-not_true : (t : Bool) → not t ≡ true → t ≡ false
-not_true true e = absurd cc
-not_true false e = refl
-
-swapped : (a b : ℕ) → (a == b) ≡ (b == a)
-swapped a b = grind (arith, nat_tests)
 
 either_way : (t s : Bool) (rest : Option Text) (value : Text) (next : List Text) → value_behind rest next ≡ (if s then Some value else None) → value_behind (if t then rest else None) next ≡ (if t && s then Some value else None)
 either_way true s rest value next e = e
@@ -36,7 +30,7 @@ joined_value [] (n ∷ ns) value next p q = ap (λ (t : Bool). if t then Some (n
 joined_value (o ∷ os) [] value next p q = no_value (o == 61) value (behind os value) next (not_true (o == 61) (and_parts _ _ p).0)
 joined_value (o ∷ os) (n ∷ ns) value next p q =
     either_way (o == n) (bytes_eq ns os) (behind os (ns ++ 61 ∷ value)) value next (joined_value os ns value next (and_parts _ _ p).1 (and_parts _ _ q).1)
-    ∙ ap (λ (t : Bool). if t && bytes_eq ns os then Some value else None) (swapped o n)
+    ∙ ap (λ (t : Bool). if t && bytes_eq ns os then Some value else None) (eqb_turned o n)
 
 -- a value behind a name is that of the option of this name
 next_value : (option name value : Text) (next : List Text) → OfName name → value_behind (behind option name) (value ∷ next) ≡ (if bytes_eq name option then Some value else None)
@@ -44,7 +38,7 @@ next_value [] [] value next q = refl
 next_value [] (n ∷ ns) value next q = ap (λ (t : Bool). if t then Some ns else None) (not_true (n == 61) (and_parts _ _ q).0)
 next_value (o ∷ os) [] value next q = refl
 next_value (o ∷ os) (n ∷ ns) value next q =
-    either_way (o == n) (bytes_eq ns os) (behind os ns) value (value ∷ next) (next_value os ns value next (and_parts _ _ q).1) ∙ ap (λ (t : Bool). if t && bytes_eq ns os then Some value else None) (swapped o n)
+    either_way (o == n) (bytes_eq ns os) (behind os ns) value (value ∷ next) (next_value os ns value next (and_parts _ _ q).1) ∙ ap (λ (t : Bool). if t && bytes_eq ns os then Some value else None) (eqb_turned o n)
 
 either_same : (t : Bool) (value : Option Text) → (if t then value else value) ≡ value
 either_same true value = refl
@@ -54,7 +48,7 @@ either_same false value = refl
 no_dashes : (value : Text) → is_value_word value ≡ true → behind (codes "--") value ≡ None
 no_dashes [] e = absurd cc
 no_dashes (b ∷ []) e = either_same (45 == b) None
-no_dashes (b ∷ c ∷ bs) e = ap (λ (t : Bool). if t then behind (codes "-") (c ∷ bs) else None) (swapped 45 b ∙ not_true (b == 45) e)
+no_dashes (b ∷ c ∷ bs) e = ap (λ (t : Bool). if t then behind (codes "-") (c ∷ bs) else None) (eqb_turned 45 b ∙ not_true (b == 45) e)
 
 in_words : (joined : Bool) (option name value : Text) (rest : List Text) → OfName option → OfName name → is_value joined value ≡ true
     → value_of option (words_by joined name value ++ rest) ≡ or_else (if bytes_eq name option then Some value else None) (value_of option rest)

@@ -1,23 +1,17 @@
 -- Values that are numbers of a range.
-use Rattle.std.proofs.Common.{◌≡◌, ◌∙◌, ◌≤◌, ◌&&◌, ◌^◌, ℕ, Bool, true, false, not, length, Some, None, refl, ap, ap₂, arith}
+use Rattle.std.proofs.Common.{◌≡◌, ◌∙◌, ◌≤◌, ◌&&◌, ◌^◌, ℕ, Bool, true, false, not, length, Some, None, refl, ap, ap₂}
 use Rattle.std.proofs.lemmas.Bool.{and_parts, le-leb, ltb-false}
-use Rattle.std.proofs.lemmas.Bool.Decides.{nat_tests}
 use Rattle.std.proofs.lemmas.Option.{same_Some}
 use Rattle.std.specs.Char.{is_ascii_digit}
 use Rattle.std.specs.List.{list_all}
 use Rattle.std.specs.Prelude.{if◌then◌else◌, nat_le, nat_lt}
 use Rattle.std.specs.Str.Parse.{digits_value}
+use Rattle.dft_base.proofs.BitLemmas.{not_true}
+use Rattle.dft_base.proofs.NumberLemmas.{not_less}
 use Rattle.dft_command_line.specs.CommandLine as line
 use Rattle.dft_command_line.specs.Words.{IsDecimal}
 use Rattle.dft_command_line.proofs.JobWords.{decimal_is, is_decimal_of}
 use Rattle.dft_explain.specs.Faults.{NoNumber, Range, Text, chains, channels, decimal_of, fault_of_number, is_between, is_in, limit, longest, masks, outputs, seed, size}
-
-not_less : (a b : ℕ) → b ≤ a → nat_lt a b ≡ false
-not_less a b p = grind (arith, nat_tests, p)
-
-not_true : (t : Bool) → not t ≡ true → t ≡ false
-not_true true e = absurd cc
-not_true false e = refl
 
 -- a number in a range
 pub record Number (digits least most : ℕ) (text : Text) : Type 0 where

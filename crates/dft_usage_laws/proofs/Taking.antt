@@ -5,13 +5,10 @@ use Rattle.std.specs.List.{AllByRecursion}
 use Rattle.std.specs.Prelude.{flat_map, if◌then◌else◌}
 use Rattle.dft_command_line.specs.Words.{Given, is_value, is_value_word, words_of}
 use Rattle.dft_explain.specs.Faults.{Fault, NoOption, Twice, Form, Text, by_value, fault_of_named, fault_of_option, fault_of_value, has, is_among, joined_in, may_be_value, name_in, names_with, or_else, value_from, words_after, wrong_option}
+use Rattle.dft_explain.proofs.FaultLemmas.{or_none, last}
 use Rattle.dft_usage_laws.proofs.OptionWords.{OfName, Parsed, is_alone, is_joined, name_of_alone, name_of_joined, none_of_alone, parsed, value_of_joined}
 
 -- ---- one fault or another
-
-pub or_none : (fault other : Option Fault) → fault ≡ None → or_else fault other ≡ other
-or_none None other e = refl
-or_none (Some fault) other e = absurd cc
 
 or_none_right : (fault : Option Fault) → or_else fault None ≡ fault
 or_none_right None = refl
@@ -22,10 +19,6 @@ or_both None other e = (refl, e)
 or_both (Some fault) other e = absurd cc
 
 -- ---- one option, and those behind it
-
-last : (form : Form) (names : List Text) (value : Option Text) → wrong_option form names (words_after value []) ≡ None
-last form names None = refl
-last form names (Some value) = refl
 
 more : (form : Form) (names : List Text) (value : Option Text) (next : Text) (words : List Text) → by_value value (wrong_option form names (next ∷ words)) (wrong_option form names words) ≡ wrong_option form names (words_after value (next ∷ words))
 more form names None next words = refl

@@ -1,6 +1,6 @@
 -- Lists of lists, cut; and maps over numbers.
-use Rattle.std.proofs.Common.{◌≡◌, ℕ, zero, suc, ◌+◌, ◌*◌, ◌<◌, Bool, ◌||◌, List, [], ◌∷◌, ◌++◌, map, flat_map, length, take, drop, refl, sym, ap, ap₂, ◌∙◌, append_assoc, length-append, arith}
-use Rattle.std.specs.List.{All, list_any, range_with_len}
+use Rattle.std.proofs.Common.{◌≡◌, ℕ, zero, suc, ◌+◌, ◌*◌, ◌<◌, List, [], ◌∷◌, ◌++◌, map, flat_map, length, take, drop, refl, sym, ap, ap₂, ◌∙◌, append_assoc, length-append, arith}
+use Rattle.std.specs.List.{All, range_with_len}
 use Rattle.std.proofs.lemmas.List.{take_at, drop_at, drop-drop}
 use Rattle.std.proofs.lemmas.List.Elements.{All-head, All-tail}
 use Rattle.std.proofs.lemmas.List.FromFn.{map-range_with_len_more}
@@ -38,10 +38,6 @@ same_in_range f g from (suc count) same = ap₂ (λ x l. x ∷ l) (same from (om
 pub same_on : {X Y : Type 0} (P : X → Type 0) (f g : X → Y) → ((x : X) → P x → f x ≡ g x) → (xs : List X) → All P xs → map f xs ≡ map g xs
 same_on P f g same [] all = refl
 same_on P f g same (x ∷ xs) all = ap₂ (λ y l. y ∷ l) (same x (All-head P x xs all)) (same_on P f g same xs (All-tail P x xs all))
-
-pub list_any-map : {X Y : Type 0} (p : Y → Bool) (f : X → Y) (xs : List X) → list_any p (map f xs) ≡ list_any (λ x. p (f x)) xs
-list_any-map p f [] = refl
-list_any-map p f (x ∷ xs) = ap (λ b. p (f x) || b) (list_any-map p f xs)
 
 -- one item more of a list that grows by a function of numbers
 pub grown : {X : Type 0} (f : ℕ → X) (old so_far new : List X) (k : ℕ) (x : X) → so_far ≡ old ++ map f (range_with_len 0 k) → new ≡ so_far ++ x ∷ [] → x ≡ f k → new ≡ old ++ map f (range_with_len 0 (k + 1))

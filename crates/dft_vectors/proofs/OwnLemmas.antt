@@ -7,6 +7,7 @@ use Rattle.std.proofs.lemmas.Option.{slice_get-get_or}
 use Rattle.std.proofs.lemmas.List.Elements.{All-nil, All-append}
 use Rattle.dft_base.specs.declared.dir.Dir.{Dir}
 use Rattle.dft_base.specs.declared.dir.Dir.TheVariants.{Input, Output}
+use Rattle.dft_base.proofs.ListLemmas.{any_map}
 use Rattle.dft_netlist.specs.declared.port.Port.{Port}
 use Rattle.dft_netlist.specs.Sound.{IsNetlist}
 use Rattle.dft_netlist.proofs.LiveLemmas.{bit_live}
@@ -22,14 +23,14 @@ use Rattle.dft_vectors.specs.declared.own.OwnPorts.{OwnPorts}
 use Rattle.dft_vectors.specs.Signals.{bits_in, input_bits}
 use Rattle.dft_vectors.specs.OwnPorts.{driven, inputs_by, quiet_vector, pulsing_vector}
 use Rattle.dft_vectors.specs.Tables.{AreOwn, nets_named, own_input}
-use Rattle.dft_vectors.proofs.ListLemmas.{list_any-map, same_on}
+use Rattle.dft_vectors.proofs.ListLemmas.{same_on}
 
 -- what a bit is for, by the nets of the clocks and the resets
 pub found_as : (n : Netlist) (config : Config) (clocks resets : List (Option NetId)) → clocks ≡ nets_named n config.domains → resets ≡ nets_named n config.resets → (nets : List NetId) →
     map (λ net. record { net = net; is_clock = list_any (is_net net.0) clocks; is_reset = list_any (is_net net.0) resets }) nets ≡ map (own_input n config) nets
 found_as n config clocks resets c r nets =
     (λ i. map (λ (net : NetId). record { net = net; is_clock = list_any (is_net net.0) (c i); is_reset = list_any (is_net net.0) (r i) }) nets)
-    ∙ (λ i. map (λ (net : NetId). record { net = net; is_clock = list_any-map (is_net net.0) (input_net n) config.domains i; is_reset = list_any-map (is_net net.0) (input_net n) config.resets i }) nets)
+    ∙ (λ i. map (λ (net : NetId). record { net = net; is_clock = any_map (is_net net.0) (input_net n) config.domains i; is_reset = any_map (is_net net.0) (input_net n) config.resets i }) nets)
 
 pub quiet_inputs : (n : Netlist) (config : Config) (inputs : List OwnInput) → inputs ≡ map (own_input n config) (input_bits n.ports) →
     map (λ input. driven false (port_value input.is_reset None)) inputs ≡ inputs_by n (quiet_vector n config)

@@ -8,7 +8,7 @@ use Rattle.dft_cells.specs.Cells.{find_cell}
 use Rattle.dft_netlist_text.specs.declared.text.Cause.TheVariants as cause
 use Rattle.dft_netlist_text.specs.declared.text.TokenKind.TheVariants as kind
 use Rattle.dft_netlist_text.specs.Lexemes.{Token, tokens}
-use Rattle.dft_netlist_text.specs.Steps.{Outcome, Rule, left, sees, refuse, fault, expect, eat, checked}
+use Rattle.dft_netlist_text.specs.Steps.{Outcome, left, sees, refuse, fault, expect, eat, checked}
 use Rattle.dft_netlist_text.specs.Modules.{Draft}
 use Rattle.dft_netlist_text.specs.Items.{item, items_from, items}
 use Rattle.dft_netlist_text.specs.NetlistText.{heading, module_end, end_of_text, module_text, module_of}
@@ -23,6 +23,7 @@ use Rattle.dft_verilog.specs.TextsSaid.{IsAlone, IsReadAlone}
 use Rattle.dft_verilog.proofs.ModulesLemmas.{modules_end}
 use Rattle.dft_verilog.proofs.KeptGrammarLemmas.{Goes}
 use Rattle.dft_verilog.proofs.KeptModuleLemmas.{Whole, names_one, one_keep}
+use Rattle.dft_verilog.proofs.LoneModuleLemmas.{behind_items, behind_module_items, no_value}
 
 -- ---- module instances are never fewer
 
@@ -90,9 +91,6 @@ yielded P o m us h is = subst (Yields P) is h
 
 -- ---- items
 
-no_value : {A B : Type 0} (x : B) (y : A) → Err x ≡ Ok y → ⊥
-no_value x y e = cc
-
 same_said : (m whole : Said) (ts us : List Token) → ◌≡◌ {A = Outcome Said} (Ok (m, ts)) (Ok (whole, us)) → (m ≡ whole) × (ts ≡ us)
 same_said m whole ts us is =
     let same : ◌≡◌ {A = Said × List Token} (m, ts) (whole, us) = cc in
@@ -133,13 +131,6 @@ items_alone zero m whole ts us is none = drafts_same m whole ts us is
 items_alone (suc n) m whole ts us is none = alone_by n m whole ts us (sees kind.Endmodule ts) (names_module m.draft ts) (sub_item m ts) (item m.draft ts) (items_alone n) (some_made m ts) is none
 
 -- ---- the module
-
--- what comes behind the items
-abbrev behind_items : Draft → Rule Draft
-behind_items more = λ ts. parser.and_then (module_end more ts) end_of_text
-
-abbrev behind_module_items : Said → Rule Said
-behind_module_items m = λ ts. parser.and_then (module_end m.draft ts) (λ (x : Draft). parser.pure (record m { draft = x }))
 
 -- a lone module says this, and what was said before its end has no more instances
 abbrev EndsAlone : Said → Outcome Draft → (whole : Said) → (us : List Token) → Type 0

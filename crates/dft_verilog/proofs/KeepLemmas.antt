@@ -27,6 +27,7 @@ use Rattle.dft_modules.specs.SubInstances.{name_sub}
 use Rattle.dft_verilog_draft.specs.Drafts.{IsMeaningWithin, AreNamesWithin, IsDeclaredWithin, InstanceFits, JoinFits, nets_alone}
 use Rattle.dft_verilog_draft.specs.Free.{taken_bit}
 use Rattle.dft_verilog_draft.proofs.DeclareLemmas.{length-bit_names}
+use Rattle.dft_verilog_draft.proofs.DraftLemmas.{meaning_more}
 use Rattle.dft_verilog.proofs.SaidLemmas.{ArePlaced, port_list, port_named, entry, list_set, get_last, placed_left, placed_append, placed_bits, place_found, with_bits-is}
 
 -- ---- faults
@@ -133,12 +134,6 @@ raise start floor d h = record { name = h.name; library = h.library; many = omeg
 
 pub lower : (start : Draft) (floor more : ℕ) (d : Draft) → floor ≤ more → Keeps start more d → Keeps start floor d
 lower start floor more d le h = record { name = h.name; library = h.library; many = omega (arith, h.many); places = h.places; names = h.names; ports = h.ports; instances = h.instances; joins = h.joins }
-
-meaning_more : (a b : ℕ) → a ≤ b → (m : Meaning) → IsMeaningWithin a m → IsMeaningWithin b m
-meaning_more a b le (meaning.Nets shape) h = omega arith
-meaning_more a b le (meaning.Port place) h = tt
-meaning_more a b le meaning.Bit h = tt
-meaning_more a b le meaning.Instance h = tt
 
 names_within_more : (a b : ℕ) → a ≤ b → (names : List TakenName) → AreNamesWithin a names → AreNamesWithin b names
 names_within_more a b le names h = All-weaker (λ (e : TakenName). IsMeaningWithin a e.meaning) (λ (e : TakenName). IsMeaningWithin b e.meaning) (λ e w. meaning_more a b le e.meaning w) names h

@@ -9,6 +9,7 @@ use Rattle.dft_base.specs.Parser as parser
 use Rattle.dft_base.specs.Parser.{Checked, ◌>>=◌}
 use Rattle.dft_base.specs.Words.{is_reserved}
 use Rattle.std.specs.Char.{is_digit}
+use Rattle.dft_base.proofs.BitLemmas.{not_true}
 use Rattle.dft_cells.specs.declared.kind.Kind.{Kind}
 use Rattle.dft_cells.specs.declared.cell.CellId.{CellId}
 use Rattle.dft_cells.specs.declared.cell.Cell.{Cell}
@@ -319,17 +320,13 @@ named_goes start floor at depth d h ts =
     (with_bits start floor (drives at) (bits_of_name at depth named d) (meaning_keep start floor (implies at depth && is_whole what) named d (meaning_of d word) h)
     (λ o e. (named_kept at depth named d o (meaning-within (length d.nets) d.names word h.names) (within_at d.nets d.ports h.ports) e).1 (drives at))))))
 
-off : (b : Bool) → not b ≡ true → b ≡ false
-off true h = absurd (cc)
-off false h = refl
-
 constant_keep : (start : Draft) (floor : ℕ) (at : Site) (depth : ℕ) (d : Draft) → Keeps start floor d → (ts : List Token) → Goes (Bits start floor (drives at)) (constant_operand at depth d ts)
 unfolding constant_operand
 constant_keep start floor at depth d h ts =
     behind Any (Bits start floor (drives at)) (constant ts) _ (constant_goes ts) (λ bits a us.
     behind Any (Bits start floor (drives at)) (followed at depth us) _ (followed_goes at depth us) (λ w b vs.
     of_need_by (Bits start floor (drives at)) cause.Token (left ts) (not (drives at)) _ vs tt (λ free.
-    (h, and_constants (length d.nets) (drives at) [] bits (off (drives at) free) (no_bits (length d.nets) (drives at))))))
+    (h, and_constants (length d.nets) (drives at) [] bits (not_true (drives at) free) (no_bits (length d.nets) (drives at))))))
 
 operand_keep : (start : Draft) (floor : ℕ) (at : Site) (depth : ℕ) (d : Draft) → Keeps start floor d → (ts : List Token) → Goes (Bits start floor (drives at)) (operand at depth d ts)
 unfolding operand

@@ -1,16 +1,15 @@
 -- A text of one module, read as one of several.
-use Rattle.std.proofs.Common.{◌≡◌, ℕ, zero, suc, ◌+◌, ◌-◌, ◌<◌, Bool, true, false, not, ◌&&◌, ◌||◌, ◌==◌, cond, nat_lt, List, [], ◌∷◌, length, take, is_some, Option, Some, None, Ok, Err, refl, sym, ap, ap₂, ◌∙◌, subst, arith, rules}
-use denote.Enum.Bare.{same_true}
+use Rattle.std.proofs.Common.{◌≡◌, ℕ, zero, suc, ◌+◌, ◌-◌, ◌<◌, Bool, true, false, not, ◌&&◌, ◌||◌, ◌==◌, cond, nat_lt, List, [], ◌∷◌, length, take, is_some, Option, Some, None, Ok, Err, refl, sym, ap, ap₂, ◌∙◌, subst, arith}
 use Rattle.std.specs.Char.{is_ascii_digit}
 use Rattle.std.specs.List.{prefix_len}
 use Rattle.std.specs.Prelude.{codes}
 use Rattle.dft_base.specs.Lexing.{Text, Cut, Blank, tokens_from, spread}
 use Rattle.dft_base.specs.Parser as parser
 use Rattle.dft_base.specs.Words.{begins_word}
+use Rattle.dft_base.proofs.BitLemmas.{and_first}
 use Rattle.dft_cells.specs.declared.cell.Cell.{Cell}
 use Rattle.dft_cells.specs.declared.cell.CellId.{CellId}
 use Rattle.dft_cells.specs.Cells.{find_cell}
-use Rattle.dft_netlist_text.specs.contracts.text.TokenKind.{the_type}
 use Rattle.dft_netlist_text.specs.declared.text.Cause.TheVariants as cause
 use Rattle.dft_netlist_text.specs.declared.text.TokenKind.{TokenKind}
 use Rattle.dft_netlist_text.specs.declared.text.TokenKind.TheVariants as kind
@@ -19,6 +18,7 @@ use Rattle.dft_netlist_text.specs.Steps.{Outcome, Rule, kind_of, same_kind, byte
 use Rattle.dft_netlist_text.specs.Modules.{Draft}
 use Rattle.dft_netlist_text.specs.Items.{item, item_of, cell_item, instances_named, items_from, items}
 use Rattle.dft_netlist_text.specs.NetlistText.{heading, module_end, end_of_text, module_text, module_of}
+use Rattle.dft_netlist_text.proofs.KindLemmas.{kinds_same}
 use Rattle.dft_modules.specs.declared.fault.ModulesFault.TheVariants as several
 use Rattle.dft_modules.specs.SubInstances.{Said, names_module, module_item, module_items_from, module_items, sub_item, one_module}
 use Rattle.dft_modules.specs.ModuleTexts.{module_said, in_module, name_ahead, repeats, next_module, modules_from, modules_of}
@@ -31,7 +31,7 @@ abbrev pub lone : Draft → Said
 lone d = record { draft = d; subs = [] }
 
 -- a fault is no value
-no_value : {A B : Type 0} (x : B) (y : A) → Err x ≡ Ok y → ⊥
+pub no_value : {A B : Type 0} (x : B) (y : A) → Err x ≡ Ok y → ⊥
 no_value x y e = cc
 
 same_outcome : (d e : Draft) (ts us : List Token) → ◌≡◌ {A = Outcome Draft} (Ok (d, ts)) (Ok (e, us)) → (d ≡ e) × (ts ≡ us)
@@ -40,10 +40,6 @@ same_outcome d e ts us is =
     (ap (λ (p : Draft × List Token). p.0) same, ap (λ (p : Draft × List Token). p.1) same)
 
 -- ---- items
-
-kinds_same : (a b : TokenKind) → same_kind a b ≡ true → a ≡ b
-unfolding same_kind
-kinds_same a b h = same_true the_type (search rules) a b h
 
 sees_name : (ts : List Token) → sees kind.Name ts ≡ true → kind_of ts ≡ kind.Name
 unfolding sees
@@ -109,10 +105,10 @@ end_alone (Ok p) d us is = ended p.0 d p.1 us is
 end_alone (Err f) d us is = absurd (no_value f (d, us) is)
 
 -- what comes behind the items
-abbrev behind_items : Draft → Rule Draft
+abbrev pub behind_items : Draft → Rule Draft
 behind_items more = λ ts. parser.and_then (module_end more ts) end_of_text
 
-abbrev behind_module_items : Said → Rule Said
+abbrev pub behind_module_items : Said → Rule Said
 behind_module_items m = λ ts. parser.and_then (module_end m.draft ts) (λ (x : Draft). parser.pure (record m { draft = x }))
 
 body_by : (o : Outcome Draft) (start d : Draft) (ts us : List Token) → items start ts ≡ o → parser.and_then o behind_items ≡ Ok (d, us) → ReadsLone (parser.and_then (module_items (lone start) ts) behind_module_items) d us
@@ -216,10 +212,6 @@ ahead mode zero (b ∷ text) =
 
 -- ---- the text
 
-both_true : (a b : Bool) → (a && b) ≡ true → a ≡ true
-both_true true b h = refl
-both_true false b h = h
-
 not_repeated : (a : Bool) (cell : Option CellId) → cell ≡ None → (a && (is_some cell || false)) ≡ false
 not_repeated true None none = refl
 not_repeated false None none = refl
@@ -256,7 +248,7 @@ lone_by library text d (Ok p) at is none =
     let read = module_alone library d ts p.1 (at ∙ ap (λ (x : Draft). Ok (x, p.1)) same) in
     let kept = kept_of library d ts p.1 read.0 in
     let new : find_cell library (name_ahead ts) ≡ None = ap (find_cell library) (sym kept.0.draft.name) ∙ none in
-    let some : 0 < left ts = ahead false 0 text (both_true (sees kind.Module ts) (sees kind.Name (next ts)) kept.1) in
+    let some : 0 < left ts = ahead false 0 text (and_first (sees kind.Module ts) (sees kind.Name (next ts)) kept.1) in
     record {
       modules = ap parser.value_of (modules_by (left ts) library text d ts p.1 some (first_module library d ts p.1 read.0 new) read.1);
       library_is = kept.0.draft.library;

@@ -17,7 +17,7 @@ use Rattle.dft_verilog_draft.specs.Drafts.{IsDraft, IsMeaningWithin, AreNamesWit
 
 -- ---- more nets
 
-meaning_more : (a b : ℕ) → a ≤ b → (m : Meaning) → IsMeaningWithin a m → IsMeaningWithin b m
+pub meaning_more : (a b : ℕ) → a ≤ b → (m : Meaning) → IsMeaningWithin a m → IsMeaningWithin b m
 meaning_more a b le (meaning.Nets shape) h = omega arith
 meaning_more a b le (meaning.Port place) h = tt
 meaning_more a b le meaning.Bit h = tt

@@ -1,20 +1,17 @@
 -- Rules of several modules, by the steps in which they are read.
-use Rattle.std.proofs.Common.{◌≡◌, ℕ, Bool, true, false, not, ◌&&◌, cond, List, [], ◌∷◌, ◌++◌, Option, Some, None, is_some, slice_get, Result, Ok, Err, refl, sym, ap, subst, ◌∙◌, rules}
-use denote.Enum.Bare.{same_true}
+use Rattle.std.proofs.Common.{◌≡◌, ℕ, Bool, true, false, not, ◌&&◌, cond, List, [], ◌∷◌, ◌++◌, Option, Some, None, is_some, slice_get, Result, Ok, Err, refl, sym, ap, subst, ◌∙◌}
 use Rattle.dft_base.specs.Lexing.{Text}
 use Rattle.dft_base.specs.Parser as parser
 use Rattle.dft_base.specs.Parser.{and_then}
 use Rattle.dft_cells.specs.declared.cell.Cell.{Cell}
 use Rattle.dft_cells.specs.declared.cell.CellId.{CellId}
 use Rattle.dft_cells.specs.Cells.{find_cell}
-use Rattle.dft_netlist_text.specs.contracts.text.TokenKind.{the_type}
-use Rattle.dft_netlist_text.specs.declared.text.TokenKind.{TokenKind}
 use Rattle.dft_netlist_text.specs.declared.text.TokenKind.TheVariants as kind
 use Rattle.dft_netlist_text.specs.declared.text.Cause.TheVariants as cause
 use Rattle.dft_netlist_text.specs.declared.text.Fault.{Fault}
 use Rattle.dft_netlist_text.specs.declared.text.Meaning.TheVariants as meaning
 use Rattle.dft_netlist_text.specs.Lexemes.{Token}
-use Rattle.dft_netlist_text.specs.Steps.{Outcome, Rule, bytes, left, next, kind_of, sees, same_kind, expect, fault, refusal}
+use Rattle.dft_netlist_text.specs.Steps.{Outcome, Rule, bytes, left, next, sees, expect, fault, refusal}
 use Rattle.dft_netlist_text.specs.Modules.{Draft, empty_draft, is_taken, with_name}
 use Rattle.dft_netlist_text.specs.Items.{instances_of, instances, instances_named, cell_item, item_of, item}
 use Rattle.dft_netlist_text.specs.NetlistText.{header, heading, module_end}
@@ -24,6 +21,7 @@ use Rattle.dft_modules.specs.SubInstances.{DraftSub, Said, name_sub, sub_instanc
 use Rattle.dft_modules.specs.ModuleTexts.{in_module, is_repeated, repeats, name_ahead, next_module}
 use Rattle.dft_lexing.specs.declared.read_error.ReadError as reading
 use Rattle.dft_lexing.specs.declared.read_error.ReadError.TheVariants as errors
+use Rattle.dft_netlist_text.proofs.KindLemmas.{kind_is}
 use Rattle.dft_verilog_tokens.specs.Reading.{Reads, ReadError}
 use Rattle.dft_verilog_module.specs.SaidModules.{in_module_error, next_named, said, named_as, behind_item_name, module_name, headed, behind_name}
 
@@ -40,10 +38,6 @@ sub_library place word d e h = named_by (is_taken d word) place word d e h
 pub ruleset sub_rules = (sub_library)
 
 -- ---- items that begin with a name
-
-kind_is : (k : TokenKind) (ts : List Token) → sees k ts ≡ true → kind_of ts ≡ k
-unfolding sees same_kind
-kind_is k ts h = same_true the_type (search rules) (kind_of ts) k h
 
 -- an item that begins with the name of a cell
 named_cell : (m : Said) (ts : List Token) (id : CellId) → find_cell m.draft.library (bytes ts) ≡ Some id → sees kind.Name ts ≡ true → module_item m ts ≡ named_as (bytes ts) m (Some id) (next ts)

@@ -148,7 +148,7 @@ module _ {X : Type 0} (f : X → Option Text) where
 
 -- ---- the names of a netlist
 
-none_or_some : (n : ℕ) → (n ≡ 0) ⊎ (1 ≤ n)
+pub none_or_some : (n : ℕ) → (n ≡ 0) ⊎ (1 ≤ n)
 none_or_some zero = inl refl
 none_or_some (suc n) = inr (omega arith)
 

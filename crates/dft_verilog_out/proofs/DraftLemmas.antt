@@ -34,7 +34,7 @@ free_at es word rest once =
     let o = once word in
     look-none es word (omega (arith, times-append word (words es) (word ∷ rest), times-head word rest))
 
-meaning_none : (d : Draft) (word : Text) → look d.names word ≡ None → meaning_of d word ≡ None
+pub meaning_none : (d : Draft) (word : Text) → look d.names word ≡ None → meaning_of d word ≡ None
 meaning_none d word h = ap (λ o. option_map (λ (e : TakenName). e.meaning) o) h
 
 pub meaning_some : (d : Draft) (word : Text) (e : TakenName) → look d.names word ≡ Some e → meaning_of d word ≡ Some e.meaning

@@ -4,7 +4,7 @@ use Rattle.std.specs.List.{list_all}
 use Rattle.std.proofs.lemmas.Bool.Decides.{nat_tests}
 use Rattle.dft_base.specs.declared.dir.Dir.{Dir}
 use Rattle.dft_base.specs.declared.dir.Dir.TheVariants.{Input, Output}
-use Rattle.dft_base.proofs.BitLemmas.{and_first, and_second}
+use Rattle.dft_base.proofs.BitLemmas.{and_first, and_second, with_true}
 use Rattle.dft_patterns.specs.declared.act.Act.{Act}
 use Rattle.dft_patterns.specs.declared.act.Act.TheVariants.{Low, High, ExpectLow, ExpectHigh, Ignore}
 use Rattle.dft_patterns.specs.declared.shapes.Event.{Event}
@@ -34,10 +34,6 @@ IsLast o ts = (bound : ℕ) → below o bound ≡ list_all (λ t. nat_lt t bound
 abbrev IsFirst : Option ℕ → List ℕ → Type 0
 IsFirst o ts = (bound : ℕ) → above o bound ≡ list_all (λ t. nat_lt bound t) ts
 
-and_true : (b : Bool) → b ≡ (b && true)
-and_true true = refl
-and_true false = refl
-
 later_of : (t : Bool) (last time bound : ℕ) → nat_lt last time ≡ t → nat_lt (cond t time last) bound ≡ (nat_lt time bound && nat_lt last bound)
 later_of true last time bound e = grind (arith, nat_tests)
 later_of false last time bound e = grind (arith, nat_tests)
@@ -47,11 +43,11 @@ earlier_of true first time bound e = grind (arith, nat_tests)
 earlier_of false first time bound e = grind (arith, nat_tests)
 
 below_later : (o : Option ℕ) (time bound : ℕ) → below (later o time) bound ≡ (nat_lt time bound && below o bound)
-below_later None time bound = and_true (nat_lt time bound)
+below_later None time bound = with_true (nat_lt time bound)
 below_later (Some last) time bound = later_of (nat_lt last time) last time bound refl
 
 above_earlier : (o : Option ℕ) (time bound : ℕ) → above (earlier o time) bound ≡ (nat_lt bound time && above o bound)
-above_earlier None time bound = and_true (nat_lt bound time)
+above_earlier None time bound = with_true (nat_lt bound time)
 above_earlier (Some first) time bound = earlier_of (nat_lt time first) first time bound refl
 
 last_more : (o : Option ℕ) (time : ℕ) (ts : List ℕ) → IsLast o ts → IsLast (later o time) (time ∷ ts)
@@ -94,7 +90,7 @@ ordered (Some last) None ts us h g = all_true ts ∙ all_same (λ t. true) (λ t
 ordered None p ts us h g = none_before ts us (h 0)
 
 one_first : (time : ℕ) → IsFirst (Some time) (time ∷ [])
-one_first time bound = and_true (nat_lt bound time)
+one_first time bound = with_true (nat_lt bound time)
 
 -- ---- what a reader keeps
 

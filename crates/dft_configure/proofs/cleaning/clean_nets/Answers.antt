@@ -1,7 +1,7 @@
 use Rattle.std.proofs.Common.{◌≡◌, ◌∙◌, ◌<◌, false, None, List, Bool, length, ap, refl, arith}
 use Rattle.std.specs.Prelude.{slice_index_or}
 use Rattle.std.proofs.lemmas.List.{get_or_read}
-use Rattle.dft_rules.proofs.MarkLemmas.{refilled}
+use Rattle.dft_base.proofs.ListLemmas.{take_new}
 use Rattle.dft_configure.proofs.RootLemmas.{clean_all, clean_more}
 use Rattle.dft_configure.proofs.cleaning.clean_nets.Goals as goal
 
@@ -15,7 +15,7 @@ loop-net-preserved c =
     let within : net < length c.in_ok-used.used.items = omega (arith, c.len-net-end.ensures, c.in_ok-used.used.ok.0) in
     let less : net < length n.nets = omega (arith, count, within) in
     let marked = get_or_read c.in_ok-used.used.items net c.index.result.now within c.index.ensures false in
-    let full = refilled old c.clear.new.marks c.loop-net.marks.len (omega (arith, c.loop-net.marks.ok.0)) same in
+    let full = take_new old c.clear.new.marks c.loop-net.marks.len (omega (arith, c.loop-net.marks.ok.0)) same in
     record {
       size = ap (λ (xs : List Bool). length xs) full ∙ same ∙ c.loop-net.invariant.size;
       each = λ port.

@@ -3,13 +3,13 @@ use Rattle.std.proofs.Common.{ℕ, Option, None, ◌≡◌, ◌<◌, ◌∙◌, 
 use Rattle.std.proofs.lemmas.List.{get_or_read, get_or_default}
 use Rattle.dft_base.specs.declared.tri.Tri.{Tri}
 use Rattle.dft_base.specs.declared.tri.Tri.TheVariants.{Zero, Unknown}
+use Rattle.dft_netlist.proofs.ListingLemmas.{has_item}
 use Rattle.dft_logic.specs.declared.circuit.Latch.{Latch}
 use Rattle.dft_cycle.specs.Machine.{value_at}
 use Rattle.dft_logic.specs.Circuit.{Circuit, IsCircuit, latch_of, latch_at}
 use Rattle.dft_cycle.specs.Views.{held_by}
 use Rattle.dft_logic.specs.Tables.{list_at}
 use Rattle.dft_logic.proofs.Writings.{write_same}
-use Rattle.dft_cycle.proofs.Sweepings.{has_item}
 use Rattle.dft_cycle.proofs.DomainLemmas.{listed_more, holder_listed, held_once}
 use Rattle.dft_logic.specs.CircuitShown.{circuit_of}
 use Rattle.dft_logic.proofs.CircuitReads.{latch_read}

@@ -3,13 +3,13 @@ use Rattle.std.proofs.Common.{ℕ, ◌≡◌, ◌<◌, ◌∙◌, refl, ap, leng
 use Rattle.std.proofs.lemmas.List.{get_or_read}
 use Rattle.dft_base.specs.declared.tri.Tri.{Tri}
 use Rattle.dft_netlist.specs.Logic.{Cell}
+use Rattle.dft_netlist.proofs.ListingLemmas.{has_item}
 use Rattle.dft_logic.specs.declared.circuit.FlipFlop.{FlipFlop}
 use Rattle.dft_cycle.specs.Machine.{value_at}
 use Rattle.dft_logic.specs.Circuit.{Circuit, IsCircuit, cell_of, cell_at}
 use Rattle.dft_cycle.specs.Views.{next_at, next_by}
 use Rattle.dft_logic.specs.Tables.{list_at}
 use Rattle.dft_logic.proofs.Writings.{cell_read}
-use Rattle.dft_cycle.proofs.Sweepings.{has_item}
 use Rattle.dft_cycle.proofs.DomainLemmas.{listed_more, cell_listed, next_listed}
 use Rattle.dft_logic.specs.CircuitShown.{circuit_of}
 use Rattle.dft_logic.proofs.CircuitReads.{flop_read}

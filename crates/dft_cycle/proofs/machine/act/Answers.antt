@@ -3,12 +3,12 @@ use Rattle.std.proofs.Common.{ℕ, List, Option, ◌≡◌, ◌<◌, ◌+◌, �
 use Rattle.std.proofs.lemmas.List.{get_or_read, length-set}
 use Rattle.dft_base.specs.declared.tri.Tri.{Tri}
 use Rattle.dft_netlist.specs.Logic.{Cell, Force}
+use Rattle.dft_netlist.proofs.ListingLemmas.{has_item}
 use Rattle.dft_logic.specs.declared.circuit.FlipFlop.{FlipFlop}
 use Rattle.dft_cycle.specs.Machine.{value_at, acted}
 use Rattle.dft_logic.specs.Circuit.{Circuit, IsCircuit, cell_of, cell_at}
 use Rattle.dft_logic.specs.Tables.{list_at}
 use Rattle.dft_logic.proofs.Writings.{cell_read}
-use Rattle.dft_cycle.proofs.Sweepings.{has_item}
 use Rattle.dft_cycle.proofs.DomainLemmas.{Listed, listed_more, follower_listed, acted_once}
 use Rattle.dft_logic.specs.CircuitShown.{circuit_of}
 use Rattle.dft_logic.proofs.CircuitReads.{flop_read}

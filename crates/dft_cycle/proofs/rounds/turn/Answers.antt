@@ -3,12 +3,12 @@ use Rattle.std.proofs.Common.{ℕ, List, ◌≡◌, ◌<◌, ◌∙◌, ap, sym,
 use Rattle.std.specs.Vec.{with_items}
 use Rattle.dft_base.specs.declared.tri.Tri.{Tri}
 use Rattle.dft_base.specs.Tri.{AboveTri}
+use Rattle.dft_base.proofs.ListLemmas.{refilled_length, refilled_items}
 use Rattle.dft_abstract.specs.Cycle.{AreViews}
 use Rattle.dft_cycle.specs.Machine.{value_at}
 use Rattle.dft_cycle.specs.Views.{StaysBelow, AreNext, is_known}
 use Rattle.dft_logic.specs.Circuit.{Circuit, IsCircuit, logic_at, pulse_at}
 use Rattle.dft_cycle.proofs.AloneLemmas.{turn_alone}
-use Rattle.dft_cycle.proofs.MachineLemmas.{filled, refilled}
 use Rattle.dft_cycle.proofs.Risings.{turn_above, turn_below, turn_done}
 use Rattle.dft_cycle.proofs.SearchLemmas.{next_at, raised_from}
 use Rattle.dft_cycle.proofs.rounds.turn.Goals as goal
@@ -17,9 +17,9 @@ pub returns-clause-search : goal.returns-clause-search
 returns-clause-search c =
     let s = c.args.search.now in
     record {
-      poss = refilled s.poss c.raise-changed.new.poss ∙ c.requires.search.poss;
-      held = refilled s.held c.hold_lockups.new.held ∙ c.requires.search.held;
-      next = refilled s.next c.next_values.new.next ∙ c.requires.search.next;
+      poss = refilled_length s.poss c.raise-changed.new.poss ∙ c.requires.search.poss;
+      held = refilled_length s.held c.hold_lockups.new.held ∙ c.requires.search.held;
+      next = refilled_length s.next c.next_values.new.next ∙ c.requires.search.next;
     }
 
 pub returns-clause-above : goal.returns-clause-above
@@ -29,8 +29,8 @@ returns-clause-above c =
     let s = c.args.search.now in
     let raised = c.raise-changed.new.poss in
     let next = c.next_values.new.next in
-    let kept = filled s.poss raised c.deref_mut-3.result.now c.raise-changed.auto.poss c.deref_mut-3.ensures.value in
-    let nexts = c.deref-5.ensures.value ∙ filled s.next next c.deref_mut-2.result.now c.next_values.auto.next c.deref_mut-2.ensures.value in
+    let kept = refilled_items s.poss raised c.deref_mut-3.result.now c.raise-changed.auto.poss c.deref_mut-3.ensures.value in
+    let nexts = c.deref-5.ensures.value ∙ refilled_items s.next next c.deref_mut-2.result.now c.next_values.auto.next c.deref_mut-2.ensures.value in
     subst (λ (l : List Tri). (k : ℕ) → AboveTri (value_at l k) (value_at s.poss.items k)) (sym kept)
     (turn_above x (pulse_at c.args.phase.pulse) next s.poss.items raised c.requires.search.poss (c.raise-changed.auto.poss ∙ ap length c.deref_mut-3.ensures.value)
     (raised_from x (pulse_at c.args.phase.pulse) c.deref-4.result.now c.deref-5.result.now next c.deref_mut-3.result.now s.poss.items raised (c.deref-4.ensures.value ∙ ap (λ (m : Circuit). m.flops) c.circuit.view_is) nexts c.deref_mut-3.ensures.value c.raise-changed.ensures.each))
@@ -43,9 +43,9 @@ returns-clause-below c =
     let held = c.hold_lockups.new.held in
     let raised = c.raise-changed.new.poss in
     let next = c.next_values.new.next in
-    let kept = filled s.poss raised c.deref_mut-3.result.now c.raise-changed.auto.poss c.deref_mut-3.ensures.value in
-    let holds = c.deref-3.ensures.value ∙ filled s.held held c.deref_mut.result.now c.hold_lockups.auto.held c.deref_mut.ensures.value in
-    let nexts = c.deref-5.ensures.value ∙ filled s.next next c.deref_mut-2.result.now c.next_values.auto.next c.deref_mut-2.ensures.value in
+    let kept = refilled_items s.poss raised c.deref_mut-3.result.now c.raise-changed.auto.poss c.deref_mut-3.ensures.value in
+    let holds = c.deref-3.ensures.value ∙ refilled_items s.held held c.deref_mut.result.now c.hold_lockups.auto.held c.deref_mut.ensures.value in
+    let nexts = c.deref-5.ensures.value ∙ refilled_items s.next next c.deref_mut-2.result.now c.next_values.auto.next c.deref_mut-2.ensures.value in
     subst (λ (l : List Tri). StaysBelow (logic_at x) (pulse_at c.args.phase.pulse) s.poss.items l) (sym kept)
     (turn_below x (pulse_at c.args.phase.pulse) c.args.phase.clocks.now next s.poss.items raised (subst IsCircuit c.circuit.view_is c.circuit.invariant) c.requires.search.poss (c.raise-changed.auto.poss ∙ ap length c.deref_mut-3.ensures.value)
     (raised_from x (pulse_at c.args.phase.pulse) c.deref-4.result.now c.deref-5.result.now next c.deref_mut-3.result.now s.poss.items raised (c.deref-4.ensures.value ∙ ap (λ (m : Circuit). m.flops) c.circuit.view_is) nexts c.deref_mut-3.ensures.value c.raise-changed.ensures.each)
@@ -59,9 +59,9 @@ returns-clause-done c = λ off view views.
     let held = c.hold_lockups.new.held in
     let raised = c.raise-changed.new.poss in
     let next = c.next_values.new.next in
-    let kept = filled s.poss raised c.deref_mut-3.result.now c.raise-changed.auto.poss c.deref_mut-3.ensures.value in
-    let taken = filled s.next next c.deref_mut-2.result.now c.next_values.auto.next c.deref_mut-2.ensures.value in
-    let holds = c.deref-3.ensures.value ∙ filled s.held held c.deref_mut.result.now c.hold_lockups.auto.held c.deref_mut.ensures.value in
+    let kept = refilled_items s.poss raised c.deref_mut-3.result.now c.raise-changed.auto.poss c.deref_mut-3.ensures.value in
+    let taken = refilled_items s.next next c.deref_mut-2.result.now c.next_values.auto.next c.deref_mut-2.ensures.value in
+    let holds = c.deref-3.ensures.value ∙ refilled_items s.held held c.deref_mut.result.now c.hold_lockups.auto.held c.deref_mut.ensures.value in
     let nexts = c.deref-5.ensures.value ∙ taken in
     let size = c.next_values.auto.next ∙ ap length c.deref_mut-2.ensures.value ∙ c.requires.search.next in
     let each = raised_from x (pulse_at c.args.phase.pulse) c.deref-4.result.now c.deref-5.result.now next c.deref_mut-3.result.now s.poss.items raised (c.deref-4.ensures.value ∙ ap (λ (m : Circuit). m.flops) c.circuit.view_is) nexts c.deref_mut-3.ensures.value c.raise-changed.ensures.each in
@@ -80,6 +80,6 @@ pub returns-clause-fewer : goal.returns-clause-fewer
 returns-clause-fewer c = λ on.
     (let s = c.args.search.now in
     let raised = c.raise-changed.new.poss in
-    let kept = filled s.poss raised c.deref_mut-3.result.now c.raise-changed.auto.poss c.deref_mut-3.ensures.value in
+    let kept = refilled_items s.poss raised c.deref_mut-3.result.now c.raise-changed.auto.poss c.deref_mut-3.ensures.value in
     subst (λ (l : List Tri). count_by is_known l < count_by is_known s.poss.items) (sym kept)
     (subst (λ (l : List Tri). count_by is_known raised < count_by is_known l) c.deref_mut-3.ensures.value (c.raise-changed.ensures.fewer (c.goes_on.ensures.on on))))

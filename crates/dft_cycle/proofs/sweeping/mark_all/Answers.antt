@@ -1,6 +1,7 @@
 -- One net more is marked.
 use Rattle.std.proofs.Common.{ℕ, ◌<◌, length, refl, get_or, arith}
-use Rattle.dft_cycle.proofs.Sweepings.{marking_more, marking_ends, has_item}
+use Rattle.dft_netlist.proofs.ListingLemmas.{has_item}
+use Rattle.dft_cycle.proofs.Sweepings.{marking_more, marking_ends}
 use Rattle.dft_cycle.proofs.sweeping.mark_all.Goals as goal
 
 pub bounds-marked-net : goal.bounds-marked-net

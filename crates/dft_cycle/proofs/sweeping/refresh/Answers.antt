@@ -1,6 +1,7 @@
 -- One net more has its driver's value.
 use Rattle.std.proofs.Common.{◌∙◌, refl, sym, get_or}
-use Rattle.dft_cycle.proofs.Sweepings.{refreshed_more, has_item}
+use Rattle.dft_netlist.proofs.ListingLemmas.{has_item}
+use Rattle.dft_cycle.proofs.Sweepings.{refreshed_more}
 use Rattle.dft_cycle.proofs.sweeping.refresh.Goals as goal
 use Rattle.dft_cycle.proofs.sweeping.refresh.Goals.{then-any, else-any}
 

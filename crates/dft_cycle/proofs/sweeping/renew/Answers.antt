@@ -10,7 +10,8 @@ use Rattle.dft_logic.specs.Circuit.{Circuit, IsCircuit, cell_of, meaning, Supply
 use Rattle.dft_logic.specs.Tables.{list_at}
 use Rattle.dft_logic.specs.CircuitShown.{circuit_of}
 use Rattle.dft_logic.proofs.CircuitReads.{op_read}
-use Rattle.dft_cycle.proofs.Sweepings.{written, blind}
+use Rattle.dft_logic.proofs.FlagLemmas.{blind}
+use Rattle.dft_cycle.proofs.Sweepings.{written}
 use Rattle.dft_cycle.proofs.sweeping.renew.Goals as goal
 
 pub returns-clause-given : goal.returns-clause-given

@@ -1,8 +1,9 @@
 -- The nets before this one are not marked.
 use Rattle.std.proofs.Common.{map}
 use Rattle.dft_logic.specs.Circuit.{cell_of, view_base}
-use Rattle.dft_cycle.proofs.Sweepings.{Sweeping}
+use Rattle.dft_logic.specs.Sweepings.{Sweeping}
+use Rattle.dft_logic.proofs.Settlings.{IsGiven}
 use Rattle.dft_cycle.proofs.sweeping.sweep.Given as goal
 
 abbrev pub invariant-loop-net : goal.invariant-loop-net
-invariant-loop-net l = Sweeping l.circuit.ops (view_base (map cell_of l.circuit.flops) l.view) l.circuit.order l.values l.marked l.net-index
+invariant-loop-net l = Sweeping l.circuit.ops (IsGiven l.circuit.ops (view_base (map cell_of l.circuit.flops) l.view) l.values) l.circuit.order l.marked l.net-index

@@ -3,7 +3,8 @@ use Rattle.std.proofs.Common.{ℕ, ◌<◌, ◌||◌, ◌∙◌, Bool, List, ap,
 use Rattle.std.proofs.lemmas.Option.{slice_get-get_or}
 use Rattle.dft_cycle.specs.Machine.{is_one_of}
 use Rattle.dft_logic.specs.Circuit.{flag_at}
-use Rattle.dft_cycle.proofs.MachineLemmas.{down_all, flag_more, flag_end}
+use Rattle.dft_logic.proofs.FlagLemmas.{down_all}
+use Rattle.dft_cycle.proofs.MachineLemmas.{flag_more, flag_end}
 use Rattle.dft_fault_lanes.proofs.grading.flag_clocks.Goals as goal
 
 pub loop-clock-init : goal.loop-clock-init

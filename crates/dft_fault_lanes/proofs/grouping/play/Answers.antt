@@ -4,7 +4,7 @@ use Rattle.dft_netlist.specs.Orders.{numbers_of}
 use Rattle.dft_logic.specs.Circuit.{Circuit}
 use Rattle.dft_logic.specs.Values.{value_at}
 use Rattle.dft_replay.specs.Rows.{row_of}
-use Rattle.dft_lane_registers.specs.Layout.{Layout}
+use Rattle.dft_registers.specs.Layout.{Layout}
 use Rattle.dft_fault_lanes.specs.Plans.{needs_of, pulse_on}
 use Rattle.dft_fault_lanes.specs.Made.{IsPlan}
 use Rattle.dft_fault_lanes.proofs.GroupLemmas.{lanes_step}

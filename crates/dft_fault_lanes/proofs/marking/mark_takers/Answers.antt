@@ -2,7 +2,7 @@
 use Rattle.std.proofs.Common.{◌∙◌, ap, arith}
 use Rattle.std.specs.Prelude.{◌&&◌, nat_lt}
 use Rattle.std.proofs.lemmas.List.{get_or_default}
-use Rattle.dft_lane_registers.specs.declared.layout.Place.{Place}
+use Rattle.dft_registers.specs.declared.layout.Place.{Place}
 use Rattle.dft_logic.specs.Circuit.{flag_at}
 use Rattle.dft_fault_lanes.specs.Moves.{is_carried}
 use Rattle.dft_fault_lanes.proofs.MarkLemmas.{taking_starts, taking_more}

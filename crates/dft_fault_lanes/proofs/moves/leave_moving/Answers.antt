@@ -1,7 +1,7 @@
 -- One cell more may move, or its register is left out.
 use Rattle.std.proofs.Common.{ℕ, ◌<◌, ◌∙◌, ◌+◌, Bool, List, ap, arith, length, sym, subst}
 use Rattle.std.proofs.lemmas.List.{get_or_default}
-use Rattle.dft_lane_registers.specs.declared.layout.Place.{Place}
+use Rattle.dft_registers.specs.declared.layout.Place.{Place}
 use Rattle.dft_logic.specs.Circuit.{flag_at}
 use Rattle.dft_fault_lanes.proofs.MoveLemmas.{MovingTo, moving_starts, moving_less, moving_more}
 use Rattle.dft_fault_lanes.proofs.moves.leave_moving.Goals.{then-not-may_move, else-not-may_move}

@@ -1,7 +1,7 @@
 -- It takes a value, and that of the cell before it.
 use Rattle.std.proofs.Common.{ℕ, List, ◌∙◌, sym, subst}
-use Rattle.dft_lane_registers.specs.declared.layout.Place.{Place}
-use Rattle.dft_lane_registers.specs.Layout.{Layout, cells_at}
+use Rattle.dft_registers.specs.declared.layout.Place.{Place}
+use Rattle.dft_registers.specs.Layout.{Layout, cells_at}
 use Rattle.dft_lane_registers.specs.Cells.{Course, course_in}
 use Rattle.dft_logic.specs.Circuit.{cell_of}
 use Rattle.dft_fault_lanes.specs.Moves.{IsMoved}

@@ -3,11 +3,11 @@ use Rattle.std.proofs.Common.{ℕ, length}
 use Rattle.dft_netlist.specs.Drivers.{nets_of}
 use Rattle.dft_netlist.specs.Settled.{value_from}
 use Rattle.dft_logic.specs.Needs.{next_reads}
+use Rattle.dft_logic.proofs.ListLemmas.{wider}
 use Rattle.dft_fault_lanes.specs.Lanes.{flop_at}
 use Rattle.dft_fault_lanes.specs.Moves.{enable_needs}
 use Rattle.dft_fault_lanes.specs.Plans.{needs_of}
 use Rattle.dft_fault_lanes.proofs.MarkLemmas.{needs_more}
-use Rattle.dft_fault_lanes.proofs.SeenLemmas.{all_wider}
 use Rattle.dft_fault_lanes.proofs.plans.list_needs.Goals as goal
 
 pub returns-clause-ordered : goal.returns-clause-ordered
@@ -20,14 +20,14 @@ pub returns-clause-enables : goal.returns-clause-enables
 returns-clause-enables c =
     let x = c.args.circuit.now in
     let count : ℕ = length x.ops in
-    λ cell. all_wider (needs_of count c.mark_reading.new.marked) (needs_of count c.mark_needed.new.marked) (enable_needs (flop_at x.flops cell))
+    λ cell. wider (needs_of count c.mark_reading.new.marked) (needs_of count c.mark_needed.new.marked) (enable_needs (flop_at x.flops cell))
     (λ k need. needs_more count c.mark_reading.new.marked c.mark_needed.new.marked k c.mark_needed.ensures.kept need) (c.mark_reading.ensures.enables cell)
 
 pub returns-clause-reads : goal.returns-clause-reads
 returns-clause-reads c =
     let x = c.args.circuit.now in
     let count : ℕ = length x.ops in
-    λ cell stays ports values steers. all_wider (needs_of count c.mark_reading.new.marked) (needs_of count c.mark_needed.new.marked) (nets_of (next_reads (flop_at x.flops cell) ports (value_from values)))
+    λ cell stays ports values steers. wider (needs_of count c.mark_reading.new.marked) (needs_of count c.mark_needed.new.marked) (nets_of (next_reads (flop_at x.flops cell) ports (value_from values)))
     (λ k need. needs_more count c.mark_reading.new.marked c.mark_needed.new.marked k c.mark_needed.ensures.kept need) (c.mark_reading.ensures.reads cell stays ports values steers)
 
 pub returns-clause-covered : goal.returns-clause-covered

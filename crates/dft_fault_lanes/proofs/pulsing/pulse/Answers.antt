@@ -1,6 +1,6 @@
 -- The rises and the falls give a round in each live lane.
 use Rattle.std.proofs.Common.{◌∙◌, length, sym, subst}
-use Rattle.dft_lane_registers.specs.Layout.{Layout}
+use Rattle.dft_registers.specs.Layout.{Layout}
 use Rattle.dft_logic.specs.Circuit.{IsCircuit}
 use Rattle.dft_fault_lanes.specs.Made.{IsPlan}
 use Rattle.dft_fault_lanes.specs.Plans.{needs_of}

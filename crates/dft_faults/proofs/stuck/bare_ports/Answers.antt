@@ -1,7 +1,8 @@
 use Rattle.std.proofs.Common.{List, ◌∙◌, ap, sym, subst}
 use Rattle.dft_netlist.specs.declared.port.Port.{Port}
 use Rattle.dft_scan_frame.specs.Growing.{AllFit, port_things, with_things}
-use Rattle.dft_faults.proofs.Carried.{ports_pass, ports_done}
+use Rattle.dft_scan_frame.proofs.EmptyFrames.{ports_pass}
+use Rattle.dft_faults.proofs.Carried.{ports_done}
 use Rattle.dft_faults.proofs.stuck.bare_ports.Goals as goal
 
 pub carry_ports-requires : goal.carry_ports-requires

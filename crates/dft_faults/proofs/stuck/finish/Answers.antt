@@ -1,4 +1,4 @@
-use Rattle.dft_faults.proofs.Endings.{memory_alone}
+use Rattle.dft_scan_frame.proofs.EmptyFrames.{memory_alone}
 use Rattle.dft_faults.proofs.stuck.finish.Goals as goal
 
 pub memory-requires : goal.memory-requires

@@ -5,8 +5,8 @@ use Rattle.std.proofs.lemmas.Bool.Decides.{leb_tells}
 use Rattle.std.proofs.lemmas.List.{length-append, get_or_past}
 use Rattle.dft_lanes.specs.declared.wide.Wide.{Wide}
 use Rattle.dft_evaluator.specs.Wides.{unknown_wide}
-use Rattle.dft_lane_registers.specs.Layout.{cells_at}
-use Rattle.dft_lane_registers.proofs.ListLemmas.{more_same}
+use Rattle.dft_registers.specs.Layout.{cells_at}
+use Rattle.dft_registers.proofs.ListLemmas.{more_same}
 use Rattle.dft_lane_registers.proofs.cells.unknown_rows.Goals as goal
 
 pub loop-number-preserved : goal.loop-number-preserved

@@ -2,7 +2,7 @@
 use Rattle.std.proofs.Common.{ℕ, ◌≡◌, ◌<◌, length}
 use Rattle.std.specs.Prelude.{replicate}
 use Rattle.dft_evaluator.specs.Wides.{unknown_wide}
-use Rattle.dft_lane_registers.specs.Layout.{cells_at}
+use Rattle.dft_registers.specs.Layout.{cells_at}
 use Rattle.dft_lane_registers.specs.Cells.{row_at}
 use Rattle.dft_lane_registers.proofs.cells.unknown_rows.Given as goal
 

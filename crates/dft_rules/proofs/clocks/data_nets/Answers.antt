@@ -4,7 +4,8 @@ use Rattle.dft_netlist.proofs.NotesLemmas.{item_at}
 use Rattle.dft_rules.specs.Findings.{AreUsed}
 use Rattle.dft_rules.specs.Refusals.{is_data_of}
 use Rattle.std.proofs.Common.{take}
-use Rattle.dft_rules.proofs.MarkLemmas.{refilled, used_more, used_all}
+use Rattle.dft_base.proofs.ListLemmas.{take_new}
+use Rattle.dft_rules.proofs.MarkLemmas.{used_more, used_all}
 use Rattle.dft_rules.proofs.clocks.data_nets.Goals as goal
 
 pub mark_data-requires : goal.mark_data-requires
@@ -30,7 +31,7 @@ loop-instance-preserved c =
     λ net live. (rw (c.cells.ensures.cells, c.library.ensures.library, c.deref_mut.ensures.value) at (c.mark_data.ensures net (rw c.deref_mut.ensures.value live)) ∙ ap (λ (y : Instance). get_or old net false || is_data_of n.library net y) is) in
     let more = used_more n.library n.instances k (length n.nets) x old c.mark_data.new.used less same marks c.loop-instance.invariant in
     let P : List Bool → Type 0 = λ xs. AreUsed n.library (take (k + 1) n.instances) (length n.nets) xs in
-    subst P (sym (refilled old c.mark_data.new.used c.loop-instance.used.len (omega (arith, c.loop-instance.used.ok.0)) same)) more
+    subst P (sym (take_new old c.mark_data.new.used c.loop-instance.used.len (omega (arith, c.loop-instance.used.ok.0)) same)) more
 
 pub returns : goal.returns
 returns c =

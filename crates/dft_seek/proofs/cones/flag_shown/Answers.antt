@@ -1,12 +1,12 @@
 -- One net more.
 use Rattle.std.proofs.Common.{ℕ, Bool, ◌||◌, ◌∙◌, take, sym, ap, arith}
 use Rattle.std.specs.Prelude.{◌&&◌}
-use Rattle.dft_base.proofs.BitLemmas.{or_false}
+use Rattle.dft_base.proofs.BitLemmas.{or_false, or_assoc}
 use Rattle.dft_logic.specs.Circuit.{flag_at}
 use Rattle.dft_seek.specs.Cones.{shown_in}
 use Rattle.dft_seek.specs.Rigs.{shows_in}
 use Rattle.dft_seek.specs.Steps.{shown_at}
-use Rattle.dft_seek.proofs.ShownLemmas.{or_assoc, shown_all, shown_more}
+use Rattle.dft_seek.proofs.ShownLemmas.{shown_all, shown_more}
 use Rattle.dft_seek.proofs.cones.flag_shown.Goals as goal
 
 pub loop-net-init : goal.loop-net-init

@@ -3,8 +3,9 @@ use Rattle.std.proofs.Common.{ℕ, Bool, ◌≡◌, ◌+◌, ◌∙◌, false, i
 use Rattle.std.specs.Prelude.{◌&&◌}
 use Rattle.std.proofs.lemmas.Bool.Decides.{leb_tells}
 use Rattle.std.proofs.lemmas.List.{get_or_past, length_push}
+use Rattle.dft_base.proofs.SumLemmas.{and_false}
 use Rattle.dft_logic.specs.Circuit.{flag_at}
-use Rattle.dft_seek.proofs.Filled.{and_false, filled_more}
+use Rattle.dft_seek.proofs.Filled.{filled_more}
 use Rattle.dft_seek.proofs.tables.passing.Goals as goal
 
 pub loop-flag-preserved : goal.loop-flag-preserved

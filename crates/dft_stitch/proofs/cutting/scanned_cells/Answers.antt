@@ -1,7 +1,8 @@
 use Rattle.std.proofs.Common.{◌-◌, ◌+◌, ◌*◌, arith, flat_map}
 use Rattle.std.specs.List.{range_with_len}
+use Rattle.dft_base.proofs.ListLemmas.{flat_on, flat_over}
 use Rattle.dft_stitch.specs.Chains.{cells_in, scanned_cells}
-use Rattle.dft_stitch.proofs.RangeLemmas.{begun, ended, flat_on, flat_over, flat_start, grown}
+use Rattle.dft_stitch.proofs.RangeLemmas.{begun, ended, flat_start, grown}
 use Rattle.dft_stitch.proofs.cutting.scanned_cells.Goals as goal
 
 pub loop-group-init : goal.loop-group-init

@@ -1,9 +1,10 @@
 use Rattle.std.proofs.Common.{◌≡◌, ◌≤◌, ◌-◌, ◌+◌, ◌++◌, ◌∙◌, List, [], ap, flat_map, length, get_or, sym, subst}
 use Rattle.std.specs.List.{filter_map, range_with_len}
 use Rattle.std.proofs.lemmas.List.{get_or_default}
+use Rattle.dft_base.proofs.ListLemmas.{flat_on, flat_over}
 use Rattle.dft_netlist.specs.declared.ids.InstanceId.{InstanceId}
 use Rattle.dft_stitch.specs.Chains.{lockup_after, lockups_in, lockups_of}
-use Rattle.dft_stitch.proofs.RangeLemmas.{begun, ended, flat_on, flat_over, flat_start, grown}
+use Rattle.dft_stitch.proofs.RangeLemmas.{begun, ended, flat_start, grown}
 use Rattle.dft_stitch.proofs.lockups.find_lockups.Goals as goal
 
 pub add_lockups-requires : goal.add_lockups-requires

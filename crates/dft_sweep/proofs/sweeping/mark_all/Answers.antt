@@ -1,7 +1,8 @@
 -- One net more is marked.
 use Rattle.std.proofs.Common.{ℕ, List, Bool, ◌<◌, ◌+◌, ◌∙◌, ap, length, refl, sym, subst, get_or, arith}
+use Rattle.dft_netlist.proofs.ListingLemmas.{has_item}
 use Rattle.dft_sweep.specs.Fields.{is_needed}
-use Rattle.dft_sweep.proofs.Sweeps.{Marking, marked_size, marking_ends, marking_more, has_item}
+use Rattle.dft_sweep.proofs.Sweeps.{Marking, marked_size, marking_ends, marking_more}
 use Rattle.dft_sweep.proofs.sweeping.mark_all.Goals as goal
 
 pub mark-requires : goal.mark-requires

@@ -1,7 +1,8 @@
 -- One net more has its value.
 use Rattle.std.proofs.Common.{◌∙◌, refl, get_or}
+use Rattle.dft_netlist.proofs.ListingLemmas.{has_item}
 use Rattle.dft_sweep.specs.Fields.{meaning_at, sources_of}
-use Rattle.dft_sweep.proofs.Sweeps.{refreshed_all, refreshed_more, has_item}
+use Rattle.dft_sweep.proofs.Sweeps.{refreshed_all, refreshed_more}
 use Rattle.dft_sweep.proofs.sweeping.refresh.Goals as goal
 
 pub refresh_one-requires-clause-live : goal.refresh_one-requires-clause-live

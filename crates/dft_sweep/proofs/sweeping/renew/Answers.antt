@@ -2,8 +2,9 @@
 use Rattle.std.proofs.Common.{ℕ, ◌<◌, ◌∙◌, inl, inr, ap, subst, length, arith}
 use Rattle.dft_logic.specs.Circuit.{Circuit, IsCircuit, meaning, op_at}
 use Rattle.dft_logic.specs.Tables.{list_at}
+use Rattle.dft_logic.proofs.FlagLemmas.{blind}
 use Rattle.dft_sweep.specs.Fields.{bit_at, meaning_at, sources_of}
-use Rattle.dft_sweep.proofs.Sweeps.{blind, reads_with, written}
+use Rattle.dft_sweep.proofs.Sweeps.{reads_with, written}
 use Rattle.dft_sweep.proofs.sweeping.renew.Goals as goal
 
 pub returns-clause-given : goal.returns-clause-given

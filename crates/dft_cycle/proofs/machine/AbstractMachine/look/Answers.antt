@@ -1,11 +1,12 @@
 -- The nets are looked at by their list, or all nets are settled.
 use Rattle.std.proofs.Common.{◌∙◌, sym, subst, List}
 use Rattle.dft_base.specs.declared.tri.Tri.{Tri}
+use Rattle.dft_base.proofs.ListLemmas.{refilled_length}
 use Rattle.dft_netlist.specs.Logic.{Logic}
 use Rattle.dft_logic.specs.Needs.{AreSeen}
 use Rattle.dft_logic.specs.Circuit.{logic_at}
 use Rattle.dft_cycle.specs.Machine.{Machine, logic, value_at}
-use Rattle.dft_cycle.proofs.MachineLemmas.{refilled, clear_kept}
+use Rattle.dft_cycle.proofs.MachineLemmas.{clear_kept}
 use Rattle.dft_cycle.proofs.machine.AbstractMachine.look.Goals as goal
 
 pub invariant_of-self : goal.invariant_of-self
@@ -25,10 +26,10 @@ invariant_of-self c =
       room = record {
         values = i.room.values;
         search = i.room.search;
-        marked = refilled d.room.marked c.read-read.new.marked ∙ i.room.marked;
+        marked = refilled_length d.room.marked c.read-read.new.marked ∙ i.room.marked;
         clear = clear_kept d.room.marked c.read-read.new.marked c.deref_mut-2.result.now c.read-read.auto.marked c.deref_mut-2.ensures.value c.read-read.ensures.clear;
         ready = i.room.ready;
-        quick = refilled d.room.quick c.read-read.new.values ∙ i.room.quick;
+        quick = refilled_length d.room.quick c.read-read.new.values ∙ i.room.quick;
       };
       cells = i.cells;
       plans = i.plans;
@@ -54,10 +55,10 @@ invariant_of-self-else-not-read c =
       room = record {
         values = i.room.values;
         search = i.room.search;
-        marked = refilled d.room.marked c.read-read.new.marked ∙ i.room.marked;
+        marked = refilled_length d.room.marked c.read-read.new.marked ∙ i.room.marked;
         clear = clear_kept d.room.marked c.read-read.new.marked c.deref_mut-2.result.now c.read-read.auto.marked c.deref_mut-2.ensures.value c.read-read.ensures.clear;
         ready = i.room.ready;
-        quick = refilled d.room.quick c.read-read.new.values ∙ i.room.quick;
+        quick = refilled_length d.room.quick c.read-read.new.values ∙ i.room.quick;
       };
       cells = i.cells;
       plans = i.plans;

@@ -1,6 +1,7 @@
 -- The nets have the values of every settled assignment.
 use Rattle.std.proofs.Common.{ℕ, ◌≡◌, ◌∙◌, refl, ap, map, subst, List}
 use Rattle.dft_base.specs.declared.tri.Tri.{Tri}
+use Rattle.dft_base.proofs.ListLemmas.{refilled_length, refilled_items}
 use Rattle.dft_cycle.specs.Machine.{Machine, logic, value_at}
 use Rattle.dft_logic.specs.Needs.{AreSeen}
 use Rattle.dft_netlist.specs.declared.ids.NetId.{NetId}
@@ -8,7 +9,7 @@ use Rattle.dft_cycle.specs.MachineShown.{machine_of}
 use Rattle.dft_logic.specs.declared.settling.Pulse.{Pulse as Phase}
 use Rattle.dft_logic.specs.Circuit.{logic_at, GivenIn, pulse_at}
 use Rattle.dft_cycle.proofs.DomainLemmas.{ready_view}
-use Rattle.dft_cycle.proofs.MachineLemmas.{refilled, filled, looked, clear_kept, ready_kept}
+use Rattle.dft_cycle.proofs.MachineLemmas.{looked, clear_kept, ready_kept}
 use Rattle.dft_cycle.proofs.machine.AbstractMachine.look_at_all.Goals as goal
 
 pub invariant_of-self : goal.invariant_of-self
@@ -26,9 +27,9 @@ invariant_of-self c =
       inputs = i.inputs;
       shown = i.shown;
       room = record {
-        values = refilled d.room.values c.settle_again.new.values ∙ i.room.values;
+        values = refilled_length d.room.values c.settle_again.new.values ∙ i.room.values;
         search = i.room.search;
-        marked = refilled d.room.marked c.settle_again.new.marked ∙ i.room.marked;
+        marked = refilled_length d.room.marked c.settle_again.new.marked ∙ i.room.marked;
         clear = clear_kept d.room.marked c.settle_again.new.marked c.deref_mut-2.result.now c.settle_again.auto.marked c.deref_mut-2.ensures.value c.settle_again.ensures.clear;
         ready = ready_kept d.circuit d.room.values c.settle_again.new.values c.deref_mut.result.now c.settle_again.auto.values c.deref_mut.ensures.value
             (ready_view d.circuit c.strobe_view.result c.settle_again.new.values c.settle_again.ensures.given);
@@ -48,7 +49,7 @@ returns-clause-seen c =
     let v = c.strobe_view.result in
     let V : Phase → Type 0 = λ p. (k : ℕ) → GivenIn d.circuit (pulse_at p) v.poss.now v.held.now v.domain.0 c.settle_again.new.values k in
     let P : Machine → Type 0 = λ m. AreSeen (logic m) (value_at m.inputs) (value_at m.cells) c.args.nets.now c.read_list.new.row in
-    let read : c.deref-2.result.now ≡ c.settle_again.new.values = c.deref-2.ensures.value ∙ filled d.room.values c.settle_again.new.values c.deref_mut.result.now c.settle_again.auto.values c.deref_mut.ensures.value in
+    let read : c.deref-2.result.now ≡ c.settle_again.new.values = c.deref-2.ensures.value ∙ refilled_items d.room.values c.settle_again.new.values c.deref_mut.result.now c.settle_again.auto.values c.deref_mut.ensures.value in
     subst P c.self.view_is
     (looked (machine_of d) d.circuit c.deref.result.now d.cells.values v.poss.now v.held.now c.settle_again.new.values c.read_list.new.row v.domain.0 c.args.nets.now c.soundness.ensures c.self.invariant.compiled
     c.deref.ensures.value refl (subst V c.strobe_view.ensures.pulse c.settle_again.ensures.given)

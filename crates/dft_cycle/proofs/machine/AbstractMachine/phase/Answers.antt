@@ -2,6 +2,7 @@
 use Rattle.std.proofs.Common.{ℕ, ◌<◌, Bool, true, Some, slice_get, ◌≡◌, ◌∙◌, refl, ap, sym, subst, length, List, arith}
 use Rattle.std.specs.Vec.{with_items}
 use Rattle.dft_base.specs.declared.tri.Tri.{Tri}
+use Rattle.dft_base.proofs.ListLemmas.{refilled_length, refilled_items}
 use Rattle.dft_netlist.specs.declared.ids.NetId.{NetId}
 use Rattle.dft_abstract.specs.Cycle.{Pulse}
 use Rattle.dft_cycle.specs.Machine.{Machine, logic, value_at, pulses, IsPhase}
@@ -14,7 +15,7 @@ use Rattle.dft_logic.specs.declared.takings.Taking.{Taking}
 use Rattle.dft_logic.specs.Takings.{taking_at}
 use Rattle.dft_cycle.specs.Plans.{ArePlans, IsFound, IsPassed}
 use Rattle.dft_cycle.specs.MachineShown.{machine_of}
-use Rattle.dft_cycle.proofs.MachineLemmas.{refilled, filled, clear_kept, passed_loose, pulses_among, flags_one, phase_passed, plan_found, put_passed}
+use Rattle.dft_cycle.proofs.MachineLemmas.{clear_kept, passed_loose, pulses_among, flags_one, phase_passed, plan_found, put_passed}
 use Rattle.dft_cycle.proofs.machine.AbstractMachine.phase.Goals as goal
 
 pub mark-requires-clause-live : goal.mark-requires-clause-live
@@ -30,7 +31,7 @@ find-found-requires-clause-among c = λ e up.
     let named : c.deref-4.result.now ≡ d.clocks.items = c.deref-4.ensures.value in
     let flags : c.deref_mut.result.now ≡ d.pulsed.items = c.deref_mut.ensures.value in
     let read : c.deref-3.result.now ≡ (with_items d.pulsed c.mark.new.flags).items = c.deref-3.ensures.value in
-    let marked : c.deref-3.result.now ≡ c.mark.new.flags = read ∙ filled d.pulsed c.mark.new.flags c.deref_mut.result.now c.mark.auto.flags flags in
+    let marked : c.deref-3.result.now ≡ c.mark.new.flags = read ∙ refilled_items d.pulsed c.mark.new.flags c.deref_mut.result.now c.mark.auto.flags flags in
     let Q : List NetId → Type 0 = λ l. Among l (length l) e in
     subst Q (sym named) (pulses_among d.clocks.items c.args.pulsed.now e
     (sym (ap (λ (l : List NetId). pulses l c.args.pulsed.now e) clocks) ∙ sym (c.mark.ensures e) ∙ sym (ap (λ (l : List Bool). flag_at l e) marked) ∙ up)))
@@ -53,7 +54,7 @@ put_all-requires-clause-row c =
     let p : Pulse = record { rising = c.args.rising; ports = value_at c.deref-2.result.now; pulsed = flag_at c.deref-3.result.now; old = value_at d.cells.values } in
     let found : IsFound d.circuit p d.cells c.index-plan.result.now c.find-found.new.row =
     plan_found d.circuit p d.cells c.find-found.new.self.plans.items c.in-Some.place c.index-plan.result.now c.index-plan.result.now c.find-found.new.row c.in-Some.ensures.live c.index-plan.ensures c.in-Some.ensures.found in
-    omega (arith, ap length c.deref-in-Some.ensures.value, ap length c.deref-in-Some-2.ensures.value, refilled d.room.search.next c.find-found.new.row, i.room.search.next, found.few)
+    omega (arith, ap length c.deref-in-Some.ensures.value, ap length c.deref-in-Some-2.ensures.value, refilled_length d.room.search.next c.find-found.new.row, i.room.search.next, found.few)
 
 pub put_all-requires-clause-can : goal.put_all-requires-clause-can
 put_all-requires-clause-can c =
@@ -72,7 +73,7 @@ invariant_of-self c =
     let found : IsFound d.circuit p d.cells c.index-plan.result.now c.find-found.new.row =
     plan_found d.circuit p d.cells c.find-found.new.self.plans.items c.in-Some.place c.index-plan.result.now c.index-plan.result.now c.find-found.new.row c.in-Some.ensures.live c.index-plan.ensures c.in-Some.ensures.found in
     let row : c.deref-in-Some-2.result.now ≡ c.find-found.new.row =
-    c.deref-in-Some-2.ensures.value ∙ filled d.room.search.next c.find-found.new.row c.deref_mut-4.result.now c.find-found.auto.row c.deref_mut-4.ensures.value in
+    c.deref-in-Some-2.ensures.value ∙ refilled_items d.room.search.next c.find-found.new.row c.deref_mut-4.result.now c.find-found.auto.row c.deref_mut-4.ensures.value in
     let passed : IsPassed d.circuit p c.put_all.new.cells.values =
     put_passed d.circuit p d.cells c.index-plan.result.now c.find-found.new.row c.deref-in-Some-2.result.now c.put_all.new.cells.values c.deref-in-Some.result.now c.deref-in-Some-3.result.now found
     c.deref-in-Some.ensures.value row c.deref-in-Some-3.ensures.value c.put_all.ensures.put in
@@ -80,18 +81,18 @@ invariant_of-self c =
       compiled = i.compiled;
       falling = i.falling;
       owned = i.owned;
-      live = λ place clock at. (let less = i.live place clock at in let e = refilled d.pulsed c.mark.new.flags in omega arith);
+      live = λ place clock at. (let less = i.live place clock at in let e = refilled_length d.pulsed c.mark.new.flags in omega arith);
       nets = i.nets;
-      pulsed = refilled d.pulsed c.mark.new.flags ∙ i.pulsed;
+      pulsed = refilled_length d.pulsed c.mark.new.flags ∙ i.pulsed;
       inputs = i.inputs;
       shown = i.shown;
       room = record {
         values = i.room.values;
-        search = record { poss = i.room.search.poss; held = i.room.search.held; next = refilled d.room.search.next c.find-found.new.row ∙ i.room.search.next };
-        marked = refilled d.room.marked c.find-found.new.marked ∙ i.room.marked;
+        search = record { poss = i.room.search.poss; held = i.room.search.held; next = refilled_length d.room.search.next c.find-found.new.row ∙ i.room.search.next };
+        marked = refilled_length d.room.marked c.find-found.new.marked ∙ i.room.marked;
         clear = clear_kept d.room.marked c.find-found.new.marked c.deref_mut-3.result.now c.find-found.auto.marked c.deref_mut-3.ensures.value c.find-found.ensures.clear;
         ready = i.room.ready;
-        quick = refilled d.room.quick c.find-found.new.values ∙ i.room.quick;
+        quick = refilled_length d.room.quick c.find-found.new.values ∙ i.room.quick;
       };
       cells = c.put_all.ensures.count ∙ i.cells;
       plans = subst (λ (l : Layout). ArePlans d.circuit d.clocks.items l c.find-found.new.self) (sym c.put_all.ensures.layout)
@@ -110,18 +111,18 @@ invariant_of-self-in-None c =
       compiled = i.compiled;
       falling = i.falling;
       owned = i.owned;
-      live = λ place clock at. (let less = i.live place clock at in let e = refilled d.pulsed c.mark.new.flags in omega arith);
+      live = λ place clock at. (let less = i.live place clock at in let e = refilled_length d.pulsed c.mark.new.flags in omega arith);
       nets = i.nets;
-      pulsed = refilled d.pulsed c.mark.new.flags ∙ i.pulsed;
+      pulsed = refilled_length d.pulsed c.mark.new.flags ∙ i.pulsed;
       inputs = i.inputs;
       shown = i.shown;
       room = record {
         values = i.room.values;
-        search = record { poss = i.room.search.poss; held = i.room.search.held; next = refilled d.room.search.next c.find-found.new.row ∙ i.room.search.next };
-        marked = refilled d.room.marked c.find-found.new.marked ∙ i.room.marked;
+        search = record { poss = i.room.search.poss; held = i.room.search.held; next = refilled_length d.room.search.next c.find-found.new.row ∙ i.room.search.next };
+        marked = refilled_length d.room.marked c.find-found.new.marked ∙ i.room.marked;
         clear = clear_kept d.room.marked c.find-found.new.marked c.deref_mut-3.result.now c.find-found.auto.marked c.deref_mut-3.ensures.value c.find-found.ensures.clear;
         ready = i.room.ready;
-        quick = refilled d.room.quick c.find-found.new.values ∙ i.room.quick;
+        quick = refilled_length d.room.quick c.find-found.new.values ∙ i.room.quick;
       };
       cells = i.cells;
       plans = subst (λ (l : List NetId). ArePlans d.circuit l d.cells.layout c.find-found.new.self) c.deref-4.ensures.value c.find-found.ensures.plans;
@@ -138,7 +139,7 @@ returns-in-Some c =
     let found : IsFound d.circuit p d.cells c.index-plan.result.now c.find-found.new.row =
     plan_found d.circuit p d.cells c.find-found.new.self.plans.items c.in-Some.place c.index-plan.result.now c.index-plan.result.now c.find-found.new.row c.in-Some.ensures.live c.index-plan.ensures c.in-Some.ensures.found in
     let row : c.deref-in-Some-2.result.now ≡ c.find-found.new.row =
-    c.deref-in-Some-2.ensures.value ∙ filled d.room.search.next c.find-found.new.row c.deref_mut-4.result.now c.find-found.auto.row c.deref_mut-4.ensures.value in
+    c.deref-in-Some-2.ensures.value ∙ refilled_items d.room.search.next c.find-found.new.row c.deref_mut-4.result.now c.find-found.auto.row c.deref_mut-4.ensures.value in
     let passed : IsPassed d.circuit p c.put_all.new.cells.values =
     put_passed d.circuit p d.cells c.index-plan.result.now c.find-found.new.row c.deref-in-Some-2.result.now c.put_all.new.cells.values c.deref-in-Some.result.now c.deref-in-Some-3.result.now found
     c.deref-in-Some.ensures.value row c.deref-in-Some-3.ensures.value c.put_all.ensures.put in
@@ -147,7 +148,7 @@ returns-in-Some c =
     let clocks : c.deref.result.now ≡ d.clocks.items = c.deref.ensures.value in
     let flags : c.deref_mut.result.now ≡ d.pulsed.items = c.deref_mut.ensures.value in
     let read : c.deref-3.result.now ≡ (with_items d.pulsed c.mark.new.flags).items = c.deref-3.ensures.value in
-    let marked : c.deref-3.result.now ≡ c.mark.new.flags = read ∙ filled d.pulsed c.mark.new.flags c.deref_mut.result.now c.mark.auto.flags flags in
+    let marked : c.deref-3.result.now ≡ c.mark.new.flags = read ∙ refilled_items d.pulsed c.mark.new.flags c.deref_mut.result.now c.mark.auto.flags flags in
     let ports : c.deref-2.result.now ≡ d.inputs.items = c.deref-2.ensures.value in
     subst P c.self.view_is
     (phase_passed (machine_of d) after d.circuit c.args.rising c.args.pulsed.now p c.put_all.new.cells.values i.compiled refl refl refl refl refl refl

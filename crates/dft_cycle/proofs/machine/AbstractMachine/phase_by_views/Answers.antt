@@ -2,13 +2,14 @@
 use Rattle.std.proofs.Common.{Bool, Some, slice_get, ◌≡◌, ◌∙◌, refl, ap, sym, subst, length, List, arith}
 use Rattle.std.specs.Vec.{with_items}
 use Rattle.dft_base.specs.declared.tri.Tri.{Tri}
+use Rattle.dft_base.proofs.ListLemmas.{refilled_length, refilled_items}
 use Rattle.dft_netlist.specs.declared.ids.NetId.{NetId}
 use Rattle.dft_abstract.specs.Cycle.{Pulse}
 use Rattle.dft_cycle.specs.Machine.{Machine, logic, value_at, pulses, IsPhase}
 use Rattle.dft_logic.specs.Circuit.{Circuit, IsCircuit, flag_at, logic_at}
 use Rattle.dft_cycle.specs.Views.{Among}
 use Rattle.dft_cycle.specs.MachineShown.{machine_of}
-use Rattle.dft_cycle.proofs.MachineLemmas.{refilled, filled, clear_kept, ready_kept, pulsed_loose, phase_done, taken_read, pulses_among, flags_one}
+use Rattle.dft_cycle.proofs.MachineLemmas.{clear_kept, ready_kept, pulsed_loose, phase_done, taken_read, pulses_among, flags_one}
 use Rattle.dft_registers.specs.Layout.{Layout}
 use Rattle.dft_cycle.specs.Plans.{ArePlans}
 use Rattle.dft_cycle.proofs.machine.AbstractMachine.phase_by_views.Goals as goal
@@ -37,7 +38,7 @@ find_least-requires-clause-pulsing c = λ e up.
     let named : c.deref-4.result.now ≡ d.clocks.items = c.deref-4.ensures.value in
     let flags : c.deref_mut.result.now ≡ d.pulsed.items = c.deref_mut.ensures.value in
     let read : c.deref-3.result.now ≡ (with_items d.pulsed c.mark.new.flags).items = c.deref-3.ensures.value in
-    let marked : c.deref-3.result.now ≡ c.mark.new.flags = read ∙ filled d.pulsed c.mark.new.flags c.deref_mut.result.now c.mark.auto.flags flags in
+    let marked : c.deref-3.result.now ≡ c.mark.new.flags = read ∙ refilled_items d.pulsed c.mark.new.flags c.deref_mut.result.now c.mark.auto.flags flags in
     let Q : List NetId → Type 0 = λ l. Among l (length l) e in
     subst Q (sym named) (pulses_among d.clocks.items c.args.pulsed.now e
     (sym (ap (λ (l : List NetId). pulses l c.args.pulsed.now e) clocks) ∙ sym (c.mark.ensures e) ∙ sym (ap (λ (l : List Bool). flag_at l e) marked) ∙ up)))
@@ -53,15 +54,15 @@ invariant_of-self c =
       compiled = i.compiled;
       falling = i.falling;
       owned = i.owned;
-      live = λ place clock at. (let less = i.live place clock at in let e = refilled d.pulsed c.mark.new.flags in omega arith);
+      live = λ place clock at. (let less = i.live place clock at in let e = refilled_length d.pulsed c.mark.new.flags in omega arith);
       nets = i.nets;
-      pulsed = refilled d.pulsed c.mark.new.flags ∙ i.pulsed;
+      pulsed = refilled_length d.pulsed c.mark.new.flags ∙ i.pulsed;
       inputs = i.inputs;
       shown = i.shown;
       room = record {
-        values = refilled d.room.values c.find_least.new.values ∙ i.room.values;
+        values = refilled_length d.room.values c.find_least.new.values ∙ i.room.values;
         search = c.find_least.ensures.search;
-        marked = refilled d.room.marked c.find_least.new.marked ∙ i.room.marked;
+        marked = refilled_length d.room.marked c.find_least.new.marked ∙ i.room.marked;
         clear = clear_kept d.room.marked c.find_least.new.marked c.deref_mut-4.result.now c.find_least.auto.marked c.deref_mut-4.ensures.value c.find_least.ensures.clear;
         ready = ready_kept d.circuit d.room.values c.find_least.new.values c.deref_mut-3.result.now c.find_least.auto.values c.deref_mut-3.ensures.value c.find_least.ensures.ready;
         quick = i.room.quick;
@@ -87,7 +88,7 @@ returns c =
     let flags : c.deref_mut.result.now ≡ d.pulsed.items = c.deref_mut.ensures.value in
     let read : c.deref-3.result.now ≡ (with_items d.pulsed c.mark.new.flags).items = c.deref-3.ensures.value in
     let again : c.deref-6.result.now ≡ (with_items d.pulsed c.mark.new.flags).items = c.deref-6.ensures.value in
-    let marked : c.deref-3.result.now ≡ c.mark.new.flags = read ∙ filled d.pulsed c.mark.new.flags c.deref_mut.result.now c.mark.auto.flags flags in
+    let marked : c.deref-3.result.now ≡ c.mark.new.flags = read ∙ refilled_items d.pulsed c.mark.new.flags c.deref_mut.result.now c.mark.auto.flags flags in
     let ports : c.deref-2.result.now ≡ d.inputs.items = c.deref-2.ensures.value in
     let size = c.find_least.ensures.search.next in
     let flops : c.deref-5.result.now ≡ d.circuit.flops = c.deref-5.ensures.value ∙ ap (λ (m : Circuit). m.flops) c.circuit.view_is in

@@ -3,13 +3,14 @@ use Rattle.std.proofs.Common.{ℕ, Bool, ◌≡◌, ◌∙◌, Some, refl, ap, s
 use Rattle.std.proofs.lemmas.List.{length-replicate}
 use Rattle.std.specs.Vec.{with_items}
 use Rattle.dft_base.specs.declared.tri.Tri.{Tri}
+use Rattle.dft_base.proofs.ListLemmas.{refilled_length, refilled_items}
 use Rattle.dft_netlist.specs.declared.ids.NetId.{NetId}
 use Rattle.dft_netlist.specs.Logic.{Ports, Logic, logic_of}
 use Rattle.dft_cycle.specs.Machine.{logic, is_one_of, value_at}
 use Rattle.dft_cycle.specs.Plans.{ArePlans}
 use Rattle.dft_cycle.specs.Views.{AreFalling}
 use Rattle.dft_logic.specs.Circuit.{flag_at, logic_at}
-use Rattle.dft_cycle.proofs.MachineLemmas.{unknown_all, refilled, filled, one_among, same_ports}
+use Rattle.dft_cycle.proofs.MachineLemmas.{unknown_all, one_among, same_ports}
 use Rattle.dft_cycle.proofs.machine.AbstractMachine.prepare.Goals as goal
 
 pub invariant_of-result : goal.invariant_of-result
@@ -22,7 +23,7 @@ invariant_of-result c =
     let pulsed = c.in_ok-pulsed.pulsed in
     let lent : c.deref_mut.result.now ≡ pulsed.items = c.deref_mut.ensures.value in
     let read : c.deref.result.now ≡ (with_items pulsed c.flag_clocks.new.flags).items = c.deref.ensures.value in
-    let flags : c.deref.result.now ≡ c.flag_clocks.new.flags = read ∙ filled pulsed c.flag_clocks.new.flags c.deref_mut.result.now c.flag_clocks.auto.flags lent in
+    let flags : c.deref.result.now ≡ c.flag_clocks.new.flags = read ∙ refilled_items pulsed c.flag_clocks.new.flags c.deref_mut.result.now c.flag_clocks.auto.flags lent in
     let named : clocks ≡ c.args.clocks.now = c.in_ok-clocks.ensures.items in
     let same : (e : ℕ) → flag_at c.deref.result.now e ≡ is_one_of clocks e =
     λ e. ap (λ (l : List Bool). flag_at l e) flags ∙ c.flag_clocks.ensures e ∙ ap (λ (l : List NetId). is_one_of l e) (sym named) in
@@ -30,7 +31,7 @@ invariant_of-result c =
     let nets : length x.ops ≡ length n.nets = is.nets in
     let count = c.net_count-nets.ensures.count in
     let down : length pulsed.items ≡ length n.nets = ap length c.in_ok-pulsed.ensures ∙ length-replicate _ _ ∙ count in
-    let marks : length (with_items pulsed c.flag_clocks.new.flags).items ≡ length n.nets = refilled pulsed c.flag_clocks.new.flags ∙ down in
+    let marks : length (with_items pulsed c.flag_clocks.new.flags).items ≡ length n.nets = refilled_length pulsed c.flag_clocks.new.flags ∙ down in
     record {
       compiled = ap L (sym (same_ports c.deref.result.now clocks same)) ∙ is.compiled;
       falling = subst (λ (l : List NetId). AreFalling x l c.in_ok-lists.lists.falls.items) c.deref-2.ensures.value c.in_ok-lists.ensures.falls;

@@ -3,10 +3,10 @@ use Rattle.std.proofs.Common.{length, ap, ◌∙◌, arith, rules}
 use Rattle.std.proofs.lemmas.List.{get_or_past, length-set}
 use Rattle.std.proofs.lemmas.List.Elements.{All-set}
 use Rattle.dft_base.specs.declared.tri.Tri.TheVariants.{Unknown}
+use Rattle.dft_base.proofs.ListLemmas.{refilled_items}
 use Rattle.dft_logic.specs.EntryTables.{origin_at, entry_at}
 use Rattle.dft_logic.specs.ShownTables.{shown_at}
 use Rattle.dft_cycle.specs.Plans.{IsPlan}
-use Rattle.dft_cycle.proofs.MachineLemmas.{filled}
 use Rattle.dft_cycle.proofs.PassLemmas.{plan_made}
 use Rattle.dft_cycle.proofs.planning.Plans.make.Goals as goal
 
@@ -19,7 +19,7 @@ returns-then-draw-clause-plans c =
     record {
       pins = c.requires.plans.pins;
       sketch = c.draw.ensures.sketch;
-      list = ap length (filled p.list c.fill.new.list c.deref_mut.result.now c.fill.auto.list c.deref_mut.ensures.value) ∙ c.fill.auto.list ∙ ap length c.deref_mut.ensures.value ∙ c.requires.plans.list;
+      list = ap length (refilled_items p.list c.fill.new.list c.deref_mut.result.now c.fill.auto.list c.deref_mut.ensures.value) ∙ c.fill.auto.list ∙ ap length c.deref_mut.ensures.value ∙ c.requires.plans.list;
       plans = All-set (IsPlan c.args.phase.circuit.now c.args.phase.clocks.now c.args.phase.pulse.old.now.layout p.pins) p.plans.items c.args.place c.note.new.self made c.requires.plans.plans;
       some = omega (arith, length-set p.plans.items c.args.place c.note.new.self, c.requires.plans.some);
     }

@@ -1,15 +1,12 @@
 -- At first no bit is set; at the end each is as it is to be.
-use Rattle.std.proofs.Common.{ℕ, List, ◌+◌, ◌/◌, ◌≡◌, ◌⊎◌, ◌<◌, ◌≤◌, inl, inr, length, get_or, replicate, ap, sym, arith, ◌∙◌, refl, false}
+use Rattle.std.proofs.Common.{ℕ, List, ◌+◌, ◌/◌, ◌≡◌, length, get_or, replicate, ap, sym, arith, ◌∙◌, refl, false}
 use Rattle.std.proofs.lemmas.Bool.{cases_lt}
-use Rattle.std.proofs.lemmas.List.{get_or-replicate, get_or_past, length-replicate}
+use Rattle.std.proofs.lemmas.List.{length-replicate}
 use Rattle.std.proofs.lemmas.List.FromFn.{fill_by_all}
 use Rattle.dft_base.specs.Packed.{packed_bit}
+use Rattle.dft_base.proofs.ListLemmas.{zeros_case}
 use Rattle.dft_lanes.proofs.RowLemmas.{packed_bit-zeros}
 use Rattle.dft_equations.proofs.row.Row.of_bits.Goals as goal
-
-zeros_case : (n i : ℕ) → (i < n) ⊎ (n ≤ i) → get_or {A = ℕ} (replicate n 0) i 0 ≡ 0
-zeros_case n i (inl less) = get_or-replicate n i 0 0 less
-zeros_case n i (inr past) = let size = length-replicate {A = ℕ} n 0 in get_or_past (replicate n 0) i 0 (omega arith)
 
 pub loop-column-init : goal.loop-column-init
 loop-column-init c =

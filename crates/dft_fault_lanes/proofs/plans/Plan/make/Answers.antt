@@ -1,9 +1,10 @@
 -- What is shown, moved, marked and listed is of these clocks.
 use Rattle.std.proofs.Common.{ℕ, Bool, true, false, List, [], ◌≤◌, ◌≡◌, ◌∙◌, ap, sym, subst, length, take}
 use Rattle.std.specs.Vec.{with_items}
+use Rattle.dft_base.proofs.ListLemmas.{refilled_length, refilled_items}
 use Rattle.dft_netlist.specs.declared.ids.NetId.{NetId}
 use Rattle.dft_netlist.specs.Orders.{Has, numbers_of}
-use Rattle.dft_lane_registers.specs.Layout.{Layout}
+use Rattle.dft_registers.specs.Layout.{Layout}
 use Rattle.dft_replay.specs.Vectors.{AreSignals}
 use Rattle.dft_logic.specs.declared.shown.Shown.{Shown}
 use Rattle.dft_logic.specs.Circuit.{Circuit, logic_at, flag_at, AreOrdered}
@@ -14,7 +15,7 @@ use Rattle.dft_fault_laws.specs.Rounds.{every}
 use Rattle.dft_fault_lanes.specs.Lanes.{flop_at}
 use Rattle.dft_fault_lanes.specs.Plans.{needs_of, HasReadsOf, AreCovered, pulse_on}
 use Rattle.dft_fault_lanes.specs.Moves.{is_carried, AreMoves, enable_needs}
-use Rattle.dft_fault_lanes.proofs.PlanLemmas.{refilled, filled, pulse_on_acts, steady_reads}
+use Rattle.dft_fault_lanes.proofs.PlanLemmas.{pulse_on_acts, steady_reads}
 use Rattle.dft_fault_lanes.proofs.plans.Plan.make.Goals as goal
 
 pub read_pulses-requires : goal.read_pulses-requires
@@ -30,7 +31,7 @@ pub show_all-requires-2 : goal.show_all-requires-2
 show_all-requires-2 c = record { shown = ap length c.deref_mut-5.ensures.value ∙ c.requires.room.falls }
 
 pub list_needs-self-requires-clause-marked : goal.list_needs-self-requires-clause-marked
-list_needs-self-requires-clause-marked c = ap length c.deref_mut-7.ensures.value ∙ refilled c.args.self.now.marked c.lower_unless.new.marked ∙ c.requires.room.marked
+list_needs-self-requires-clause-marked c = ap length c.deref_mut-7.ensures.value ∙ refilled_length c.args.self.now.marked c.lower_unless.new.marked ∙ c.requires.room.marked
 
 pub list_needs-self-requires-clause-list : goal.list_needs-self-requires-clause-list
 list_needs-self-requires-clause-list c = ap length c.deref_mut-8.ensures.value ∙ c.requires.room.list
@@ -51,23 +52,23 @@ pub returns-clause-room : goal.returns-clause-room
 returns-clause-room c =
     let old = c.args.self.now in
     record {
-      pulses = refilled old.pulses c.read_pulses.new.row ∙ c.requires.room.pulses;
-      pulsed = refilled old.pulsed c.flag_pulses.new.pulsed ∙ c.requires.room.pulsed;
-      rises = refilled old.rises c.show_all.new.shown ∙ c.requires.room.rises;
-      falls = refilled old.falls c.show_all-2.new.shown ∙ c.requires.room.falls;
-      marked = refilled (with_items old.marked c.lower_unless.new.marked) c.list_needs-self.new.marked ∙ refilled old.marked c.lower_unless.new.marked ∙ c.requires.room.marked;
-      list = refilled old.list c.list_needs-self.new.list ∙ c.requires.room.list;
+      pulses = refilled_length old.pulses c.read_pulses.new.row ∙ c.requires.room.pulses;
+      pulsed = refilled_length old.pulsed c.flag_pulses.new.pulsed ∙ c.requires.room.pulsed;
+      rises = refilled_length old.rises c.show_all.new.shown ∙ c.requires.room.rises;
+      falls = refilled_length old.falls c.show_all-2.new.shown ∙ c.requires.room.falls;
+      marked = refilled_length (with_items old.marked c.lower_unless.new.marked) c.list_needs-self.new.marked ∙ refilled_length old.marked c.lower_unless.new.marked ∙ c.requires.room.marked;
+      list = refilled_length old.list c.list_needs-self.new.list ∙ c.requires.room.list;
       taking = rw c.list_places.ensures.room c.requires.room.taking;
       falling = rw c.list_places-2.ensures.room c.requires.room.falling;
       forces = c.requires.room.forces;
     }
 
 pub returns-clause-pulses : goal.returns-clause-pulses
-returns-clause-pulses c = filled c.args.self.now.pulses c.read_pulses.new.row c.deref_mut-2.result.now c.read_pulses.auto.row c.deref_mut-2.ensures.value ∙ c.read_pulses.ensures
+returns-clause-pulses c = refilled_items c.args.self.now.pulses c.read_pulses.new.row c.deref_mut-2.result.now c.read_pulses.auto.row c.deref_mut-2.ensures.value ∙ c.read_pulses.ensures
 
 pub returns-clause-covered : goal.returns-clause-covered
 returns-clause-covered c =
-    let marked = filled (with_items c.args.self.now.marked c.lower_unless.new.marked) c.list_needs-self.new.marked c.deref_mut-7.result.now c.list_needs-self.auto.marked c.deref_mut-7.ensures.value in
+    let marked = refilled_items (with_items c.args.self.now.marked c.lower_unless.new.marked) c.list_needs-self.new.marked c.deref_mut-7.result.now c.list_needs-self.auto.marked c.deref_mut-7.ensures.value in
     subst (AreCovered c.args.nets.now c.args.acts.now) (sym marked) c.list_needs-self.ensures.covered
 
 pub returns-clause-plan : goal.returns-clause-plan
@@ -82,13 +83,13 @@ returns-clause-plan c =
     let p = with_items old.pulsed c.flag_pulses.new.pulsed in
     let m = with_items (with_items old.marked c.lower_unless.new.marked) c.list_needs-self.new.marked in
     let moving = with_items old.moves c.find_moves.new.moves in
-    let pulses = filled old.pulses c.read_pulses.new.row c.deref_mut-2.result.now c.read_pulses.auto.row c.deref_mut-2.ensures.value ∙ c.read_pulses.ensures in
-    let pulsed = filled old.pulsed c.flag_pulses.new.pulsed c.deref_mut-3.result.now c.flag_pulses.auto.pulsed c.deref_mut-3.ensures.value in
-    let rises = filled old.rises c.show_all.new.shown c.deref_mut-4.result.now c.show_all.auto.shown c.deref_mut-4.ensures.value in
-    let falls = filled old.falls c.show_all-2.new.shown c.deref_mut-5.result.now c.show_all-2.auto.shown c.deref_mut-5.ensures.value in
-    let moves = filled old.moves c.find_moves.new.moves c.deref_mut-6.result.now c.find_moves.auto.moves c.deref_mut-6.ensures.value in
-    let marked = filled (with_items old.marked c.lower_unless.new.marked) c.list_needs-self.new.marked c.deref_mut-7.result.now c.list_needs-self.auto.marked c.deref_mut-7.ensures.value in
-    let list = filled old.list c.list_needs-self.new.list c.deref_mut-8.result.now c.list_needs-self.auto.list c.deref_mut-8.ensures.value in
+    let pulses = refilled_items old.pulses c.read_pulses.new.row c.deref_mut-2.result.now c.read_pulses.auto.row c.deref_mut-2.ensures.value ∙ c.read_pulses.ensures in
+    let pulsed = refilled_items old.pulsed c.flag_pulses.new.pulsed c.deref_mut-3.result.now c.flag_pulses.auto.pulsed c.deref_mut-3.ensures.value in
+    let rises = refilled_items old.rises c.show_all.new.shown c.deref_mut-4.result.now c.show_all.auto.shown c.deref_mut-4.ensures.value in
+    let falls = refilled_items old.falls c.show_all-2.new.shown c.deref_mut-5.result.now c.show_all-2.auto.shown c.deref_mut-5.ensures.value in
+    let moves = refilled_items old.moves c.find_moves.new.moves c.deref_mut-6.result.now c.find_moves.auto.moves c.deref_mut-6.ensures.value in
+    let marked = refilled_items (with_items old.marked c.lower_unless.new.marked) c.list_needs-self.new.marked c.deref_mut-7.result.now c.list_needs-self.auto.marked c.deref_mut-7.ensures.value in
+    let list = refilled_items old.list c.list_needs-self.new.list c.deref_mut-8.result.now c.list_needs-self.auto.list c.deref_mut-8.ensures.value in
     let front : List NetId → Type 0 = λ l. AreOrdered x.ops [] (numbers_of (take c.list_needs-self.result l)) in
     let reads = rw c.deref-4.ensures.value at c.list_needs-self.ensures.reads in
     record {

@@ -3,8 +3,8 @@ use Rattle.std.proofs.Common.{ℕ, List, [], ◌≡◌, ◌<◌, ◌≤◌, ◌�
 use Rattle.std.proofs.lemmas.List.{get_or_default, get_or_past}
 use Rattle.dft_lanes.specs.declared.wide.Wide.{Wide}
 use Rattle.dft_evaluator.specs.Wides.{unknown_wide}
-use Rattle.dft_lane_registers.specs.declared.layout.Place.{Place}
-use Rattle.dft_lane_registers.specs.Layout.{place_at}
+use Rattle.dft_registers.specs.declared.layout.Place.{Place}
+use Rattle.dft_registers.specs.Layout.{place_at}
 use Rattle.dft_lane_registers.specs.Cells.{Contents, value_at, values_in, row_at}
 use Rattle.dft_lane_registers.proofs.CellLemmas.{count_in, read_at, in_rest, in_row}
 use Rattle.dft_lane_registers.proofs.cells.Cells.at.Goals as goal

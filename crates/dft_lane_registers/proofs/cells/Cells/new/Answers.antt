@@ -1,6 +1,6 @@
 -- Nothing is known.
 use Rattle.std.proofs.Common.{length}
-use Rattle.dft_lane_registers.specs.Layout.{cells_at}
+use Rattle.dft_registers.specs.Layout.{cells_at}
 use Rattle.dft_lane_registers.proofs.CellLemmas.{none_known}
 use Rattle.dft_lane_registers.proofs.cells.Cells.new.Goals as goal
 

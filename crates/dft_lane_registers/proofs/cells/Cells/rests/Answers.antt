@@ -1,8 +1,8 @@
 -- Where there is one register, it is that of the cell.
 use Rattle.std.proofs.Common.{ℕ, ◌≡◌, ◌<◌, ◌≢◌, ◌∙◌, sym, ap, subst, length, arith}
 use Rattle.std.proofs.lemmas.Bool.{ltb-false, eqb-true, eq-eqb}
-use Rattle.dft_lane_registers.specs.declared.layout.Place.{Place}
-use Rattle.dft_lane_registers.specs.Layout.{place_at}
+use Rattle.dft_registers.specs.declared.layout.Place.{Place}
+use Rattle.dft_registers.specs.Layout.{place_at}
 use Rattle.dft_lane_registers.specs.Cells.{Contents}
 use Rattle.dft_lane_registers.proofs.CellLemmas.{placed}
 use Rattle.dft_lane_registers.proofs.cells.Cells.rests.Goals as goal

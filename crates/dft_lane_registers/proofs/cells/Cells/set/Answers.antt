@@ -2,8 +2,8 @@
 use Rattle.std.proofs.Common.{ℕ, List, [], ◌≡◌, ◌<◌, ◌∙◌, sym, ap, subst, length, slice_set, arith}
 use Rattle.std.proofs.lemmas.List.{get_or_default}
 use Rattle.dft_lanes.specs.declared.wide.Wide.{Wide}
-use Rattle.dft_lane_registers.specs.declared.layout.Place.{Place}
-use Rattle.dft_lane_registers.specs.Layout.{place_at}
+use Rattle.dft_registers.specs.declared.layout.Place.{Place}
+use Rattle.dft_registers.specs.Layout.{place_at}
 use Rattle.dft_lane_registers.specs.Cells.{Contents, values_in, row_at}
 use Rattle.dft_lane_registers.proofs.CellLemmas.{placed, written, written_resting}
 use Rattle.dft_lane_registers.proofs.cells.Cells.set.Goals as goal

@@ -1,11 +1,11 @@
 -- None is marked first.
 use Rattle.std.proofs.Common.{List, Bool, false, ◌∙◌, sym, ap, subst, length}
 use Rattle.std.proofs.lemmas.List.{length-replicate}
+use Rattle.dft_base.proofs.ListLemmas.{refilled_items}
 use Rattle.dft_logic.specs.Circuit.{Circuit, flag_at}
+use Rattle.dft_logic.proofs.FlagLemmas.{down_all}
 use Rattle.dft_seek.specs.Cones.{AreBehind}
 use Rattle.dft_seek.specs.Rigs.{search_in}
-use Rattle.dft_seek.proofs.EvaluateLemmas.{none_up}
-use Rattle.dft_seek.proofs.Filled.{filled}
 use Rattle.dft_seek.proofs.rig.Rig.reached.Goals as goal
 
 pub mark_behind-requires-clause-size : goal.mark_behind-requires-clause-size
@@ -13,8 +13,8 @@ mark_behind-requires-clause-size c =
     ap (λ (l : List Bool). length l) (c.deref_mut.ensures.value ∙ c.in_ok-marked.ensures) ∙ length-replicate c.len.result false ∙ c.len.ensures ∙ c.circuit.inside.ops.ok.0 ∙ ap (λ (m : Circuit). length m.ops) c.circuit.view_is ∙ c.requires.rig.nets
 
 pub mark_behind-requires-clause-clear : goal.mark_behind-requires-clause-clear
-mark_behind-requires-clause-clear c = λ k. ap (λ (l : List Bool). flag_at l k) (c.deref_mut.ensures.value ∙ c.in_ok-marked.ensures) ∙ none_up c.len.result k
+mark_behind-requires-clause-clear c = λ k. ap (λ (l : List Bool). flag_at l k) (c.deref_mut.ensures.value ∙ c.in_ok-marked.ensures) ∙ down_all c.len.result k
 
 pub returns : goal.returns
 returns c = λ f.
-    subst (AreBehind (search_in c.args.self.now f) c.args.net.0) (sym (filled c.in_ok-marked.marked c.mark_behind.new.marked c.deref_mut.result.now c.mark_behind.auto.marked c.deref_mut.ensures.value)) (c.mark_behind.ensures f)
+    subst (AreBehind (search_in c.args.self.now f) c.args.net.0) (sym (refilled_items c.in_ok-marked.marked c.mark_behind.new.marked c.deref_mut.result.now c.mark_behind.auto.marked c.deref_mut.ensures.value)) (c.mark_behind.ensures f)

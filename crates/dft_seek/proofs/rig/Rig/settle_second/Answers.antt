@@ -2,11 +2,11 @@
 use Rattle.std.proofs.Common.{List, None, Option, refl, sym, subst, ap, length, ◌∙◌, true≢false}
 use Rattle.std.specs.Vec.{with_items}
 use Rattle.dft_base.specs.declared.tri.Tri.{Tri}
+use Rattle.dft_base.proofs.ListLemmas.{refilled_length}
 use Rattle.dft_logic.specs.Values.{value_at}
 use Rattle.dft_sweep.specs.declared.field.Stuck.{Stuck}
 use Rattle.dft_seek.specs.Nodes.{AreSettledFor, IsNear, IsSettled, risen_at, stuck_of}
 use Rattle.dft_seek.proofs.EvaluateLemmas.{settled_after, table_near}
-use Rattle.dft_seek.proofs.Filled.{refilled}
 use Rattle.dft_seek.proofs.rig.Rig.settle_second.Goals as goal
 
 pub settle_after-requires-clause-near : goal.settle_after-requires-clause-near
@@ -19,7 +19,7 @@ pub settle_after-requires-2-clause-near : goal.settle_after-requires-2-clause-ne
 settle_after-requires-2-clause-near c = subst (λ (s : Option Stuck). IsNear c.args.self.now c.args.cone.now.needed.items s c.args.v.now.bad_after) (sym c.stuck.ensures) (table_near c.args.self.now c.args.cone.now.needed.items (stuck_of c.args.fault) c.args.v.now.bad_after (c.requires.ready.bad_after c.if-not-self.false))
 
 pub settle_after-requires-2-clause-risen : goal.settle_after-requires-2-clause-risen
-settle_after-requires-2-clause-risen c = ap (λ (l : List Tri). length l) c.deref_mut-2.ensures.value ∙ refilled c.args.v.now.risen c.settle_after.new.risen ∙ c.requires.ready.risen
+settle_after-requires-2-clause-risen c = ap (λ (l : List Tri). length l) c.deref_mut-2.ensures.value ∙ refilled_length c.args.v.now.risen c.settle_after.new.risen ∙ c.requires.ready.risen
 
 pub returns-then-not-self : goal.returns-then-not-self
 returns-then-not-self c = record {
@@ -43,7 +43,7 @@ returns c =
       ready = record {
         cells = ready.cells;
         ports = ready.ports;
-        risen = refilled (with_items v.risen c.settle_after.new.risen) c.settle_after-2.new.risen ∙ refilled v.risen c.settle_after.new.risen ∙ ready.risen;
+        risen = refilled_length (with_items v.risen c.settle_after.new.risen) c.settle_after-2.new.risen ∙ refilled_length v.risen c.settle_after.new.risen ∙ ready.risen;
         good = ready.good;
         bad = ready.bad;
         good_after = c.settle_after.ensures.table;
