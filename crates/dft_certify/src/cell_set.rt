@@ -7,9 +7,16 @@ use std::alloc::{AllocError, Global};
 use std::marker::Model;
 
 // Cells, each once, found by their numbers. A clause sees them in the order in which they were added.
-#[derive(Debug, Drop)]
+#[derive(Debug)]
 pub(crate) struct CellSet {
     numbers: IndexSet<u32>,
+}
+
+// One call for all fields, so that the proof of what owns a value stays short.
+impl Drop for CellSet {
+    fn drop(self) {
+        let CellSet { numbers: _ } = self;
+    }
 }
 
 impl Model for CellSet {

@@ -11,9 +11,16 @@ use std::marker::Model;
 
 // The places of cubes by their names; of cubes of one name that of the first. A clause sees the names in the order in which they were
 // added.
-#[derive(Debug, Drop)]
+#[derive(Debug)]
 pub(crate) struct CubeNames {
     places: IndexMap<Vec<u8>, usize>,
+}
+
+// One call for all fields, so that the proof of what owns a value stays short.
+impl Drop for CubeNames {
+    fn drop(self) {
+        let CubeNames { places: _ } = self;
+    }
 }
 
 impl Model for CubeNames {

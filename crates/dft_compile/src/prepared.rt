@@ -18,10 +18,19 @@ use std::marker::Model;
 
 /// A planned design with its load equations, and its scanned netlist. A clause sees the design and the configuration: all
 /// else is theirs.
-#[derive(Drop)]
 pub struct Prepared<'a> {
     loads: Loads<'a>,
     scanned: Design,
+}
+
+// One call for all fields, so that the proof of what owns a value stays short.
+impl Drop for Prepared<'_> {
+    fn drop(self) {
+        let Prepared {
+            loads: _,
+            scanned: _,
+        } = self;
+    }
 }
 
 impl<'a> Model for Prepared<'a> {

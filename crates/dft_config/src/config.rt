@@ -53,7 +53,7 @@ pub struct CompactorConfig {
 }
 
 /// The names of the ports that are added; a number follows those of channels, masks, outputs and chains.
-#[derive(Debug, Drop)]
+#[derive(Debug)]
 pub struct PortNames {
     pub scan_enable: Name,
     pub edt_clock: Name,
@@ -65,8 +65,24 @@ pub struct PortNames {
     pub scan_out: Name,
 }
 
+// One call for all fields, so that the proof of what owns a value stays short.
+impl Drop for PortNames {
+    fn drop(self) {
+        let PortNames {
+            scan_enable: _,
+            edt_clock: _,
+            edt_update: _,
+            channel: _,
+            mask: _,
+            output: _,
+            scan_in: _,
+            scan_out: _,
+        } = self;
+    }
+}
+
 /// A configuration. It is in range: no call that takes one asks more. A clause sees it as a record.
-#[derive(Debug, Drop)]
+#[derive(Debug)]
 pub struct Config {
     domains: Names,
     resets: Names,
@@ -79,6 +95,25 @@ pub struct Config {
     ring: RingConfig,
     compactor: CompactorConfig,
     names: PortNames,
+}
+
+// One call for all fields, so that the proof of what owns a value stays short.
+impl Drop for Config {
+    fn drop(self) {
+        let Config {
+            domains: _,
+            resets: _,
+            keep: _,
+            chains: _,
+            warm: _,
+            window: _,
+            fill: _,
+            always_masked: _,
+            ring: _,
+            compactor: _,
+            names: _,
+        } = self;
+    }
 }
 
 impl Model for Config {

@@ -9,7 +9,7 @@ use dft_config::{CompactorConfig, PortNames, RingConfig};
 use std::alloc::{AllocError, Global};
 
 /// What differs from one made configuration to another.
-#[derive(Debug, Drop)]
+#[derive(Debug)]
 pub struct Made {
     /// The clock ports.
     pub domains: Listed<Name>,
@@ -25,6 +25,21 @@ pub struct Made {
     pub compactor: CompactorConfig,
     /// The names of the added ports.
     pub names: PortNames,
+}
+
+// One call for all fields, so that the proof of what owns a value stays short.
+impl Drop for Made {
+    fn drop(self) {
+        let Made {
+            domains: _,
+            resets: _,
+            chains: _,
+            warm: _,
+            ring: _,
+            compactor: _,
+            names: _,
+        } = self;
+    }
 }
 
 /// The text of a made configuration for so many flip-flops.

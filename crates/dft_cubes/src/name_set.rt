@@ -6,9 +6,16 @@ use std::alloc::{AllocError, Global};
 use std::marker::Model;
 
 // Names, each once, found by their bytes. A clause sees them in the order in which they were added.
-#[derive(Debug, Drop)]
+#[derive(Debug)]
 pub(crate) struct NameSet {
     names: IndexSet<Vec<u8>>,
+}
+
+// One call for all fields, so that the proof of what owns a value stays short.
+impl Drop for NameSet {
+    fn drop(self) {
+        let NameSet { names: _ } = self;
+    }
 }
 
 impl Model for NameSet {

@@ -29,7 +29,6 @@ use std::marker::Model;
 
 /// What is known of a design over test vectors: three-valued bits that stand above those of every run, whatever the
 /// order of the clocks' edges in a vector and the free bits. A clause sees it as a record of lists.
-#[derive(Drop)]
 pub struct AbstractMachine<'a> {
     design: &'a Design,
     clocks: Vec<NetId>,
@@ -43,6 +42,25 @@ pub struct AbstractMachine<'a> {
     room: Room,
     plans: Plans,
     looks: Looks,
+}
+
+// One call for all fields, so that the proof of what owns a value stays short.
+impl Drop for AbstractMachine<'_> {
+    fn drop(self) {
+        let AbstractMachine {
+            design: _,
+            clocks: _,
+            circuit: _,
+            falls: _,
+            inputs: _,
+            cells: _,
+            shown: _,
+            pulsed: _,
+            room: _,
+            plans: _,
+            looks: _,
+        } = self;
+    }
 }
 
 impl<'a> Model for AbstractMachine<'a> {

@@ -44,12 +44,23 @@ pub(crate) struct Search {
 
 // The room in which a machine works: the values of all nets in a view, the nets that are marked to be settled, the search for a
 // least map, and the values of nets that a plan or a look settles.
-#[derive(Drop)]
 pub(crate) struct Room {
     pub values: Vec<Tri>,
     pub marked: Vec<bool>,
     pub search: Search,
     pub quick: Vec<Tri>,
+}
+
+// One call for all fields, so that the proof of what owns a value stays short.
+impl Drop for Room {
+    fn drop(self) {
+        let Room {
+            values: _,
+            marked: _,
+            search: _,
+            quick: _,
+        } = self;
+    }
 }
 
 impl Search {

@@ -14,7 +14,6 @@ use dft_netlist::NetId;
 
 // The plans of the last phases that came again, and what they are made from, with room for a list. Then the places of the plan that was noted
 // last and of the one that was taken last.
-#[derive(Drop)]
 pub(crate) struct Plans {
     pub pins: Pins,
     pub sketch: Sketch,
@@ -22,6 +21,20 @@ pub(crate) struct Plans {
     pub plans: Vec<Plan>,
     pub noted: usize,
     pub taken: usize,
+}
+
+// One call for all fields, so that the proof of what owns a value stays short.
+impl Drop for Plans {
+    fn drop(self) {
+        let Plans {
+            pins: _,
+            sketch: _,
+            list: _,
+            plans: _,
+            noted: _,
+            taken: _,
+        } = self;
+    }
 }
 
 // The place of the plan for a pulse, where nets have these values.

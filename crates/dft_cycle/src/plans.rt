@@ -47,7 +47,6 @@ pub(crate) struct Pins {
 
 // A phase that is found in one pass: whether its clocks rise, those that pulse, and the values of ports and of scan enables, in the order
 // of the pins; then how the nets to settle get their values, the registers that move, and what other flip-flops take.
-#[derive(Drop)]
 pub(crate) struct Plan {
     pub stage: Stage,
     pub rising: bool,
@@ -57,6 +56,22 @@ pub(crate) struct Plan {
     pub steps: Vec<Step>,
     pub moves: Vec<Move>,
     pub takings: Vec<Taking>,
+}
+
+// One call for all fields, so that the proof of what owns a value stays short.
+impl Drop for Plan {
+    fn drop(self) {
+        let Plan {
+            stage: _,
+            rising: _,
+            pulsed: _,
+            ports: _,
+            enables: _,
+            steps: _,
+            moves: _,
+            takings: _,
+        } = self;
+    }
 }
 
 // Whether nets have the flags of a row, in their order, and it has no more.

@@ -22,10 +22,17 @@ use std::alloc::AllocError;
 const GROUP: usize = 512;
 
 // What was found of the last pattern, and how many chains are masked, each once for each pattern.
-#[derive(Debug, Drop)]
+#[derive(Debug)]
 pub(crate) struct Filled {
     pub(crate) last: Option<Found>,
     pub(crate) masked: u64,
+}
+
+// One call for all fields, so that the proof of what owns a value stays short.
+impl Drop for Filled {
+    fn drop(self) {
+        let Filled { last: _, masked: _ } = self;
+    }
 }
 
 // How many chains are masked.

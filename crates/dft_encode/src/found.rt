@@ -18,7 +18,7 @@ use dft_vectors::Pattern;
 use std::alloc::{AllocError, Global};
 
 // A pattern, and all that is found of it.
-#[derive(Debug, Drop)]
+#[derive(Debug)]
 pub(crate) struct Found {
     pub(crate) merged: Merged,
     // The channel bits of its load, packed into words.
@@ -26,6 +26,18 @@ pub(crate) struct Found {
     // Which chains are masked while it is unloaded.
     pub(crate) masks: Listed<bool>,
     pub(crate) response: Response,
+}
+
+// One call for all fields, so that the proof of what owns a value stays short.
+impl Drop for Found {
+    fn drop(self) {
+        let Found {
+            merged: _,
+            bits: _,
+            masks: _,
+            response: _,
+        } = self;
+    }
 }
 
 impl Found {

@@ -19,7 +19,6 @@ use std::marker::Model;
 
 /// What captures the responses of a design's patterns, up to 512 at a time: a sweep over its nets for each edge of each capture vector. A clause
 /// sees the design and the configuration.
-#[derive(Drop)]
 pub struct Capturer<'a> {
     design: &'a Design,
     config: &'a Config,
@@ -28,6 +27,21 @@ pub struct Capturer<'a> {
     reads: Vec<Read>,
     outputs: Vec<NetId>,
     falls: bool,
+}
+
+// One call for all fields, so that the proof of what owns a value stays short.
+impl Drop for Capturer<'_> {
+    fn drop(self) {
+        let Capturer {
+            design: _,
+            config: _,
+            evaluator: _,
+            settings: _,
+            reads: _,
+            outputs: _,
+            falls: _,
+        } = self;
+    }
 }
 
 impl<'a> Model for Capturer<'a> {

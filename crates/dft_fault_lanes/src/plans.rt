@@ -34,7 +34,6 @@ use std::alloc::{AllocError, Global};
 /// show as the clocks rise and as they fall; the registers that move at rises; the nets that are settled, marked and at the front of a
 /// list in their order; the other cells that take a value at rises and at falls, but for idle ones; and whether at rises all read what is still in every
 /// lane. Then whether lanes were seen to differ at that net, so that no value is asked for; and the ports of all resets and sets.
-#[derive(Drop)]
 pub struct Plan {
     pub made: bool,
     pub torn: bool,
@@ -51,6 +50,29 @@ pub struct Plan {
     pub falling: Vec<usize>,
     pub steady: bool,
     pub forces: Vec<NetId>,
+}
+
+// One call for all fields, so that the proof of what owns a value stays short.
+impl Drop for Plan {
+    fn drop(self) {
+        let Plan {
+            made: _,
+            torn: _,
+            steer: _,
+            pulses: _,
+            pulsed: _,
+            rises: _,
+            falls: _,
+            moves: _,
+            marked: _,
+            list: _,
+            count: _,
+            taking: _,
+            falling: _,
+            steady: _,
+            forces: _,
+        } = self;
+    }
 }
 
 // Whether a cell takes a value where these clocks rise, or fall, and is not left out.

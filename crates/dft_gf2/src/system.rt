@@ -27,7 +27,6 @@ pub enum Outcome {
 
 /// A system of equations over GF(2). It keeps those whose sets are independent, in the order in which they came.
 /// A clause sees the number of columns, the kept equations, and the one that was refused last as a conflict.
-#[derive(Drop)]
 pub struct System {
     columns: u32,
     kept: usize,
@@ -35,6 +34,20 @@ pub struct System {
     row_of: Vec<Option<usize>>,
     trial: Row,
     refused: bool,
+}
+
+// One call for all fields, so that the proof of what owns a value stays short.
+impl Drop for System {
+    fn drop(self) {
+        let System {
+            columns: _,
+            kept: _,
+            rows: _,
+            row_of: _,
+            trial: _,
+            refused: _,
+        } = self;
+    }
 }
 
 impl Model for System {

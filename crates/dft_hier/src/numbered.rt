@@ -10,9 +10,16 @@ use std::marker::Model;
 
 /// Names with numbers. Of two names that are the same the first has its number. A clause sees them in the order in which they
 /// were added.
-#[derive(Debug, Drop)]
+#[derive(Debug)]
 pub struct Numbered<'a> {
     numbers: IndexMap<CowSlice<'a, u8>, usize>,
+}
+
+// One call for all fields, so that the proof of what owns a value stays short.
+impl Drop for Numbered<'_> {
+    fn drop(self) {
+        let Numbered { numbers: _ } = self;
+    }
 }
 
 impl<'a> Model for Numbered<'a> {

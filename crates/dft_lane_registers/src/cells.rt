@@ -14,12 +14,22 @@ use std::marker::Model;
 
 /// The values of cells. Those that follow each other lie in a shift register, whose values move on by one place at once;
 /// all others rest, each by itself. A clause sees where they lie, and the list of their values.
-#[derive(Drop)]
 pub struct Cells {
     layout: Layout,
     // The values of cells that rest, by cell; those of others tell nothing.
     resting: Vec<Wide>,
     rows: Vec<Values>,
+}
+
+// One call for all fields, so that the proof of what owns a value stays short.
+impl Drop for Cells {
+    fn drop(self) {
+        let Cells {
+            layout: _,
+            resting: _,
+            rows: _,
+        } = self;
+    }
 }
 
 impl Model for Cells {

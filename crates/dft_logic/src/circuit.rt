@@ -155,7 +155,6 @@ pub struct Latch {
 /// net the nets that read it and the flip-flops that it resets or sets; and by the net of a clock the nets that show it or its
 /// domain's flip-flops and lock-ups, what stores bits in its domain, and its lock-ups. That it hangs together so
 /// (`IsCircuit`) holds of every value of the type.
-#[derive(Drop)]
 pub struct Circuit {
     pub order: Vec<NetId>,
     pub ops: Vec<Op>,
@@ -167,6 +166,24 @@ pub struct Circuit {
     pub cells: Table,
     pub holders: Table,
     pub followers: Table,
+}
+
+// One call for all fields, so that the proof of what owns a value stays short.
+impl Drop for Circuit {
+    fn drop(self) {
+        let Circuit {
+            order: _,
+            ops: _,
+            flops: _,
+            latches: _,
+            readers: _,
+            sources: _,
+            leaves: _,
+            cells: _,
+            holders: _,
+            followers: _,
+        } = self;
+    }
 }
 
 impl Model for Circuit {

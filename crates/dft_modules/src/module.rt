@@ -30,12 +30,24 @@ pub enum Item {
 /// A module of a text (IEEE 1364, structural part): its name, its ports, the printed name of each net by its number, and its
 /// items: module instances in the order of the text, and before each the joins and then the cells that stand before it. The
 /// bits of its ports are the first nets.
-#[derive(Debug, Drop)]
+#[derive(Debug)]
 pub struct Module {
     name: Name,
     ports: Vec<Port>,
     nets: Vec<Name>,
     items: Vec<Item>,
+}
+
+// One call for all fields, so that the proof of what owns a value stays short.
+impl Drop for Module {
+    fn drop(self) {
+        let Module {
+            name: _,
+            ports: _,
+            nets: _,
+            items: _,
+        } = self;
+    }
 }
 
 impl Model for Module {

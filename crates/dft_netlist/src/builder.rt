@@ -23,7 +23,7 @@ use std::marker::Model;
 
 /// A netlist that is being built. Names of nets, ports and instances are one name space of printed names. A clause sees
 /// the netlist so far. A call that is refused leaves it as it was.
-#[derive(Debug, Drop)]
+#[derive(Debug)]
 pub struct DesignBuilder {
     pub(crate) alloc: Global,
     pub(crate) name: Name,
@@ -32,6 +32,21 @@ pub struct DesignBuilder {
     pub(crate) instances: Vec<Instance>,
     pub(crate) joins: Vec<Join>,
     pub(crate) table: NameTable,
+}
+
+// One call for all fields, so that the proof of what owns a value stays short.
+impl Drop for DesignBuilder {
+    fn drop(self) {
+        let DesignBuilder {
+            alloc: _,
+            name: _,
+            library: _,
+            ports: _,
+            instances: _,
+            joins: _,
+            table: _,
+        } = self;
+    }
 }
 
 impl Model for DesignBuilder {
@@ -283,13 +298,22 @@ impl DesignBuilder {
     {
         let drivers = find_drivers(self.alloc, &self)?;
         let order = find_order(self.alloc, &self, &drivers)?;
+        let DesignBuilder {
+            alloc: _,
+            name,
+            library,
+            ports,
+            instances,
+            joins,
+            table,
+        } = self;
         Ok(Design {
-            name: self.name,
-            library: self.library,
-            ports: self.ports,
-            instances: self.instances,
-            joins: self.joins,
-            table: self.table,
+            name,
+            library,
+            ports,
+            instances,
+            joins,
+            table,
             drivers,
             order,
         })

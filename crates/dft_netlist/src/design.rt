@@ -25,7 +25,7 @@ use std::marker::Model;
 
 /// A gate-level netlist: one module over a library of cells (IEEE 1364). Each net has one driver at most, and an
 /// order puts it after the nets that its driver reads. A clause sees it as a record of lists.
-#[derive(Debug, Drop)]
+#[derive(Debug)]
 pub struct Design {
     pub(crate) name: Name,
     pub(crate) library: Library,
@@ -35,6 +35,22 @@ pub struct Design {
     pub(crate) table: NameTable,
     pub(crate) drivers: Vec<NetDriver>,
     pub(crate) order: Vec<NetId>,
+}
+
+// One call for all fields, so that the proof of what owns a value stays short.
+impl Drop for Design {
+    fn drop(self) {
+        let Design {
+            name: _,
+            library: _,
+            ports: _,
+            instances: _,
+            joins: _,
+            table: _,
+            drivers: _,
+            order: _,
+        } = self;
+    }
 }
 
 impl Model for Design {

@@ -14,9 +14,16 @@ use std::marker::Model;
 pub(crate) const MAX_NAMES: usize = 4_294_967_295;
 
 // Names and what each stands for. A clause sees them in order of adding.
-#[derive(Debug, Drop)]
+#[derive(Debug)]
 pub(crate) struct NameStore {
     names: IndexMap<Key, Named>,
+}
+
+// One call for all fields, so that the proof of what owns a value stays short.
+impl Drop for NameStore {
+    fn drop(self) {
+        let NameStore { names: _ } = self;
+    }
 }
 
 impl Model for NameStore {

@@ -37,12 +37,23 @@ fn set_inputs(machine: &mut AbstractMachine<'_>, nets: &[NetId], acts: &[Act])
 }
 
 // What the vectors of a replay use again and again, made once.
-#[derive(Drop)]
 pub(crate) struct Room {
     pub pulsed: Vec<bool>,
     pub wanted: Vec<NetId>,
     pub asked: Vec<Asked>,
     pub seen: Vec<Tri>,
+}
+
+// One call for all fields, so that the proof of what owns a value stays short.
+impl Drop for Room {
+    fn drop(self) {
+        let Room {
+            pulsed: _,
+            wanted: _,
+            asked: _,
+            seen: _,
+        } = self;
+    }
 }
 
 impl Room {

@@ -72,7 +72,7 @@ pub struct CubeReport {
 }
 
 /// A report.
-#[derive(Debug, Drop)]
+#[derive(Debug)]
 pub struct Report {
     pub header: Header,
     /// The lengths of the chains.
@@ -83,4 +83,17 @@ pub struct Report {
     pub unscanned: Listed<UnscannedLine>,
     /// By the order of the cube file.
     pub cubes: Listed<CubeReport>,
+}
+
+// One call for all fields, so that the proof of what owns a value stays short.
+impl Drop for Report {
+    fn drop(self) {
+        let Report {
+            header: _,
+            chains: _,
+            scanned: _,
+            unscanned: _,
+            cubes: _,
+        } = self;
+    }
 }

@@ -13,7 +13,7 @@ use dft_netlist::{ClockRoot, Design, InstanceId, NetId, Root, Signal, clock_in, 
 use std::alloc::{AllocError, Global};
 
 // What is looked up once, before flip-flops are judged.
-#[derive(Debug, Drop)]
+#[derive(Debug)]
 pub(crate) struct Findings {
     // The nets of the domains, in the order of the configuration.
     pub(crate) domains: Vec<NetId>,
@@ -25,6 +25,19 @@ pub(crate) struct Findings {
     pub(crate) roots: Vec<Root>,
     // The clock that each net shows, by its number.
     pub(crate) clocks: Vec<Option<ClockRoot>>,
+}
+
+// One call for all fields, so that the proof of what owns a value stays short.
+impl Drop for Findings {
+    fn drop(self) {
+        let Findings {
+            domains: _,
+            resets: _,
+            kept: _,
+            roots: _,
+            clocks: _,
+        } = self;
+    }
 }
 
 // The bits of input ports that these names stand for.

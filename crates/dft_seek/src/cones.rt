@@ -23,13 +23,25 @@ use std::alloc::{AllocError, Global};
 
 // The points that are reached, bits of output ports and cells; the variables, cells and ports; and by net, whether a walk leads from
 // it to a point: no other net is needed.
-#[derive(Drop)]
 pub(crate) struct Cone {
     pub outputs: Vec<NetId>,
     pub responses: Vec<InstanceId>,
     pub cells: Vec<InstanceId>,
     pub ports: Vec<NetId>,
     pub needed: Vec<bool>,
+}
+
+// One call for all fields, so that the proof of what owns a value stays short.
+impl Drop for Cone {
+    fn drop(self) {
+        let Cone {
+            outputs: _,
+            responses: _,
+            cells: _,
+            ports: _,
+            needed: _,
+        } = self;
+    }
 }
 
 // Those of the nets that are marked.

@@ -40,7 +40,6 @@ pub(crate) struct Table {
 
 // The values of a node: those of cells and of ports, those of cells after the clock has risen, and those of nets in the design
 // and in the design with the fault, before the clock rises and before it falls.
-#[derive(Drop)]
 pub(crate) struct Values {
     pub cells: Vec<Tri>,
     pub ports: Vec<Tri>,
@@ -49,6 +48,21 @@ pub(crate) struct Values {
     pub bad: Table,
     pub good_after: Table,
     pub bad_after: Table,
+}
+
+// One call for all fields, so that the proof of what owns a value stays short.
+impl Drop for Values {
+    fn drop(self) {
+        let Values {
+            cells: _,
+            ports: _,
+            risen: _,
+            good: _,
+            bad: _,
+            good_after: _,
+            bad_after: _,
+        } = self;
+    }
 }
 
 // ---- values

@@ -17,7 +17,6 @@ use dft_sweep::{Field, Marks, Sources, places, settle};
 use std::alloc::{AllocError, Global};
 
 // A planned design and one of its domains, with what is the same for all faults.
-#[derive(Drop)]
 pub(crate) struct Rig<'a> {
     pub design: &'a Design,
     pub config: &'a Config,
@@ -45,6 +44,33 @@ pub(crate) struct Rig<'a> {
     pub responses: Vec<InstanceId>,
     // The values of all nets where no cell and no port has one.
     pub base: Vec<Tri>,
+}
+
+// One call for all fields, so that the proof of what owns a value stays short.
+impl Drop for Rig<'_> {
+    fn drop(self) {
+        let Rig {
+            design: _,
+            config: _,
+            domain: _,
+            circuit: _,
+            places: _,
+            resets: _,
+            shows: _,
+            steps: _,
+            showing: _,
+            holds: _,
+            rises: _,
+            falls: _,
+            pins: _,
+            any_falls: _,
+            cells: _,
+            ports: _,
+            outputs: _,
+            responses: _,
+            base: _,
+        } = self;
+    }
 }
 
 // Settles all nets, where no cell and no port has a value.

@@ -6,9 +6,16 @@ use std::alloc::{AllocError, Global};
 use std::marker::Model;
 
 /// Names that differ, each found by its bytes. A clause sees them in the order in which they were added.
-#[derive(Debug, Drop)]
+#[derive(Debug)]
 pub struct KnownNames {
     names: IndexSet<Vec<u8>>,
+}
+
+// One call for all fields, so that the proof of what owns a value stays short.
+impl Drop for KnownNames {
+    fn drop(self) {
+        let KnownNames { names: _ } = self;
+    }
 }
 
 impl Model for KnownNames {

@@ -12,7 +12,7 @@ use std::alloc::{AllocError, Global};
 use std::marker::Model;
 
 /// The signals and the groups of a pattern text so far (IEEE 1450-1999 `Signals` and `SignalGroups`).
-#[derive(Debug, Drop)]
+#[derive(Debug)]
 pub struct Names {
     signals: Vec<StilSignal>,
     signal_names: KnownNames,
@@ -20,6 +20,19 @@ pub struct Names {
     numbers: Vec<usize>,
     group_names: KnownNames,
     groups: Vec<Members>,
+}
+
+// One call for all fields, so that the proof of what owns a value stays short.
+impl Drop for Names {
+    fn drop(self) {
+        let Names {
+            signals: _,
+            signal_names: _,
+            numbers: _,
+            group_names: _,
+            groups: _,
+        } = self;
+    }
 }
 
 impl Model for Names {
@@ -59,7 +72,14 @@ impl Names {
     pub fn into_signals(self) -> Vec<StilSignal>
         ensures { result.items ≡ self.signals }
     {
-        self.signals
+        let Names {
+            signals,
+            signal_names: _,
+            numbers: _,
+            group_names: _,
+            groups: _,
+        } = self;
+        signals
     }
 
     /// Whether a signal has this name.

@@ -7,7 +7,7 @@ use dft_netlist::InstanceId;
 use std::marker::Model;
 
 /// Scan chains. A clause sees them as a record of lists.
-#[derive(Debug, Drop)]
+#[derive(Debug)]
 pub struct Chains {
     pub(crate) chains: Vec<Cells>,
     // Whether the first cell of each chain is falling.
@@ -16,6 +16,19 @@ pub struct Chains {
     // The place of each instance, by its number.
     pub(crate) places: Vec<Option<CellPlace>>,
     pub(crate) cycles: u16,
+}
+
+// One call for all fields, so that the proof of what owns a value stays short.
+impl Drop for Chains {
+    fn drop(self) {
+        let Chains {
+            chains: _,
+            heads: _,
+            lockups: _,
+            places: _,
+            cycles: _,
+        } = self;
+    }
 }
 
 impl Model for Chains {

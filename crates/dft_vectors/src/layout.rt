@@ -17,12 +17,23 @@ use dft_stitch::Planned;
 use std::alloc::{AllocError, Global};
 
 // A planned design, and what is looked up in it once.
-#[derive(Drop)]
 pub(crate) struct Layout<'a> {
     pub(crate) alloc: Global,
     pub(crate) planned: &'a Planned<'a>,
     pub(crate) own: OwnPorts,
     pub(crate) segments: Vec<Segment>,
+}
+
+// One call for all fields, so that the proof of what owns a value stays short.
+impl Drop for Layout<'_> {
+    fn drop(self) {
+        let Layout {
+            alloc: _,
+            planned: _,
+            own: _,
+            segments: _,
+        } = self;
+    }
 }
 
 // What vectors of a planned design are made from.

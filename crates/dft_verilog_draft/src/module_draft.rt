@@ -19,7 +19,7 @@ use std::marker::Model;
 
 /// What a module has said so far (IEEE 1364): the names that are taken, its ports, nets, instances and joins. Nets are
 /// numbered in the order in which they were first named. A call that fails leaves a draft of which nothing is known.
-#[derive(Debug, Drop)]
+#[derive(Debug)]
 pub struct ModuleDraft<'a> {
     alloc: Global,
     name: Name,
@@ -29,6 +29,22 @@ pub struct ModuleDraft<'a> {
     nets: Vec<Word<'a>>,
     instances: Vec<DraftInstance<'a>>,
     joins: Vec<Join>,
+}
+
+// One call for all fields, so that the proof of what owns a value stays short.
+impl Drop for ModuleDraft<'_> {
+    fn drop(self) {
+        let ModuleDraft {
+            alloc: _,
+            name: _,
+            library: _,
+            names: _,
+            ports: _,
+            nets: _,
+            instances: _,
+            joins: _,
+        } = self;
+    }
 }
 
 impl<'a> Model for ModuleDraft<'a> {
@@ -172,9 +188,25 @@ impl<'a> ModuleDraft<'a> {
     pub fn without_names(self) -> ModuleDraft<'a>
         ensures { result ≡ record self.entry { names = [] } }
     {
+        let ModuleDraft {
+            alloc,
+            name,
+            library,
+            names: _,
+            ports,
+            nets,
+            instances,
+            joins,
+        } = self;
         ModuleDraft {
-            names: TakenNames::new(self.alloc),
-            ..self
+            alloc,
+            name,
+            library,
+            names: TakenNames::new(alloc),
+            ports,
+            nets,
+            instances,
+            joins,
         }
     }
 
@@ -182,7 +214,17 @@ impl<'a> ModuleDraft<'a> {
     pub fn into_library(self) -> Library
         ensures { result ≡ self.entry.library }
     {
-        self.library
+        let ModuleDraft {
+            alloc: _,
+            name: _,
+            library,
+            names: _,
+            ports: _,
+            nets: _,
+            instances: _,
+            joins: _,
+        } = self;
+        library
     }
 
     // Takes a name that is free.

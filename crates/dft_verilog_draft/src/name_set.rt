@@ -10,9 +10,16 @@ use std::alloc::{AllocError, Global};
 use std::marker::Model;
 
 /// Names that differ. A clause sees them in the order in which they were added.
-#[derive(Debug, Drop)]
+#[derive(Debug)]
 pub struct NameSet<'a> {
     names: TakenNames<'a>,
+}
+
+// One call for all fields, so that the proof of what owns a value stays short.
+impl Drop for NameSet<'_> {
+    fn drop(self) {
+        let NameSet { names: _ } = self;
+    }
 }
 
 impl<'a> Model for NameSet<'a> {

@@ -13,9 +13,16 @@ use std::marker::Model;
 
 /// The names of a module that are taken, and what each stands for. A clause sees them in the order in which they were
 /// taken.
-#[derive(Debug, Drop)]
+#[derive(Debug)]
 pub struct TakenNames<'a> {
     meanings: IndexMap<CowSlice<'a, u8>, Meaning>,
+}
+
+// One call for all fields, so that the proof of what owns a value stays short.
+impl Drop for TakenNames<'_> {
+    fn drop(self) {
+        let TakenNames { meanings: _ } = self;
+    }
 }
 
 impl<'a> Model for TakenNames<'a> {
