@@ -3,9 +3,16 @@ ghost use Rattle.std.specs.Prelude.{◌≡◌};
 use std::marker::Model;
 
 /// Items in order. A clause sees them as a list.
-#[derive(Debug, Drop)]
+#[derive(Debug)]
 pub struct Listed<T> {
     entries: Vec<T>,
+}
+
+// One call for all fields, so that the proof of what owns a value stays short.
+impl<T: Drop> Drop for Listed<T> {
+    fn drop(self) {
+        let Listed { entries: _ } = self;
+    }
 }
 
 impl<T> Model for Listed<T> {
@@ -35,6 +42,7 @@ impl<T> Listed<T> {
     pub fn into_vec(self) -> Vec<T>
         ensures { result.items ≡ self }
     {
-        self.entries
+        let Listed { entries } = self;
+        entries
     }
 }

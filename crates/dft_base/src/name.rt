@@ -7,9 +7,16 @@ use std::marker::Model;
 
 /// The name of a net, a port, a cell, an instance or a signal: at least one byte, each of 33 to 126.
 /// A clause sees it as its bytes.
-#[derive(Debug, Drop)]
+#[derive(Debug)]
 pub struct Name {
     bytes: Vec<u8>,
+}
+
+// One call for all fields, so that the proof of what owns a value stays short.
+impl Drop for Name {
+    fn drop(self) {
+        let Name { bytes: _ } = self;
+    }
 }
 
 impl Model for Name {

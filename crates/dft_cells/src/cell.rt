@@ -17,9 +17,16 @@ pub struct Pin {
 }
 
 /// The pins of a cell, in order. A clause sees them as a list.
-#[derive(Debug, Drop)]
+#[derive(Debug)]
 pub struct Pins {
     pins: Vec<Pin>,
+}
+
+// One call for all fields, so that the proof of what owns a value stays short.
+impl Drop for Pins {
+    fn drop(self) {
+        let Pins { pins: _ } = self;
+    }
 }
 
 impl Model for Pins {

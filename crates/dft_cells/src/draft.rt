@@ -17,13 +17,25 @@ use std::collections::BTreeSet;
 use toml::{Table, Value};
 
 /// A cell whose scan cell is not found yet.
-#[derive(Debug, Drop)]
+#[derive(Debug)]
 pub struct Draft {
     pub name: Name,
     pub kind: Kind,
     pub pins: Pins,
     /// The name of the scan cell, where the table has one.
     pub scan: Option<Name>,
+}
+
+// One call for all fields, so that the proof of what owns a value stays short.
+impl Drop for Draft {
+    fn drop(self) {
+        let Draft {
+            name: _,
+            kind: _,
+            pins: _,
+            scan: _,
+        } = self;
+    }
 }
 
 /// The draft of the cell with this name and this value.

@@ -15,9 +15,16 @@ use std::marker::Model;
 pub const MAX_CELLS: usize = 4096;
 
 /// The cells that a netlist may use, in byte order of their names. A clause sees them as a list.
-#[derive(Debug, Drop)]
+#[derive(Debug)]
 pub struct Library {
     cells: Vec<Cell>,
+}
+
+// One call for all fields, so that the proof of what owns a value stays short.
+impl Drop for Library {
+    fn drop(self) {
+        let Library { cells: _ } = self;
+    }
 }
 
 impl Model for Library {

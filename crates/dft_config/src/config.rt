@@ -31,7 +31,7 @@ pub struct Injector {
 }
 
 /// The ring generator (Rajski and others, 2004), and the phase shifter behind it.
-#[derive(Debug, Drop)]
+#[derive(Debug)]
 pub struct RingConfig {
     /// 2 to 128 stages.
     pub stages: u8,
@@ -41,6 +41,19 @@ pub struct RingConfig {
     pub injectors: Listed<Injector>,
     /// For each chain the stages whose sum it takes.
     pub phase: Listed<Listed<u8>>,
+}
+
+// One call for all fields, so that the proof of what owns a value stays short.
+impl Drop for RingConfig {
+    fn drop(self) {
+        let RingConfig {
+            stages: _,
+            channels: _,
+            taps: _,
+            injectors: _,
+            phase: _,
+        } = self;
+    }
 }
 
 /// The compactor of the chains' outputs, and its masks.

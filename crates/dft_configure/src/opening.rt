@@ -17,7 +17,7 @@ use dft_rules::{has_scan_cell, may_be_scanned};
 use std::alloc::{AllocError, Global};
 
 // What is found of each net, by its number.
-#[derive(Debug, Drop)]
+#[derive(Debug)]
 pub(crate) struct Tables {
     // The clock that it shows.
     pub(crate) clocks: Vec<Option<ClockRoot>>,
@@ -25,6 +25,17 @@ pub(crate) struct Tables {
     pub(crate) roots: Vec<Root>,
     // Whether no instance takes its clock as data.
     pub(crate) clean: Vec<bool>,
+}
+
+// One call for all fields, so that the proof of what owns a value stays short.
+impl Drop for Tables {
+    fn drop(self) {
+        let Tables {
+            clocks: _,
+            roots: _,
+            clean: _,
+        } = self;
+    }
 }
 
 impl Tables {

@@ -55,7 +55,7 @@ fn are_one(one: Option<u8>, other: Option<u8>) -> bool
 }
 
 /// A test cube: the bits that a pattern has to have, and the clocks that capture.
-#[derive(Debug, Drop)]
+#[derive(Debug)]
 pub struct Cube {
     pub name: Name,
     /// The clocks of its capture.
@@ -64,6 +64,18 @@ pub struct Cube {
     pub cells: Listed<(InstanceId, bool)>,
     /// The bits of input ports in the capture, each named once.
     pub ports: Listed<(NetId, bool)>,
+}
+
+// One call for all fields, so that the proof of what owns a value stays short.
+impl Drop for Cube {
+    fn drop(self) {
+        let Cube {
+            name: _,
+            domains: _,
+            cells: _,
+            ports: _,
+        } = self;
+    }
 }
 
 /// What is to be loaded and set by one pattern: cubes that were put together.

@@ -35,11 +35,21 @@ pub(crate) struct Views<'a> {
 
 // Where the search for the least map of a phase stands, with an entry for each flip-flop: the map, the values that
 // lock-ups are held at, and the next values.
-#[derive(Drop)]
 pub(crate) struct Search {
     pub poss: Vec<Tri>,
     pub held: Vec<Tri>,
     pub next: Vec<Tri>,
+}
+
+// One call for all fields, so that the proof of what owns a value stays short.
+impl Drop for Search {
+    fn drop(self) {
+        let Search {
+            poss: _,
+            held: _,
+            next: _,
+        } = self;
+    }
 }
 
 // The room in which a machine works: the values of all nets in a view, the nets that are marked to be settled, the search for a

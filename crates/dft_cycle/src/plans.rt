@@ -37,12 +37,23 @@ pub(crate) enum Stage {
 
 // What plans are told apart by, beside the clocks that pulse: the ports of resets and sets and the nets of scan
 // enables. Then the nets that scan enables are settled from, at the front of a list.
-#[derive(Drop)]
 pub(crate) struct Pins {
     pub ports: Vec<NetId>,
     pub enables: Vec<NetId>,
     pub list: Vec<NetId>,
     pub count: usize,
+}
+
+// One call for all fields, so that the proof of what owns a value stays short.
+impl Drop for Pins {
+    fn drop(self) {
+        let Pins {
+            ports: _,
+            enables: _,
+            list: _,
+            count: _,
+        } = self;
+    }
 }
 
 // A phase that is found in one pass: whether its clocks rise, those that pulse, and the values of ports and of scan enables, in the order
@@ -154,11 +165,21 @@ impl Plan {
 }
 
 // What plans are made from: room for the flip-flop that each net shows, for what else nets show, and for entries.
-#[derive(Drop)]
 pub(crate) struct Sketch {
     pub origins: Vec<Option<InstanceId>>,
     pub shown: Vec<Shown>,
     pub entries: Vec<Entry>,
+}
+
+// One call for all fields, so that the proof of what owns a value stays short.
+impl Drop for Sketch {
+    fn drop(self) {
+        let Sketch {
+            origins: _,
+            shown: _,
+            entries: _,
+        } = self;
+    }
 }
 
 // Settles all nets before the edges of a phase, and finds what flip-flops take. Whether all take what is still.

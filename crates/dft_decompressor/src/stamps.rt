@@ -8,10 +8,16 @@ use dft_base::Listed;
 use std::marker::Model;
 
 // A set, and its stamp.
-#[derive(Drop)]
 pub(crate) struct Stamped {
     stamp: u64,
     set: Listed<bool>,
+}
+
+// One call for all fields, so that the proof of what owns a value stays short.
+impl Drop for Stamped {
+    fn drop(self) {
+        let Stamped { stamp: _, set: _ } = self;
+    }
 }
 
 impl Model for Stamped {

@@ -15,12 +15,23 @@ use std::alloc::{AllocError, Global};
 use std::marker::Model;
 
 // The sets that a pass over a ring of so many stages has taken, with what each becomes from cycle to cycle.
-#[derive(Drop)]
 pub(crate) struct Taken {
     stages: u8,
     taps: Vec<Tap>,
     sets: Vec<Listed<u8>>,
     moves: Vec<Listed<Stamped>>,
+}
+
+// One call for all fields, so that the proof of what owns a value stays short.
+impl Drop for Taken {
+    fn drop(self) {
+        let Taken {
+            stages: _,
+            taps: _,
+            sets: _,
+            moves: _,
+        } = self;
+    }
 }
 
 impl Model for Taken {
@@ -85,7 +96,13 @@ impl Taken {
     pub(crate) fn into_sets(self) -> Listed<Listed<u8>>
         ensures { result ≡ self.sets }
     {
-        Listed::from_vec(self.sets)
+        let Taken {
+            stages: _,
+            taps: _,
+            sets,
+            moves: _,
+        } = self;
+        Listed::from_vec(sets)
     }
 }
 

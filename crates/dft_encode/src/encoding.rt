@@ -19,11 +19,17 @@ use dft_vectors::VectorList;
 use std::alloc::{AllocError, Global};
 
 /// Patterns in the signals of a scanned netlist.
-#[derive(Drop)]
 pub struct Encoded {
     pub set: PatternSet,
     /// How many chains are masked, each once for each pattern.
     pub masked: u64,
+}
+
+// One call for all fields, so that the proof of what owns a value stays short.
+impl Drop for Encoded {
+    fn drop(self) {
+        let Encoded { set: _, masked: _ } = self;
+    }
 }
 
 // Adds all patterns to a list of vectors that has none.

@@ -8,12 +8,23 @@ use std::marker::Model;
 
 /// The rows of the cells of a chain. The rows of the first 64 places are kept: 64 places further, bits are moved down by as
 /// many words as there are channels. A clause sees the row of each cell.
-#[derive(Drop)]
 pub struct ChainRows {
     columns: u32,
     channels: u8,
     places: u16,
     kept: Vec<Row>,
+}
+
+// One call for all fields, so that the proof of what owns a value stays short.
+impl Drop for ChainRows {
+    fn drop(self) {
+        let ChainRows {
+            columns: _,
+            channels: _,
+            places: _,
+            kept: _,
+        } = self;
+    }
 }
 
 impl Model for ChainRows {

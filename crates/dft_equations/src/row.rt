@@ -8,10 +8,19 @@ use std::alloc::{AllocError, Global};
 use std::marker::Model;
 
 /// A bit for each column, packed into words of 64. A clause sees the list of the bits.
-#[derive(Drop)]
 pub struct Row {
     columns: u32,
     words: Vec<u64>,
+}
+
+// One call for all fields, so that the proof of what owns a value stays short.
+impl Drop for Row {
+    fn drop(self) {
+        let Row {
+            columns: _,
+            words: _,
+        } = self;
+    }
 }
 
 impl Model for Row {

@@ -9,10 +9,19 @@ use std::marker::Model;
 /// The load equations of the cells of chains, a row of packed words for each cell. The variable of a channel at a cycle has the
 /// column `cycle * channels + channel`. A clause sees the number of columns, and for each chain the rows of its cells, each as
 /// its bits (Rajski and others, 2004).
-#[derive(Drop)]
 pub struct Equations {
     columns: u32,
     chains: Vec<ChainRows>,
+}
+
+// One call for all fields, so that the proof of what owns a value stays short.
+impl Drop for Equations {
+    fn drop(self) {
+        let Equations {
+            columns: _,
+            chains: _,
+        } = self;
+    }
 }
 
 impl Model for Equations {

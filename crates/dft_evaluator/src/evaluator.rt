@@ -19,10 +19,19 @@ use std::marker::Model;
 
 /// The values of a design's nets in 512 patterns at once, settled from those of its sources: the bits of input ports, the
 /// outputs of flip-flops, lock-ups and opaque cells, and nets that nothing drives. A clause sees them by pattern and net.
-#[derive(Drop)]
 pub struct Evaluator {
     circuit: Circuit,
     values: Vec<Wide>,
+}
+
+// One call for all fields, so that the proof of what owns a value stays short.
+impl Drop for Evaluator {
+    fn drop(self) {
+        let Evaluator {
+            circuit: _,
+            values: _,
+        } = self;
+    }
 }
 
 impl Model for Evaluator {

@@ -12,7 +12,6 @@ use std::alloc::{AllocError, Global};
 use std::marker::Model;
 
 /// Files in memory that tell what they hold, with calls that fail on demand.
-#[derive(Drop)]
 pub struct MemoryFiles {
     entries: Vec<(String, Vec<u8>)>,
     failing: Vec<Failing>,
@@ -21,6 +20,21 @@ pub struct MemoryFiles {
     read_faults: u64,
     write_faults: u64,
     taken: u64,
+}
+
+// One call for all fields, so that the proof of what owns a value stays short.
+impl Drop for MemoryFiles {
+    fn drop(self) {
+        let MemoryFiles {
+            entries: _,
+            failing: _,
+            calls: _,
+            failed: _,
+            read_faults: _,
+            write_faults: _,
+            taken: _,
+        } = self;
+    }
 }
 
 impl Model for MemoryFiles {

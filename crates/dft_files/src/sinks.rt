@@ -8,12 +8,23 @@ use std::alloc::Global;
 use std::marker::Model;
 
 /// A sink in memory that tells its bytes, with calls that fail on demand.
-#[derive(Drop)]
 pub struct MemorySink {
     bytes: Vec<u8>,
     failing: Vec<Failing>,
     calls: u64,
     faults: u64,
+}
+
+// One call for all fields, so that the proof of what owns a value stays short.
+impl Drop for MemorySink {
+    fn drop(self) {
+        let MemorySink {
+            bytes: _,
+            failing: _,
+            calls: _,
+            faults: _,
+        } = self;
+    }
 }
 
 impl Model for MemorySink {
@@ -75,9 +86,15 @@ impl Sink for MemorySink {
 }
 
 /// A sink in memory that never fails.
-#[derive(Drop)]
 pub struct NeverFails {
     bytes: Vec<u8>,
+}
+
+// One call for all fields, so that the proof of what owns a value stays short.
+impl Drop for NeverFails {
+    fn drop(self) {
+        let NeverFails { bytes: _ } = self;
+    }
 }
 
 impl Model for NeverFails {

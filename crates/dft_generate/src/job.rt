@@ -12,7 +12,7 @@ use crate::words::drawn;
 use std::alloc::{AllocError, Global};
 
 /// The texts of a generated job.
-#[derive(Debug, Drop)]
+#[derive(Debug)]
 pub struct Job {
     /// Flip-flops in two domains, each behind a gate of two flip-flops' outputs.
     pub netlist: Vec<u8>,
@@ -20,6 +20,17 @@ pub struct Job {
     pub configuration: Vec<u8>,
     /// A cube for each four flip-flops, of four care bits at most.
     pub cubes: Vec<u8>,
+}
+
+// One call for all fields, so that the proof of what owns a value stays short.
+impl Drop for Job {
+    fn drop(self) {
+        let Job {
+            netlist: _,
+            configuration: _,
+            cubes: _,
+        } = self;
+    }
 }
 
 /// Whether a job may have so many cells: 16 to 20,000.

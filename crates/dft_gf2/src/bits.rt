@@ -9,10 +9,16 @@ use std::alloc::{AllocError, Global};
 use std::marker::Model;
 
 /// A fixed number of bits, one a place, packed into words. A clause sees them as their list.
-#[derive(Drop)]
 pub struct Bits {
     count: u32,
     words: Vec<u64>,
+}
+
+// One call for all fields, so that the proof of what owns a value stays short.
+impl Drop for Bits {
+    fn drop(self) {
+        let Bits { count: _, words: _ } = self;
+    }
 }
 
 impl Model for Bits {
@@ -111,7 +117,8 @@ impl Bits {
         ensures packed { IsPacked (length self) result.items }
         ensures bits { bits_of (length self) result.items ≡ self }
     {
-        self.words
+        let Bits { count: _, words } = self;
+        words
     }
 }
 

@@ -9,10 +9,19 @@ use std::alloc::{AllocError, Global};
 use std::marker::Model;
 
 /// As many rows as columns. Each is stored with names up to its own place, since it sums no later one. A clause sees the list of rows.
-#[derive(Drop)]
 pub struct Rows {
     columns: u32,
     rows: Vec<Row>,
+}
+
+// One call for all fields, so that the proof of what owns a value stays short.
+impl Drop for Rows {
+    fn drop(self) {
+        let Rows {
+            columns: _,
+            rows: _,
+        } = self;
+    }
 }
 
 impl Model for Rows {

@@ -12,9 +12,16 @@ use std::alloc::{AllocError, Global};
 use std::marker::Model;
 
 /// The modules of a module's instances of modules, by their numbers, in the order of the text. A clause sees them as a list.
-#[derive(Debug, Drop)]
+#[derive(Debug)]
 pub struct Children {
     modules: Vec<usize>,
+}
+
+// One call for all fields, so that the proof of what owns a value stays short.
+impl Drop for Children {
+    fn drop(self) {
+        let Children { modules: _ } = self;
+    }
 }
 
 impl Model for Children {

@@ -26,12 +26,24 @@ struct Visit {
 }
 
 // How far each module is, those on the way, those that are finished, and whether one was finished before a module below it.
-#[derive(Debug, Drop)]
+#[derive(Debug)]
 struct Descent {
     states: Vec<State>,
     way: Vec<Visit>,
     order: Vec<usize>,
     circle: bool,
+}
+
+// One call for all fields, so that the proof of what owns a value stays short.
+impl Drop for Descent {
+    fn drop(self) {
+        let Descent {
+            states: _,
+            way: _,
+            order: _,
+            circle: _,
+        } = self;
+    }
 }
 
 impl Model for Descent {
@@ -183,10 +195,13 @@ impl Descent {
         ensures order { result.order.items ≡ self.order }
         ensures circle { result.circle ≡ self.circle }
     {
-        Descended {
-            order: self.order,
-            circle: self.circle,
-        }
+        let Descent {
+            states: _,
+            way: _,
+            order,
+            circle,
+        } = self;
+        Descended { order, circle }
     }
 }
 

@@ -32,10 +32,17 @@ struct Visit {
 }
 
 // The way down to the items that come next, and the prefix of the last module on it.
-#[derive(Debug, Drop)]
+#[derive(Debug)]
 struct ItemWalk {
     way: Vec<Visit>,
     prefix: Vec<u8>,
+}
+
+// One call for all fields, so that the proof of what owns a value stays short.
+impl Drop for ItemWalk {
+    fn drop(self) {
+        let ItemWalk { way: _, prefix: _ } = self;
+    }
 }
 
 impl Model for ItemWalk {

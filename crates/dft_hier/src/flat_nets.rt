@@ -72,10 +72,17 @@ fn add_names(
 }
 
 // The way down to the nets that come next, and the prefix of the last module on it.
-#[derive(Debug, Drop)]
+#[derive(Debug)]
 struct NetWalk {
     way: Vec<Visit>,
     prefix: Vec<u8>,
+}
+
+// One call for all fields, so that the proof of what owns a value stays short.
+impl Drop for NetWalk {
+    fn drop(self) {
+        let NetWalk { way: _, prefix: _ } = self;
+    }
 }
 
 impl Model for NetWalk {

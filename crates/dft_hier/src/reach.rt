@@ -10,10 +10,17 @@ use std::alloc::{AllocError, Global};
 use std::marker::Model;
 
 // The modules that were met on a search, each once, in the order in which they were met.
-#[derive(Debug, Drop)]
+#[derive(Debug)]
 struct Search {
     met: Vec<bool>,
     ahead: Vec<usize>,
+}
+
+// One call for all fields, so that the proof of what owns a value stays short.
+impl Drop for Search {
+    fn drop(self) {
+        let Search { met: _, ahead: _ } = self;
+    }
 }
 
 impl Model for Search {

@@ -37,10 +37,20 @@ pub enum LiveItem {
 }
 
 /// The items of a module that give something, in order; and of these the module instances with nets in them.
-#[derive(Debug, Drop)]
+#[derive(Debug)]
 pub struct LiveItems {
     items: Vec<LiveItem>,
     with_nets: Vec<LiveSub>,
+}
+
+// One call for all fields, so that the proof of what owns a value stays short.
+impl Drop for LiveItems {
+    fn drop(self) {
+        let LiveItems {
+            items: _,
+            with_nets: _,
+        } = self;
+    }
 }
 
 impl Model for LiveItems {

@@ -19,9 +19,15 @@ pub enum Operand {
 }
 
 /// Operands in order. A clause sees them as a list.
-#[derive(Drop)]
 pub struct Operands {
     operands: Vec<Operand>,
+}
+
+// One call for all fields, so that the proof of what owns a value stays short.
+impl Drop for Operands {
+    fn drop(self) {
+        let Operands { operands: _ } = self;
+    }
 }
 
 impl Model for Operands {
@@ -61,9 +67,15 @@ impl Operands {
 }
 
 // Numbers of nets or of instances. A clause sees them as a list.
-#[derive(Drop)]
 pub(crate) struct Numbers {
     numbers: Vec<u32>,
+}
+
+// One call for all fields, so that the proof of what owns a value stays short.
+impl Drop for Numbers {
+    fn drop(self) {
+        let Numbers { numbers: _ } = self;
+    }
 }
 
 impl Model for Numbers {

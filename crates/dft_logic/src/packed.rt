@@ -8,11 +8,20 @@ use std::alloc::{AllocError, Global};
 use std::marker::Model;
 
 /// A list of numbers for each place, packed one behind the other. A clause sees the list of these lists.
-#[derive(Drop)]
 pub struct Table {
     // Where the list of each place ends.
     ends: Vec<u32>,
     numbers: Vec<u32>,
+}
+
+// One call for all fields, so that the proof of what owns a value stays short.
+impl Drop for Table {
+    fn drop(self) {
+        let Table {
+            ends: _,
+            numbers: _,
+        } = self;
+    }
 }
 
 impl Model for Table {

@@ -18,12 +18,23 @@ use std::marker::Model;
 
 /// The patterns of a merger to which no cube comes any more: no equations are kept for them. A clause sees what it sees of
 /// a merger.
-#[derive(Drop)]
 pub struct Closed<'a> {
     pub(crate) alloc: Global,
     pub(crate) loads: &'a Loads<'a>,
     pub(crate) window: usize,
     pub(crate) patterns: Vec<Merged>,
+}
+
+// One call for all fields, so that the proof of what owns a value stays short.
+impl Drop for Closed<'_> {
+    fn drop(self) {
+        let Closed {
+            alloc: _,
+            loads: _,
+            window: _,
+            patterns: _,
+        } = self;
+    }
 }
 
 impl<'a> Model for Closed<'a> {

@@ -26,10 +26,19 @@ use std::marker::Model;
 
 /// A planned design, and the load equations of its chains. A clause sees the design, the configuration, the plan and the
 /// equations.
-#[derive(Drop)]
 pub struct Loads<'a> {
     planned: Planned<'a>,
     equations: Equations,
+}
+
+// One call for all fields, so that the proof of what owns a value stays short.
+impl Drop for Loads<'_> {
+    fn drop(self) {
+        let Loads {
+            planned: _,
+            equations: _,
+        } = self;
+    }
 }
 
 impl<'a> Model for Loads<'a> {

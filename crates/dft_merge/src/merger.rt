@@ -22,7 +22,6 @@ use std::marker::Model;
 
 /// Puts cubes together into patterns. A clause sees the planned design with its load equations, the
 /// window and the patterns.
-#[derive(Drop)]
 pub struct Merger<'a> {
     alloc: Global,
     loads: &'a Loads<'a>,
@@ -33,6 +32,21 @@ pub struct Merger<'a> {
     // The system of a cube alone, and its mark before any equation.
     alone: System,
     start: Mark,
+}
+
+// One call for all fields, so that the proof of what owns a value stays short.
+impl Drop for Merger<'_> {
+    fn drop(self) {
+        let Merger {
+            alloc: _,
+            loads: _,
+            window: _,
+            patterns: _,
+            slots: _,
+            alone: _,
+            start: _,
+        } = self;
+    }
 }
 
 impl<'a> Model for Merger<'a> {
@@ -146,11 +160,20 @@ impl<'a> Merger<'a> {
     pub fn close(self) -> Closed<'a>
         ensures { result ≡ self.entry }
     {
+        let Merger {
+            alloc,
+            loads,
+            window,
+            patterns,
+            slots: _,
+            alone: _,
+            start: _,
+        } = self;
         Closed {
-            alloc: self.alloc,
-            loads: self.loads,
-            window: self.window,
-            patterns: self.patterns,
+            alloc,
+            loads,
+            window,
+            patterns,
         }
     }
 

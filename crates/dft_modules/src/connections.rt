@@ -17,9 +17,16 @@ pub struct Connection {
 }
 
 /// The connections of a module instance in the order of the text. A clause sees them as a list.
-#[derive(Debug, Drop)]
+#[derive(Debug)]
 pub struct Connections {
     connections: Vec<Connection>,
+}
+
+// One call for all fields, so that the proof of what owns a value stays short.
+impl Drop for Connections {
+    fn drop(self) {
+        let Connections { connections: _ } = self;
+    }
 }
 
 impl Model for Connections {

@@ -9,11 +9,22 @@ use std::alloc::{AllocError, Global};
 use std::marker::Model;
 
 /// An instance of a module, by the module's name.
-#[derive(Debug, Drop)]
+#[derive(Debug)]
 pub struct SubInstance {
     pub name: Name,
     pub of: Name,
     pub connections: Connections,
+}
+
+// One call for all fields, so that the proof of what owns a value stays short.
+impl Drop for SubInstance {
+    fn drop(self) {
+        let SubInstance {
+            name: _,
+            of: _,
+            connections: _,
+        } = self;
+    }
 }
 
 /// A part of a module. The nets are those of the module, by their numbers in it.

@@ -8,10 +8,17 @@ use std::alloc::{AllocError, Global};
 use std::marker::Model;
 
 // What drives each net first, and the least net that is driven again.
-#[derive(Debug, Drop)]
+#[derive(Debug)]
 pub(crate) struct DriverNotes {
     found: Vec<NetDriver>,
     clash: Option<NetId>,
+}
+
+// One call for all fields, so that the proof of what owns a value stays short.
+impl Drop for DriverNotes {
+    fn drop(self) {
+        let DriverNotes { found: _, clash: _ } = self;
+    }
 }
 
 impl Model for DriverNotes {
@@ -56,7 +63,8 @@ impl DriverNotes {
     pub(crate) fn into_found(self) -> Vec<NetDriver>
         ensures { result.items ≡ self.found }
     {
-        self.found
+        let DriverNotes { found, clash: _ } = self;
+        found
     }
 }
 

@@ -11,11 +11,18 @@ use std::marker::Model;
 
 // What each printed name stands for, and the names of nets by their numbers. Each name is kept once. A clause sees the
 // names in order of adding.
-#[derive(Debug, Drop)]
+#[derive(Debug)]
 pub(crate) struct NameTable {
     names: NameStore,
     // The place of each net's name.
     nets: Vec<u32>,
+}
+
+// One call for all fields, so that the proof of what owns a value stays short.
+impl Drop for NameTable {
+    fn drop(self) {
+        let NameTable { names: _, nets: _ } = self;
+    }
 }
 
 impl Model for NameTable {

@@ -6,9 +6,16 @@ use std::alloc::{AllocError, Global};
 use std::marker::Model;
 
 /// What the pins of an instance are joined to, in the order of its cell's pins. A clause sees it as a list.
-#[derive(Debug, Drop)]
+#[derive(Debug)]
 pub struct PinSignals {
     signals: SmallVec<Signal, 6>,
+}
+
+// One call for all fields, so that the proof of what owns a value stays short.
+impl Drop for PinSignals {
+    fn drop(self) {
+        let PinSignals { signals: _ } = self;
+    }
 }
 
 impl Model for PinSignals {

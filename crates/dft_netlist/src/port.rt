@@ -7,9 +7,16 @@ use std::alloc::{AllocError, Global};
 use std::marker::Model;
 
 /// Nets in order. A clause sees them as a list.
-#[derive(Debug, Drop)]
+#[derive(Debug)]
 pub struct NetIds {
     nets: Vec<NetId>,
+}
+
+// One call for all fields, so that the proof of what owns a value stays short.
+impl Drop for NetIds {
+    fn drop(self) {
+        let NetIds { nets: _ } = self;
+    }
 }
 
 impl Model for NetIds {

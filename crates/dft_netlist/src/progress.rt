@@ -15,11 +15,22 @@ pub(crate) enum State {
 }
 
 // An order that is being made, and the walk back that is under way; the last net of the walk stands last.
-#[derive(Debug, Drop)]
+#[derive(Debug)]
 pub(crate) struct Progress {
     states: Vec<State>,
     order: Vec<NetId>,
     walk: Vec<NetId>,
+}
+
+// One call for all fields, so that the proof of what owns a value stays short.
+impl Drop for Progress {
+    fn drop(self) {
+        let Progress {
+            states: _,
+            order: _,
+            walk: _,
+        } = self;
+    }
 }
 
 impl Model for Progress {
@@ -100,6 +111,11 @@ impl Progress {
     pub(crate) fn into_order(self) -> Vec<NetId>
         ensures { result.items ≡ self.order }
     {
-        self.order
+        let Progress {
+            states: _,
+            order,
+            walk: _,
+        } = self;
+        order
     }
 }

@@ -14,11 +14,22 @@ use std::marker::Model;
 
 /// A builder of a netlist that grows by made parts. It gives each made net and each made instance the next made name. A clause
 /// sees the netlist so far, and how many made names were given. After a refusal it holds what was made before.
-#[derive(Debug, Drop)]
+#[derive(Debug)]
 pub struct PartsBuilder {
     alloc: Global,
     builder: DesignBuilder,
     made: Made,
+}
+
+// One call for all fields, so that the proof of what owns a value stays short.
+impl Drop for PartsBuilder {
+    fn drop(self) {
+        let PartsBuilder {
+            alloc: _,
+            builder: _,
+            made: _,
+        } = self;
+    }
 }
 
 impl Model for PartsBuilder {
@@ -70,7 +81,12 @@ impl PartsBuilder {
     pub fn into_builder(self) -> DesignBuilder
         ensures { result ≡ self.netlist }
     {
-        self.builder
+        let PartsBuilder {
+            alloc: _,
+            builder,
+            made: _,
+        } = self;
+        builder
     }
 
     /// Makes a net.

@@ -24,9 +24,16 @@ pub enum Act {
 }
 
 /// The acts of a vector, one for each signal in order. A clause sees them as a list.
-#[derive(Debug, Drop)]
+#[derive(Debug)]
 pub struct Acts {
     acts: Vec<Act>,
+}
+
+// One call for all fields, so that the proof of what owns a value stays short.
+impl Drop for Acts {
+    fn drop(self) {
+        let Acts { acts: _ } = self;
+    }
 }
 
 impl Model for Acts {

@@ -7,11 +7,22 @@ use std::alloc::Global;
 use std::marker::Model;
 
 /// The signals and the vectors of a pattern text, in its order, and notes before vectors.
-#[derive(Debug, Drop)]
+#[derive(Debug)]
 pub struct PatternSet {
     signals: Vec<StilSignal>,
     vectors: Vec<Acts>,
     notes: Vec<Note>,
+}
+
+// One call for all fields, so that the proof of what owns a value stays short.
+impl Drop for PatternSet {
+    fn drop(self) {
+        let PatternSet {
+            signals: _,
+            vectors: _,
+            notes: _,
+        } = self;
+    }
 }
 
 impl Model for PatternSet {

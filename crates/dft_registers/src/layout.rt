@@ -20,10 +20,19 @@ pub struct Place {
 
 /// Where cells lie: those that follow each other in registers, and all others by themselves. The first register has no
 /// cell: it is for those that rest.
-#[derive(Drop)]
 pub struct Layout {
     places: Vec<Place>,
     registers: Vec<Register>,
+}
+
+// One call for all fields, so that the proof of what owns a value stays short.
+impl Drop for Layout {
+    fn drop(self) {
+        let Layout {
+            places: _,
+            registers: _,
+        } = self;
+    }
 }
 
 impl Model for Layout {

@@ -9,9 +9,15 @@ use std::collections::VecDeque;
 use std::marker::Model;
 
 // The cells of a register, one behind the other. A clause sees them as a list.
-#[derive(Drop)]
 pub(crate) struct Register {
     cells: Vec<usize>,
+}
+
+// One call for all fields, so that the proof of what owns a value stays short.
+impl Drop for Register {
+    fn drop(self) {
+        let Register { cells: _ } = self;
+    }
 }
 
 impl Model for Register {

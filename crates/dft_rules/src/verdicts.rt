@@ -5,9 +5,16 @@ use dft_netlist::InstanceId;
 use std::marker::Model;
 
 /// How each instance of a design is judged. A clause sees the judgements as a list, by the numbers of the instances.
-#[derive(Debug, Drop)]
+#[derive(Debug)]
 pub struct Verdicts {
     pub(crate) verdicts: Vec<Option<Judged>>,
+}
+
+// One call for all fields, so that the proof of what owns a value stays short.
+impl Drop for Verdicts {
+    fn drop(self) {
+        let Verdicts { verdicts: _ } = self;
+    }
 }
 
 impl Model for Verdicts {

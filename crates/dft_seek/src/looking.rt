@@ -32,10 +32,19 @@ pub(crate) enum Verdict {
 }
 
 // The values of nets, and which of them are marked because they may lack theirs: none between nodes.
-#[derive(Drop)]
 pub(crate) struct Table {
     pub values: Vec<Tri>,
     pub marks: Marks,
+}
+
+// One call for all fields, so that the proof of what owns a value stays short.
+impl Drop for Table {
+    fn drop(self) {
+        let Table {
+            values: _,
+            marks: _,
+        } = self;
+    }
 }
 
 // The values of a node: those of cells and of ports, those of cells after the clock has risen, and those of nets in the design

@@ -11,9 +11,15 @@ use std::alloc::{AllocError, Global};
 use std::marker::Model;
 
 // Numbers of nets. A clause sees them as a list.
-#[derive(Drop)]
 pub(crate) struct Numbers {
     numbers: Vec<u32>,
+}
+
+// One call for all fields, so that the proof of what owns a value stays short.
+impl Drop for Numbers {
+    fn drop(self) {
+        let Numbers { numbers: _ } = self;
+    }
 }
 
 impl Model for Numbers {

@@ -6,10 +6,20 @@ use std::alloc::{AllocError, Global};
 use std::marker::Model;
 
 /// The signals that a group's name stands for, by number: each once, and whether one was mentioned twice.
-#[derive(Debug, Drop)]
+#[derive(Debug)]
 pub struct Members {
     signals: Vec<usize>,
     repeated: bool,
+}
+
+// One call for all fields, so that the proof of what owns a value stays short.
+impl Drop for Members {
+    fn drop(self) {
+        let Members {
+            signals: _,
+            repeated: _,
+        } = self;
+    }
 }
 
 impl Model for Members {

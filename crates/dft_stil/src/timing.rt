@@ -57,10 +57,17 @@ fn all_tables(
 }
 
 /// The block of tables: its name, if it has one, and the tables.
-#[derive(Debug, Drop)]
+#[derive(Debug)]
 pub struct Timing<'a> {
     pub name: Option<&'a [u8]>,
     pub tables: WaveformTables,
+}
+
+// One call for all fields, so that the proof of what owns a value stays short.
+impl Drop for Timing<'_> {
+    fn drop(self) {
+        let Timing { name: _, tables: _ } = self;
+    }
 }
 
 #[tactic(auto, unfolding(dft_stil_text::specs::WaveformTables::timing))]

@@ -8,10 +8,20 @@ use std::alloc::{AllocError, Global};
 use std::marker::Model;
 
 /// The tables of a pattern text, found by name (IEEE 1450-1999 `WaveformTable`).
-#[derive(Debug, Drop)]
+#[derive(Debug)]
 pub struct WaveformTables {
     names: KnownNames,
     waveforms: Vec<Waveforms>,
+}
+
+// One call for all fields, so that the proof of what owns a value stays short.
+impl Drop for WaveformTables {
+    fn drop(self) {
+        let WaveformTables {
+            names: _,
+            waveforms: _,
+        } = self;
+    }
 }
 
 impl Model for WaveformTables {

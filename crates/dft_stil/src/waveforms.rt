@@ -11,9 +11,16 @@ use std::marker::Model;
 const CHARACTERS: usize = 256;
 
 /// What each character means for each signal of a table.
-#[derive(Debug, Drop)]
+#[derive(Debug)]
 pub struct Waveforms {
     acts: Vec<Option<Act>>,
+}
+
+// One call for all fields, so that the proof of what owns a value stays short.
+impl Drop for Waveforms {
+    fn drop(self) {
+        let Waveforms { acts: _ } = self;
+    }
 }
 
 impl Model for Waveforms {

@@ -5,9 +5,16 @@ use std::alloc::{AllocError, Global};
 use std::marker::Model;
 
 /// The cells of a chain, from the one nearest the scan input on. A clause sees them as a list.
-#[derive(Debug, Drop)]
+#[derive(Debug)]
 pub struct Cells {
     cells: Vec<InstanceId>,
+}
+
+// One call for all fields, so that the proof of what owns a value stays short.
+impl Drop for Cells {
+    fn drop(self) {
+        let Cells { cells: _ } = self;
+    }
 }
 
 impl Model for Cells {

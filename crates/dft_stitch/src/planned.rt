@@ -54,12 +54,24 @@ impl From<StitchError> for PrepareError {
 
 /// A design that the scan rules pass, with its configuration, its verdicts and the chains that are planned for it. A
 /// clause sees the design and the configuration: the verdicts and the chains are theirs.
-#[derive(Debug, Drop)]
+#[derive(Debug)]
 pub struct Planned<'a> {
     design: &'a Design,
     config: &'a Config,
     verdicts: Verdicts,
     chains: Chains,
+}
+
+// One call for all fields, so that the proof of what owns a value stays short.
+impl Drop for Planned<'_> {
+    fn drop(self) {
+        let Planned {
+            design: _,
+            config: _,
+            verdicts: _,
+            chains: _,
+        } = self;
+    }
 }
 
 impl<'a> Model for Planned<'a> {

@@ -35,9 +35,16 @@ pub fn name_of(alloc: Global, bytes: &[u8]) -> Result<Option<Name>, AllocError>
 }
 
 /// Names in order. A clause sees them as a list.
-#[derive(Debug, Drop)]
+#[derive(Debug)]
 pub struct Names {
     names: Vec<Name>,
+}
+
+// One call for all fields, so that the proof of what owns a value stays short.
+impl Drop for Names {
+    fn drop(self) {
+        let Names { names: _ } = self;
+    }
 }
 
 impl Model for Names {

@@ -29,7 +29,6 @@ pub(crate) struct OwnInput {
 }
 
 // What is looked up once of the design's ports.
-#[derive(Drop)]
 pub(crate) struct OwnPorts {
     // The nets of the clocks, in the order of the configuration.
     pub(crate) clocks: Vec<Option<NetId>>,
@@ -41,6 +40,19 @@ pub(crate) struct OwnPorts {
     pub(crate) outputs: usize,
     // How many nets the design has.
     pub(crate) nets: usize,
+}
+
+// One call for all fields, so that the proof of what owns a value stays short.
+impl Drop for OwnPorts {
+    fn drop(self) {
+        let OwnPorts {
+            clocks: _,
+            inputs: _,
+            pulsing: _,
+            outputs: _,
+            nets: _,
+        } = self;
+    }
 }
 
 // What the ports of a design are for.

@@ -7,11 +7,22 @@ use std::alloc::{AllocError, Global};
 use std::marker::Model;
 
 /// An instance of a module, as it was read. A clause sees it as the instance that it is to be.
-#[derive(Debug, Drop)]
+#[derive(Debug)]
 pub struct DraftInstance<'a> {
     name: Option<Word<'a>>,
     cell: CellRef,
     pins: PinSignals,
+}
+
+// One call for all fields, so that the proof of what owns a value stays short.
+impl Drop for DraftInstance<'_> {
+    fn drop(self) {
+        let DraftInstance {
+            name: _,
+            cell: _,
+            pins: _,
+        } = self;
+    }
 }
 
 impl<'a> Model for DraftInstance<'a> {

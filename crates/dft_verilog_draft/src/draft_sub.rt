@@ -6,13 +6,26 @@ use std::marker::Model;
 
 /// An instance of a module, as it was read. A clause sees its name, its module's, how many joins and how many cells and gates
 /// stand before it, and its connections.
-#[derive(Debug, Drop)]
+#[derive(Debug)]
 pub struct DraftSub<'a> {
     name: Word<'a>,
     of: Word<'a>,
     joins: usize,
     cells: usize,
     connections: Vec<SubConnection<'a>>,
+}
+
+// One call for all fields, so that the proof of what owns a value stays short.
+impl Drop for DraftSub<'_> {
+    fn drop(self) {
+        let DraftSub {
+            name: _,
+            of: _,
+            joins: _,
+            cells: _,
+            connections: _,
+        } = self;
+    }
 }
 
 impl<'a> Model for DraftSub<'a> {

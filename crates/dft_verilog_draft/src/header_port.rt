@@ -5,10 +5,20 @@ use dft_netlist_text::Declared;
 use std::marker::Model;
 
 /// A port of a module's header: its name, and how it was declared, once it was.
-#[derive(Debug, Drop)]
+#[derive(Debug)]
 pub struct HeaderPort {
     name: Name,
     declared: Option<Declared>,
+}
+
+// One call for all fields, so that the proof of what owns a value stays short.
+impl Drop for HeaderPort {
+    fn drop(self) {
+        let HeaderPort {
+            name: _,
+            declared: _,
+        } = self;
+    }
 }
 
 impl Model for HeaderPort {

@@ -6,11 +6,22 @@ use std::marker::Model;
 
 /// A connection of a module instance, as it was read: how many bytes there are from its port's name to the end of the text,
 /// that name, and the bits that the port is joined to.
-#[derive(Debug, Drop)]
+#[derive(Debug)]
 pub struct SubConnection<'a> {
     left: usize,
     port: Word<'a>,
     signals: PinSignals,
+}
+
+// One call for all fields, so that the proof of what owns a value stays short.
+impl Drop for SubConnection<'_> {
+    fn drop(self) {
+        let SubConnection {
+            left: _,
+            port: _,
+            signals: _,
+        } = self;
+    }
 }
 
 impl<'a> Model for SubConnection<'a> {

@@ -13,10 +13,20 @@ use std::marker::Model;
 
 /// The connections of a module instance in the order of the text, whose ports are found by their names. A clause sees them
 /// as a list.
-#[derive(Debug, Drop)]
+#[derive(Debug)]
 pub struct SubConnections<'a> {
     ports: NameSet<'a>,
     connections: Vec<SubConnection<'a>>,
+}
+
+// One call for all fields, so that the proof of what owns a value stays short.
+impl Drop for SubConnections<'_> {
+    fn drop(self) {
+        let SubConnections {
+            ports: _,
+            connections: _,
+        } = self;
+    }
 }
 
 impl<'a> Model for SubConnections<'a> {
@@ -74,6 +84,10 @@ impl<'a> SubConnections<'a> {
     pub fn into_list(self) -> Vec<SubConnection<'a>>
         ensures { result.items ≡ self.entry }
     {
-        self.connections
+        let SubConnections {
+            ports: _,
+            connections,
+        } = self;
+        connections
     }
 }

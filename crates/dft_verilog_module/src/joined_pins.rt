@@ -6,9 +6,16 @@ use std::alloc::{AllocError, Global};
 use std::marker::Model;
 
 /// What the pins of a cell are joined to so far, in its order. A clause sees it as a list.
-#[derive(Debug, Drop)]
+#[derive(Debug)]
 pub struct JoinedPins {
     pins: SmallVec<Option<Signal>, 6>,
+}
+
+// One call for all fields, so that the proof of what owns a value stays short.
+impl Drop for JoinedPins {
+    fn drop(self) {
+        let JoinedPins { pins: _ } = self;
+    }
 }
 
 impl Model for JoinedPins {

@@ -12,9 +12,16 @@ use std::alloc::{AllocError, Global};
 use std::marker::Model;
 
 // A net as it is written. A clause sees it as its bytes.
-#[derive(Debug, Drop)]
+#[derive(Debug)]
 pub(crate) struct NetText {
     bytes: Vec<u8>,
+}
+
+// One call for all fields, so that the proof of what owns a value stays short.
+impl Drop for NetText {
+    fn drop(self) {
+        let NetText { bytes: _ } = self;
+    }
 }
 
 impl Model for NetText {
