@@ -11,16 +11,9 @@ use std::marker::Model;
 
 /// Lines for a person. All their bytes are printed ones and blanks (32 to 126), whatever was put into them. A clause sees
 /// their bytes.
-#[derive(Debug)]
+#[derive(Debug, Drop)]
 pub struct Page {
     bytes: Vec<u8>,
-}
-
-// One call for all fields, so that the proof of what owns a value stays short.
-impl Drop for Page {
-    fn drop(self) {
-        let Page { bytes: _ } = self;
-    }
 }
 
 impl Model for Page {
