@@ -9,6 +9,7 @@ use Rattle.std.proofs.lemmas.Fmt.{digits_decimal}
 use Rattle.std.proofs.lemmas.List.Elements.{All-append, All-cons, All-from_get_or, All-nil}
 use Rattle.std.proofs.lemmas.Option.{none-some, same_Some}
 use Rattle.std.proofs.lemmas.Str.Parse.{numerals_by_value, tells_by_index}
+use Rattle.dft_base.proofs.BitLemmas.{true_false}
 use Rattle.dft_merge.proofs.EquationLemmas.{Each, each_join}
 use Rattle.dft_base.specs.Lexing.{Text}
 use Rattle.dft_base.specs.Name.{IsName}
@@ -98,11 +99,7 @@ found_none [] h = tt
 found_none (port ∷ ports) h = let r = found_by (has_quote port.name) port (find (λ p. has_quote p.name) ports) h in (r.0, found_none ports r.1)
 
 not_this : (b : ℕ) → (b == 34) ≡ false → Plain b
-not_this b e same = clash (b == 34) (eq-eqb b 34 same) e
-  where
-    clash : (t : Bool) → t ≡ true → t ≡ false → ⊥
-    clash true e f = cc
-    clash false e f = cc
+not_this b e same = true_false (b == 34) (eq-eqb b 34 same) e
 
 none_plain : (name : Text) → has_quote name ≡ false → All Plain name
 none_plain [] h = All-nil Plain

@@ -2,7 +2,7 @@
 use Rattle.std.proofs.Common.{ℕ, zero, suc, ◌<◌, ◌≤◌, ◌≡◌, ◌==◌, ◌||◌, Bool, true, false, List, [], ◌∷◌, ◌++◌, length, map, Option, None, Some, slice_get, refl, sym, ap, subst, arith, ◌∙◌, true≢false}
 use Rattle.std.specs.Prelude.{if◌then◌else◌, slice_index_or}
 use Rattle.std.specs.List.{All}
-use Rattle.std.proofs.lemmas.Bool.{eqb-true, eq-eqb, false_from_ne_true}
+use Rattle.std.proofs.lemmas.Bool.{eqb-true, eq-eqb, false_from_ne_true, or_parts}
 use Rattle.std.proofs.lemmas.Option.{slice_get-get_or}
 use Rattle.dft_base.specs.Lexing.{Text}
 use Rattle.dft_base.specs.declared.dir.Dir.{Dir}
@@ -168,13 +168,8 @@ other_rests : (ins : List NetId) (outs : List ℕ) (acts : List Act) (net : ℕ)
 other_rests [] outs acts net fine apart = rest_rests outs acts net fine
 other_rests (k ∷ ins) outs [] net fine apart = absurd fine
 other_rests (k ∷ ins) outs (a ∷ acts) net fine apart =
-    let split = or_none (k.0 == net) (is_in ins net) apart in
+    let split = or_parts (k.0 == net) (is_in ins net) apart in
     ap (λ b. is_pulse (if b then a else act_on (numbers ins ++ outs) acts net)) split.0 ∙ other_rests ins outs acts net fine.1 split.1
-  where
-    or_none : (a b : Bool) → (a || b) ≡ false → (a ≡ false) × (b ≡ false)
-    or_none false false e = (refl, refl)
-    or_none true b e = absurd cc
-    or_none false true e = absurd cc
 
 abbrev pub AllFine : List NetId → List (List Act) → Type 0
 AllFine ins [] = Unit {0}

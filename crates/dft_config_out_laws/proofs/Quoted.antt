@@ -3,6 +3,7 @@ use Rattle.std.proofs.Common.{◌≡◌, ℕ, ◌<◌, ◌≤◌, ◌==◌, Bool
 use Rattle.std.specs.List.{AllByRecursion}
 use Rattle.std.proofs.lemmas.Bool.Decides.{nat_tests}
 use Rattle.std.proofs.lemmas.List.Elements.{recursion_from_All}
+use Rattle.std.proofs.lemmas.Bool.{or_parts}
 use Rattle.dft_base.specs.Lexing.{Text}
 use Rattle.dft_base.specs.Name.{IsName}
 use Rattle.toml_parser.specs.Lexical.{first}
@@ -45,12 +46,8 @@ bytes_escaped (b ∷ bytes) all =
 not_by : (t : Bool) (b : ℕ) (more : List ℕ) → is_escaped b ≡ t → (first (byte_text b ++ more) == 34) ≡ false
 not_by true b more is = ap (λ (t : Bool). first (cond t (92 ∷ b ∷ []) (b ∷ []) ++ more) == 34) is
 not_by false b more is =
-    let other : (b == 34) ≡ false = or_first (b == 34) (b == 92) is in
+    let other : (b == 34) ≡ false = (or_parts (b == 34) (b == 92) is).0 in
     ap (λ (t : Bool). first (cond t (92 ∷ b ∷ []) (b ∷ []) ++ more) == 34) is ∙ other
-  where
-    or_first : (a c : Bool) → (a || c) ≡ false → a ≡ false
-    or_first true c e = e
-    or_first false c e = refl
 
 -- no name is empty, and the byte behind the quote is none
 one_line_is : (b : ℕ) (bytes rest : List ℕ) → quoted (34 ∷ ((byte_text b ++ bytes) ++ rest)) ≡ one_line (34 ∷ ((byte_text b ++ bytes) ++ rest))

@@ -1,7 +1,7 @@
 -- What the test of load equations finds.
 use Rattle.std.proofs.Common.{◌≡◌, ℕ, zero, suc, ◌+◌, ◌<◌, ◌⊎◌, inl, inr, Bool, true, false, not, ◌&&◌, ◌||◌, List, length, refl, sym, ◌∙◌, ap, subst, arith}
 use Rattle.std.specs.List.{list_all, list_any, range_with_len}
-use Rattle.std.proofs.lemmas.Bool.{cases_lt}
+use Rattle.std.proofs.lemmas.Bool.{cases_lt, or_parts}
 use Rattle.dft_base.specs.Solutions.{bit_at, xor}
 use Rattle.dft_base.proofs.BitLemmas.{and_first, and_second, bit_same, not_itself, not_of}
 use Rattle.dft_equations.specs.LoadRows.{AreWide, IsCell, LoadRows, row_of, rows_of}
@@ -41,16 +41,8 @@ some_passes p n k less is = by (list_any p (range_with_len 0 n)) refl
   where
     none_from : (from m j : ℕ) → list_any p (range_with_len from m) ≡ false → j < m → p (from + j) ≡ false
     none_from from zero j none below = absurd (omega arith)
-    none_from from (suc m) zero none below = let here : from + 0 ≡ from = omega arith in ap p here ∙ first (p from) (list_any p (range_with_len (from + 1) m)) none
-      where
-        first : (a b : Bool) → (a || b) ≡ false → a ≡ false
-        first true b e = e
-        first false b e = refl
-    none_from from (suc m) (suc j) none below = let here : from + suc j ≡ from + 1 + j = omega arith in ap p here ∙ none_from (from + 1) m j (later (p from) (list_any p (range_with_len (from + 1) m)) none) (omega arith)
-      where
-        later : (a b : Bool) → (a || b) ≡ false → b ≡ false
-        later true b e = absurd cc
-        later false b e = e
+    none_from from (suc m) zero none below = let here : from + 0 ≡ from = omega arith in ap p here ∙ (or_parts (p from) (list_any p (range_with_len (from + 1) m)) none).0
+    none_from from (suc m) (suc j) none below = let here : from + suc j ≡ from + 1 + j = omega arith in ap p here ∙ none_from (from + 1) m j (or_parts (p from) (list_any p (range_with_len (from + 1) m)) none).1 (omega arith)
 
     by : (b : Bool) → list_any p (range_with_len 0 n) ≡ b → list_any p (range_with_len 0 n) ≡ true
     by true is_b = is_b

@@ -19,10 +19,9 @@ use Rattle.dft_decompressor.specs.StageSets.{threes, threes_after, threes_with}
 use Rattle.dft_configuring.specs.Made.{IsRing}
 use Rattle.dft_configuring.proofs.GroupsRange.{each_on}
 use Rattle.rand_pcg.specs.Lcg.{Lcg}
-use Rattle.std.proofs.lemmas.Bool.{and_right}
+use Rattle.std.proofs.lemmas.Bool.{and_right, or_parts}
 use Rattle.dft_base.proofs.ListLemmas.{all_append}
 use Rattle.dft_base.proofs.NumberLemmas.{more_apart, same_or_past}
-use Rattle.dft_base.proofs.BitLemmas.{both_down}
 
 -- ---- lists
 
@@ -170,7 +169,7 @@ differ_all : (xs : List Injector) → ((k : ℕ) → k < length xs → is_held (
 differ_all [] apart = refl
 differ_all (x ∷ xs) apart =
     let split : (k : ℕ) → k < length xs → ((x.stage == (injector_at xs k).stage) ≡ false) × (is_held (take k xs) (injector_at xs k).stage ≡ false) =
-    λ k less. both_down (x.stage == (injector_at xs k).stage) (is_held (take k xs) (injector_at xs k).stage) (apart (suc k) (omega (arith, less))) in
+    λ k less. or_parts (x.stage == (injector_at xs k).stage) (is_held (take k xs) (injector_at xs k).stage) (apart (suc k) (omega (arith, less))) in
     (λ i. not (none_same x xs (λ k less. (split k less).0) i) && differ_all xs (λ k less. (split k less).1) i)
 
 module _ (stages inputs : ℕ) (injectors : List Injector) (some : 1 ≤ stages) (are : AreInjectors stages inputs injectors) where

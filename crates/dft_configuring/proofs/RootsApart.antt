@@ -3,7 +3,7 @@ use Rattle.std.proofs.Common.{◌≡◌, ℕ, ◌<◌, ◌==◌, Bool, true, fal
 use Rattle.std.specs.Prelude.{nat_lt, if◌then◌else◌}
 use Rattle.std.specs.List.{All, AllByRecursion, list_any, range_with_len}
 use Rattle.std.specs.Str.{bytes_eq}
-use Rattle.std.proofs.lemmas.Bool.{eq-eqb, eqb-true}
+use Rattle.std.proofs.lemmas.Bool.{eq-eqb, eqb-true, or_right, or_left}
 use Rattle.std.proofs.lemmas.List.Elements.{All-from_recursion}
 use Rattle.std.proofs.lemmas.Map.Keys.{any_passes_from_place}
 use Rattle.dft_base.proofs.BitLemmas.{and_first}
@@ -92,13 +92,6 @@ pin_taken : (r : Role) (taken : (other : Role) → same_role r other ≡ true �
 pin_taken r taken i net [] is = let never : false ≡ true = ap is_net is in absurd cc
 pin_taken r taken i net (c ∷ cs) is = by (same_role r c.role) refl is (pin_taken r taken i net cs)
   where
-    or_left : (a b : Bool) → a ≡ true → (a || b) ≡ true
-    or_left a b e = ap (λ (t : Bool). t || b) e
-
-    or_right : (a b : Bool) → b ≡ true → (a || b) ≡ true
-    or_right true b e = refl
-    or_right false b e = e
-
     by : (t : Bool) → same_role r c.role ≡ t → (if t then Some (source_of i c.pin c.to) else pin_of r i cs) ≡ Some (Net net) → (pin_of r i cs ≡ Some (Net net) → list_any (takes net) cs ≡ true) → (takes net c || list_any (takes net) cs) ≡ true
     by true same at later = or_left (takes net c) (list_any (takes net) cs) (λ j. taken c.role same j && joined_net i c.pin net c.to at j)
     by false same at later = or_right (takes net c) (list_any (takes net) cs) (later at)

@@ -343,12 +343,9 @@ pub one_among : (clocks : List NetId) (e : ℕ) → is_one_of clocks e ≡ true 
 one_among [] e h = absurd cc
 one_among (clock ∷ clocks) e h = elim (eqb_tells clock.0 e) [
   | inl q ↦ record { place = 0; before = omega arith; here = q.1 }
-  | inr q ↦ (let rest = one_among clocks e (skip (clock.0 == e) (is_one_of clocks e) q.0 h) in
+  | inr q ↦ (let rest = one_among clocks e (or_later (clock.0 == e) (is_one_of clocks e) q.0 h) in
       record { place = suc rest.place; before = (let less = rest.before in omega arith); here = rest.here })
-] where
-  skip : (t r : Bool) → t ≡ false → (t || r) ≡ true → r ≡ true
-  skip false r p u = u
-  skip true r p u = absurd cc
+]
 
 -- the flagged nets are the clocks
 pub same_ports : (flags : List Bool) (clocks : List NetId) → ((e : ℕ) → flag_at flags e ≡ is_one_of clocks e) → ports_by flags ≡ ports_of clocks

@@ -3,6 +3,8 @@ use Rattle.std.proofs.Common.{ℕ, zero, suc, Bool, true, false, List, [], ◌�
 use Rattle.std.proofs.lemmas.Grind.{common_steps}
 use Rattle.std.proofs.lemmas.Bool.Decides.{leb_tells}
 use Rattle.std.proofs.lemmas.List.{get_or_past}
+use Rattle.std.proofs.lemmas.Bool.{or_parts}
+use Rattle.dft_base.proofs.BitLemmas.{and_first}
 use Rattle.dft_base.specs.declared.tri.Tri.{Tri}
 use Rattle.dft_base.specs.declared.tri.Tri.TheVariants.{Zero, One, Unknown}
 use Rattle.dft_base.specs.Tri.{AboveTri, join}
@@ -46,11 +48,7 @@ raise_moved : (start poss : List Tri) (place : ℕ) (up : Bool) (next t : Tri) (
 raise_moved start poss place up next t changed moved less r is same other false m =
     let kept = write_same poss place t less (same m) in
     let P : List Tri → Type 0 = λ l. Raised start l (changed || moved) in
-    subst P (sym kept) (record { less = r.less; same = λ h. r.same (fst changed moved h); fewer = λ h. r.fewer (left changed moved h m) }) where
-      fst : (a b : Bool) → (a || b) ≡ false → a ≡ false
-      fst false b h = refl
-      fst true b h = absurd cc
-
+    subst P (sym kept) (record { less = r.less; same = λ h. r.same (or_parts changed moved h).0; fewer = λ h. r.fewer (left changed moved h m) }) where
       left : (a b : Bool) → (a || b) ≡ true → b ≡ false → a ≡ true
       left true b h q = refl
       left false b h q = absurd cc
@@ -103,10 +101,7 @@ raised_next true next Unknown h e = tt
 
 -- what takes a value has a clock that pulses
 pub pulses : (l : Logic) (p : Pulse) (c : ℕ) → changes l p c ≡ true → p.pulsed (l.cell c).domain ≡ true
-pulses l p c up = and_left (p.pulsed (l.cell c).domain) (takes p.rising (l.cell c).falling) up where
-  and_left : (a b : Bool) → (a && b) ≡ true → a ≡ true
-  and_left true b h = refl
-  and_left false b h = absurd cc
+pulses l p c up = and_first (p.pulsed (l.cell c).domain) (takes p.rising (l.cell c).falling) up
 
 -- what `raise` does to each flip-flop
 abbrev pub IsRaised : Circuit → Pulse → (next old new : List Tri) → Type 0

@@ -3,6 +3,7 @@ use Rattle.std.proofs.Common.{ℕ, zero, suc, Bool, true, false, ◌&&◌, ◌||
 use Rattle.std.specs.Prelude.{if◌then◌else◌, flat_map, is_some}
 use Rattle.std.specs.List.{list_any}
 use Rattle.std.proofs.lemmas.Option.{none-some, same_Some}
+use Rattle.std.proofs.lemmas.Bool.{or_parts}
 use Rattle.dft_base.specs.declared.tri.Tri.{Tri}
 use Rattle.dft_base.specs.Tri.{AboveTri}
 use Rattle.dft_netlist.specs.declared.ids.InstanceId.{InstanceId}
@@ -191,16 +192,8 @@ one_whole n config pattern r (Some clock) single none is = absurd cc
 has_no_second : (patterns : List Pattern) (p : ℕ) (pattern : Pattern) → list_any (λ one. is_some one.merged.now.domains.second) patterns ≡ false → slice_get patterns p ≡ Some pattern → is_some pattern.merged.now.domains.second ≡ false
 has_no_second [] p pattern none at = absurd (none-some pattern at)
 has_no_second (one ∷ patterns) zero pattern none at =
-    ap (λ (x : Pattern). is_some x.merged.now.domains.second) (sym (same_Some one pattern at)) ∙ first_of (is_some one.merged.now.domains.second) (list_any (λ one. is_some one.merged.now.domains.second) patterns) none
-  where
-    first_of : (a b : Bool) → (a || b) ≡ false → a ≡ false
-    first_of true b h = h
-    first_of false b h = refl
-has_no_second (one ∷ patterns) (suc p) pattern none at = has_no_second patterns p pattern (rest_of (is_some one.merged.now.domains.second) (list_any (λ one. is_some one.merged.now.domains.second) patterns) none) at
-  where
-    rest_of : (a b : Bool) → (a || b) ≡ false → b ≡ false
-    rest_of true b h = absurd cc
-    rest_of false b h = h
+    ap (λ (x : Pattern). is_some x.merged.now.domains.second) (sym (same_Some one pattern at)) ∙ (or_parts (is_some one.merged.now.domains.second) (list_any (λ one. is_some one.merged.now.domains.second) patterns) none).0
+has_no_second (one ∷ patterns) (suc p) pattern none at = has_no_second patterns p pattern (or_parts (is_some one.merged.now.domains.second) (list_any (λ one. is_some one.merged.now.domains.second) patterns) none).1 at
 
 -- where no pattern has a second one, all is captured behind the first
 pub singles_whole : (n : Netlist) (config : Config) (patterns : List Pattern) (p : ℕ) (pattern : Pattern) (r : Response) → list_any (λ one. is_some one.merged.now.domains.second) patterns ≡ false → slice_get patterns p ≡ Some pattern → CapturedBehind n config pattern 1 r → Captures n config pattern r

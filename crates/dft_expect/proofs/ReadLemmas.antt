@@ -5,7 +5,7 @@ use Rattle.std.specs.List.{range_with_len}
 use Rattle.std.proofs.Math.ListN.{get_or-append}
 use Rattle.std.proofs.Math.Seq.{get_or-append_seam, take-suc}
 use Rattle.std.proofs.lemmas.Grind.{flat_map-append}
-use Rattle.std.proofs.lemmas.Bool.{cases_eq, cases_lt}
+use Rattle.std.proofs.lemmas.Bool.{cases_eq, cases_lt, or_parts}
 use Rattle.std.proofs.lemmas.List.{length-append, length-set}
 use Rattle.std.proofs.lemmas.Option.{none-some, same_Some, slice_get_within, slice_get-get_or, get_or_from_slice_get}
 use Rattle.std.proofs.lemmas.List.FromFn.{map-range_with_len_more}
@@ -294,16 +294,8 @@ falls_as (Some root) clock is = ap (λ (c : ClockRoot). c.inverted) (same_Some (
 
 none_at : (reads : List Read) (number : ℕ) → any_falls reads ≡ false → is_falling (read_at reads number).clock ≡ false
 none_at [] number none = refl
-none_at (read ∷ reads) zero none = first_of (is_falling read.clock) (any_falls reads) none
-  where
-    first_of : (a b : Bool) → (a || b) ≡ false → a ≡ false
-    first_of true b h = h
-    first_of false b h = refl
-none_at (read ∷ reads) (suc number) none = none_at reads number (rest_of (is_falling read.clock) (any_falls reads) none)
-  where
-    rest_of : (a b : Bool) → (a || b) ≡ false → b ≡ false
-    rest_of true b h = absurd cc
-    rest_of false b h = h
+none_at (read ∷ reads) zero none = (or_parts (is_falling read.clock) (any_falls reads) none).0
+none_at (read ∷ reads) (suc number) none = none_at reads number (or_parts (is_falling read.clock) (any_falls reads) none).1
 
 pub none_falls : (n : Netlist) (config : Config) (reads : List Read) (number : ℕ) (cell : InstanceId) → CanCapture n config → AreReads n (cells_in n config) reads → any_falls reads ≡ false → slice_get (cells_in n config) number ≡ Some cell → ((original n config).cell cell.0).falling ≡ false
 none_falls n config reads number cell can are none at =

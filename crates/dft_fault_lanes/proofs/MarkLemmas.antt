@@ -4,6 +4,7 @@ use Rattle.std.specs.Prelude.{◌||◌, nat_le, if◌then◌else◌}
 use Rattle.std.proofs.lemmas.List.{get_or_past}
 use Rattle.std.proofs.lemmas.Bool.{cases_Bool, cases_eq, or_left, or_right}
 use Rattle.std.proofs.lemmas.Bool.Decides.{eqb_tells, leb_tells}
+use Rattle.dft_base.proofs.BitLemmas.{or_later}
 use Rattle.dft_base.specs.declared.tri.Tri.{Tri}
 use Rattle.dft_base.specs.declared.tri.Tri.TheVariants.{Zero, One, Unknown}
 use Rattle.dft_netlist.specs.declared.ids.NetId.{NetId}
@@ -81,11 +82,8 @@ net_marked count marked net each = (has_needs count marked (net ∷ []) (λ k li
 pub needs_more : (count : ℕ) (marked now : List Bool) (k : ℕ) → ((k : ℕ) → flag_at marked k ≡ true → flag_at now k ≡ true) → needs_of count marked k ≡ true → needs_of count now k ≡ true
 needs_more count marked now k kept need = elim (cases_Bool (flag_at marked k)) [
   | inl up ↦ or_left (flag_at now k) (nat_le count k) (kept k up)
-  | inr down ↦ or_right (flag_at now k) (nat_le count k) (or_rest (flag_at marked k) (nat_le count k) down need)
-] where
-  or_rest : (b c : Bool) → b ≡ false → (b || c) ≡ true → c ≡ true
-  or_rest true c down need = absurd (let f : ⊥ = cc in f)
-  or_rest false c down need = need
+  | inr down ↦ or_right (flag_at now k) (nat_le count k) (or_later (flag_at marked k) (nat_le count k) down need)
+]
 
 -- ---- marks one after another
 

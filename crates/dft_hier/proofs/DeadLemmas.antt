@@ -6,8 +6,8 @@ use Rattle.std.proofs.lemmas.List.Elements.{All-get_or}
 use Rattle.std.proofs.lemmas.Option.{slice_get_within, get_or_from_slice_get}
 use Rattle.std.proofs.lemmas.Bool.Decides.{nat_tests}
 use Rattle.std.specs.Str.{bytes_eq}
+use Rattle.std.proofs.lemmas.Bool.{or_parts}
 use Rattle.dft_base.specs.Lexing.{Text}
-use Rattle.dft_base.proofs.BitLemmas.{both_down}
 use Rattle.dft_cells.specs.declared.cell.Cell.{Cell}
 use Rattle.dft_netlist.specs.declared.ids.NetId.{NetId}
 use Rattle.dft_netlist.specs.declared.port.Port.{Port}
@@ -68,8 +68,8 @@ dead_items library ms give prefix first next (item.Sub s ∷ items) sound none d
 
 sub_dead : (lives : Module → Bool) (ms : List Module) (subs : List SubInstance) (place : ℕ) (s : SubInstance) → subs_live lives ms subs ≡ false → slice_get subs place ≡ Some s → sub_lives lives (find_module ms s.of) ≡ false
 sub_dead lives ms [] place s none at = absurd (let f : ⊥ = cc in f)
-sub_dead lives ms (x ∷ subs) zero s none at = let e : x ≡ s = cc in subst (λ (y : SubInstance). sub_lives lives (find_module ms y.of) ≡ false) e (both_down (sub_lives lives (find_module ms x.of)) (subs_live lives ms subs) none).0
-sub_dead lives ms (x ∷ subs) (suc place) s none at = sub_dead lives ms subs place s (both_down (sub_lives lives (find_module ms x.of)) (subs_live lives ms subs) none).1 at
+sub_dead lives ms (x ∷ subs) zero s none at = let e : x ≡ s = cc in subst (λ (y : SubInstance). sub_lives lives (find_module ms y.of) ≡ false) e (or_parts (sub_lives lives (find_module ms x.of)) (subs_live lives ms subs) none).0
+sub_dead lives ms (x ∷ subs) (suc place) s none at = sub_dead lives ms subs place s (or_parts (sub_lives lives (find_module ms x.of)) (subs_live lives ms subs) none).1 at
 
 no_nets : (names : List Text) → nat_lt 0 (length names) ≡ false → names ≡ []
 no_nets names none = let e : length names ≡ 0 = grind (arith, nat_tests) in nil_from_length names e
@@ -78,8 +78,8 @@ pub dead_module : (library : List Cell) (ms : List Module) (depth : ℕ) (m : Mo
     ((prefix : Text) (first : ℕ) → parts_within depth ms prefix first m ≡ no_parts) × (m.nets ≡ [])
 dead_module library ms zero m sound tall is dead = elim tall [ ]
 dead_module library ms (suc depth) m sound (Rises each) is dead =
-    let both = both_down (nat_lt 0 (length m.nets) || list_any is_cell m.items) (subs_live (lives_in depth ms) ms (subs_of m.items)) dead in
-    let own = both_down (nat_lt 0 (length m.nets)) (list_any is_cell m.items) both.0 in
+    let both = or_parts (nat_lt 0 (length m.nets) || list_any is_cell m.items) (subs_live (lives_in depth ms) ms (subs_of m.items)) dead in
+    let own = or_parts (nat_lt 0 (length m.nets)) (list_any is_cell m.items) both.0 in
     let none = no_nets m.nets own.0 in
     let size : length m.nets ≡ 0 = ap (λ (xs : List Text). length xs) none in
     let items : (k : ℕ) (i : Item) → slice_get m.items k ≡ Some i → IsItem library 0 i = λ k i at. (

@@ -4,7 +4,7 @@ use Rattle.std.specs.List.{list_any, cons_option, range_with_len}
 use Rattle.std.specs.Str.{bytes_eq}
 use Rattle.std.proofs.lemmas.List.{take-append-drop}
 use Rattle.std.proofs.lemmas.Option.{slice_get-get_or}
-use Rattle.std.proofs.lemmas.Bool.{cases_eq}
+use Rattle.std.proofs.lemmas.Bool.{cases_eq, or_right}
 use Rattle.std.proofs.lemmas.Bool.Decides.{nat_tests}
 use Rattle.dft_base.specs.Lexing.{Text}
 use Rattle.dft_base.proofs.TextLemmas.{same_text, bytes_eq-self, differ}
@@ -91,10 +91,6 @@ pub child_named : (ms : List Module) (subs : List SubInstance) (k : ℕ) (m : Mo
 child_named ms [] k m h at = absurd (stands_none k h)
 child_named ms (s ∷ subs) k m h at = by (number_of ms s.of) refl h (child_named ms subs k m)
   where
-    or_right : (t u : Bool) → u ≡ true → (t || u) ≡ true
-    or_right true u e = refl
-    or_right false u e = e
-
     by : (o : Option ℕ) → number_of ms s.of ≡ o → StandsIn (cons_option o (numbers_of_subs ms subs)) k → (StandsIn (numbers_of_subs ms subs) k → slice_get ms k ≡ Some m → list_any (λ (s : SubInstance). bytes_eq s.of m.name) subs ≡ true) → (bytes_eq s.of m.name || list_any (λ (s : SubInstance). bytes_eq s.of m.name) subs) ≡ true
     by None is h more = or_right (bytes_eq s.of m.name) (list_any (λ (s : SubInstance). bytes_eq s.of m.name) subs) (more h at)
     by (Some n) is h more = elim (stands_cases n (numbers_of_subs ms subs) k h) [

@@ -5,6 +5,7 @@ use Rattle.std.specs.List.{AllByRecursion}
 use Rattle.std.proofs.lemmas.Bool.{eqb-true}
 use Rattle.std.proofs.lemmas.Bool.Decides.{nat_tests}
 use Rattle.std.proofs.lemmas.Option.{none-some, same_Some}
+use Rattle.dft_base.proofs.BitLemmas.{true_false}
 use Rattle.dft_base.proofs.ListLemmas.{get_left}
 use Rattle.dft_netlist.specs.declared.ids.NetId.{NetId}
 use Rattle.dft_netlist.specs.declared.instance.Signal.{Signal}
@@ -74,10 +75,6 @@ joined_by : (j pin : ℕ) (net : NetId) (xs : List Instance) (i : ℕ) (x : Inst
 joined_by j pin net xs i x true is h = subst (λ k. slice_get (instance_joined j pin net xs) k ≡ Some (record x { pins = pin_joined pin net x.pins })) (eqb-true j i is) (joined_here j pin net xs x (ap (slice_get xs) (eqb-true j i is) ∙ h))
 joined_by j pin net xs i x false is h = joined_other j pin net xs i (λ same. absurd (true_false (j == i) (equal j i same) is)) ∙ h
   where
-    true_false : (c : Bool) → c ≡ true → c ≡ false → ⊥
-    true_false true e f = cc
-    true_false false e f = cc
-
     equal : (m k : ℕ) → m ≡ k → (m == k) ≡ true
     equal m k same = grind (arith, nat_tests, same)
 

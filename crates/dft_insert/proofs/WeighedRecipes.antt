@@ -2,6 +2,7 @@
 use Rattle.std.proofs.Common.{ℕ, zero, suc, ◌+◌, ◌≡◌, ◌==◌, ◌<◌, inl, inr, Bool, true, false, List, [], ◌∷◌, ◌++◌, length, map, cond, Option, None, Some, slice_get, refl, ap, arith, ◌∙◌}
 use Rattle.std.specs.Prelude.{if◌then◌else◌}
 use Rattle.std.specs.List.{AllByRecursion, range_with_len}
+use Rattle.std.proofs.lemmas.List.FromFn.{length-range_with_len}
 use Rattle.dft_cells.specs.declared.kind.Kind.{Kind}
 use Rattle.dft_cells.specs.declared.kind.Kind.TheVariants.{And, Or, Inv, Xor, Buf, Dff, Lockup}
 use Rattle.dft_cells.specs.declared.kind.Role.{Role}
@@ -125,9 +126,6 @@ module _ (test : Kind → Bool) (library : List Cell) (well : IsWellFormed libra
       (sum_has (stage_terms ring ports.channels stages stage))
       (λ sum. weighs_bind (weight test library) library (a_driving_gate And (sum ∷ run ∷ [])) (λ kept. a_flop ports.edt_clock kept (net_at stages stage)) 0 flop (driving_has And (sum ∷ run ∷ []) none.and) (λ kept. flop_has ports.edt_clock kept (net_at stages stage))))
 
-  length_range : (from count : ℕ) → length (range_with_len from count) ≡ count
-  length_range from zero = refl
-  length_range from (suc count) = ap suc (length_range (from + 1) count)
 
   abbrev ring_end : (run : NetId) → (phases : List NetId) → Recipe Ring
   ring_end run phases = pure (record { run = run; phases = phases })

@@ -4,6 +4,7 @@ use Rattle.std.specs.Prelude.{◌&&◌, if◌then◌else◌}
 use Rattle.std.proofs.lemmas.Bool.{eqb-true}
 use Rattle.std.proofs.lemmas.Nat.{div-add-mod'}
 use Rattle.std.proofs.lemmas.Option.{none-some, same_Some, slice_get_within}
+use Rattle.dft_base.proofs.BitLemmas.{true_false}
 use Rattle.dft_base.specs.Solutions.{sum_over}
 use Rattle.dft_base.proofs.SumLemmas.{sum_same}
 use Rattle.dft_netlist.specs.declared.ids.InstanceId.{InstanceId}
@@ -42,12 +43,8 @@ use Rattle.dft_load_laws.proofs.Sums.{row_bit, row_is}
 
 -- it stands in a list, or nowhere there
 place_none : (x : InstanceId) (cells : List InstanceId) (cell : InstanceId) → (x.0 == cell.0) ≡ false → ((k : ℕ) → slice_get cells k ≡ Some cell → ⊥) → (k : ℕ) → slice_get (x ∷ cells) k ≡ Some cell → ⊥
-place_none x cells cell apart none zero h = differ (x.0 == cell.0) (same (x.0) (cell.0) (ap (λ (c : InstanceId). c.0) (same_Some x cell h))) apart
+place_none x cells cell apart none zero h = true_false (x.0 == cell.0) (same (x.0) (cell.0) (ap (λ (c : InstanceId). c.0) (same_Some x cell h))) apart
   where
-    differ : (b : Bool) → b ≡ true → b ≡ false → ⊥
-    differ true e f = cc
-    differ false e f = cc
-
     same : (a b : ℕ) → a ≡ b → (a == b) ≡ true
     same a b e = grind (arith, e)
 place_none x cells cell apart none (suc k) h = none k h

@@ -4,7 +4,7 @@ use Rattle.std.specs.Prelude.{if◌then◌else◌}
 use Rattle.std.specs.List.{list_any, position_from}
 use Rattle.std.proofs.lemmas.Iterator.Adapters.{position_from-zero}
 use Rattle.std.proofs.lemmas.Option.{none-some, same_Some}
-use Rattle.std.proofs.lemmas.Bool.{not_from_false}
+use Rattle.std.proofs.lemmas.Bool.{not_from_false, or_right}
 use Rattle.dft_base.specs.Lexing.{Text}
 use Rattle.dft_base.proofs.BitLemmas.{not_itself, not_of}
 use Rattle.dft_base.proofs.OptionLemmas.{some_mapped}
@@ -227,11 +227,7 @@ din_by : (i k : ℕ) (c : Connection) (cs : List Connection) (b : Bool) → same
 din_by i k c cs true is more e =
     let one : takes k c ≡ true = (λ j. same_data c.role is j && joined_net i c.pin k c.to e j) in
     ap (λ (b : Bool). b || list_any (takes k) cs) one
-din_by i k c cs false is more e = or_later (takes k c) (list_any (takes k) cs) (more e)
-  where
-    or_later : (a b : Bool) → b ≡ true → (a || b) ≡ true
-    or_later true b is = refl
-    or_later false b is = is
+din_by i k c cs false is more e = or_right (takes k c) (list_any (takes k) cs) (more e)
 
 din_taken : (i k : ℕ) (cs : List Connection) → pin_of role.Din i cs ≡ Some (Net k) → list_any (takes k) cs ≡ true
 din_taken i k [] e = absurd (none-some (Net k) e)

@@ -3,6 +3,7 @@ use Rattle.std.proofs.Common.{ℕ, zero, suc, ◌+◌, ◌≡◌, ◌==◌, ◌&
 use Rattle.std.specs.Prelude.{if◌then◌else◌}
 use Rattle.std.proofs.lemmas.Bool.{eqb-true, eq-eqb, eqb-false}
 use Rattle.std.proofs.lemmas.Option.{none-some, same_Some}
+use Rattle.dft_base.proofs.BitLemmas.{and_first}
 use Rattle.dft_netlist.specs.declared.ids.NetId.{NetId}
 use Rattle.dft_netlist.specs.declared.instance.Signal.{Signal}
 use Rattle.dft_netlist.specs.declared.instance.Signal.TheVariants.{Net, Unconnected}
@@ -94,11 +95,7 @@ fits_both P a b fits later = elim later [
 -- a part joins the pin, and of its net this holds
 pub part_fits : (P : NetId → Type 0) (j pin i p : ℕ) (net : NetId) (b : Bool) → ((j == i) && (pin == p)) ≡ b → (j ≡ i → P net) → Fits P (if b then Some net else None)
 part_fits P j pin i p net false is h = inl refl
-part_fits P j pin i p net true is h = inr (net, refl, h (eqb-true j i (left_true (j == i) (pin == p) is)))
-  where
-    left_true : (a b : Bool) → (a && b) ≡ true → a ≡ true
-    left_true true b e = refl
-    left_true false b e = absurd cc
+part_fits P j pin i p net true is h = inr (net, refl, h (eqb-true j i (and_first (j == i) (pin == p) is)))
 
 pub part_found : (P : NetId → Type 0) (j pin i p : ℕ) (net : NetId) → j ≡ i → pin ≡ p → P net → Found P (if (j == i) && (pin == p) then Some net else None)
 part_found P j pin i p net same here h = (net, ap (λ b. if b && (pin == p) then Some net else None) (eq-eqb j i same) ∙ ap (λ b. if b then Some net else None) (eq-eqb pin p here), h)

@@ -3,7 +3,7 @@ use Rattle.std.proofs.Common.{ℕ, zero, suc, ◌≡◌, ◌<◌, ◌==◌, Bool
 use Rattle.std.specs.Prelude.{if◌then◌else◌}
 use Rattle.std.specs.List.{list_any}
 use Rattle.std.proofs.lemmas.Bool.Decides.{eqb_tells}
-use Rattle.std.proofs.lemmas.Bool.{and_from}
+use Rattle.std.proofs.lemmas.Bool.{and_from, or_right, or_left}
 use Rattle.dft_base.specs.declared.tri.Tri.{Tri}
 use Rattle.dft_base.proofs.BitLemmas.{and_first}
 use Rattle.dft_cells.specs.Gates.{tri_of}
@@ -157,17 +157,10 @@ agree_twice s n k rank g h a b Set order none alike are also = agree_parts s n k
 falls_here : (cells : List InstanceId) (f : ℕ → Bool) (c : ℕ) → list_any (λ cell. cell.0 == c) cells ≡ true → f c ≡ true → list_any (λ cell. f cell.0) cells ≡ true
 falls_here [] f c has is = absurd cc
 falls_here (x ∷ cells) f c has is = elim (eqb_tells x.0 c) [
-  | inl same ↦ or_first (f x.0) (list_any (λ cell. f cell.0) cells) (ap f same.1 ∙ is)
-  | inr other ↦ or_second (f x.0) (list_any (λ cell. f cell.0) cells) (falls_here cells f c (sym (ap (λ (b : Bool). b || list_any (λ cell. cell.0 == c) cells) other.0) ∙ has) is)
+  | inl same ↦ or_left (f x.0) (list_any (λ cell. f cell.0) cells) (ap f same.1 ∙ is)
+  | inr other ↦ or_right (f x.0) (list_any (λ cell. f cell.0) cells) (falls_here cells f c (sym (ap (λ (b : Bool). b || list_any (λ cell. cell.0 == c) cells) other.0) ∙ has) is)
 ]
-  where
-    or_first : (p q : Bool) → p ≡ true → (p || q) ≡ true
-    or_first true q h = refl
-    or_first false q h = absurd cc
 
-    or_second : (p q : Bool) → q ≡ true → (p || q) ≡ true
-    or_second true q h = refl
-    or_second false q h = h
 
 pub has_some : (s : Search) (c : ℕ) → takes_at s true c ≡ true → has_falling s ≡ true
 has_some s c is = falls_here (cells_in s) (takes_at s true) c (and_first (has_cell (cells_in s) c) (is_of s.domain true (clock_of (judgements s.design s.config) (record { 0 = c }))) is) is

@@ -2,12 +2,11 @@
 use Rattle.std.proofs.Common.{ℕ, zero, suc, ◌≡◌, ◌<◌, ◌≤◌, ◌==◌, ◌⊎◌, inl, inr, Bool, true, false, ◌&&◌, ◌||◌, List, [], ◌∷◌, ◌++◌, length, map, filter, flat_map, slice_get, Option, None, Some, refl, sym, subst, ap, arith, ◌∙◌, true≢false}
 use Rattle.std.specs.Prelude.{if◌then◌else◌, nat_lt}
 use Rattle.std.specs.List.{AllByRecursion, list_any}
-use Rattle.std.proofs.lemmas.Bool.{eqb-true, eq-eqb, lt-ltb, le-ltb}
+use Rattle.std.proofs.lemmas.Bool.{eqb-true, eq-eqb, lt-ltb, le-ltb, or_right}
 use Rattle.std.proofs.lemmas.Bool.Decides.{leb_tells}
 use Rattle.std.proofs.lemmas.List.{get_or_default, get_or_past}
 use Rattle.std.proofs.lemmas.List.Elements.{filter-append}
 use Rattle.std.proofs.lemmas.Option.{none-some, same_Some}
-use Rattle.dft_base.proofs.BitLemmas.{or_right}
 use Rattle.dft_netlist.specs.declared.ids.NetId.{NetId}
 use Rattle.dft_netlist.specs.declared.ids.InstanceId.{InstanceId}
 use Rattle.dft_netlist.specs.Drivers.{Driver, Gate, Joined, Flop, Free, driver}
@@ -251,11 +250,7 @@ net_shown : (shows_list : List (Option InstanceId)) (marked : List Bool) (c net 
 net_shown [] marked c net up is = absurd (true≢false (sym is))
 net_shown (o ∷ shows_list) [] c net up is = absurd (true≢false (sym up))
 net_shown (o ∷ shows_list) (flag ∷ marked) c zero up is = λ t. (up t && is t) || shown_in shows_list marked c
-net_shown (o ∷ shows_list) (flag ∷ marked) c (suc net) up is = or_last (flag && shows_in o c) (shown_in shows_list marked c) (net_shown shows_list marked c net up is)
-  where
-    or_last : (a b : Bool) → b ≡ true → (a || b) ≡ true
-    or_last true b h = refl
-    or_last false b h = h
+net_shown (o ∷ shows_list) (flag ∷ marked) c (suc net) up is = or_right (flag && shows_in o c) (shown_in shows_list marked c) (net_shown shows_list marked c net up is)
 
 -- a marked net from which a walk goes on from this one
 abbrev reads_in : List (List NetId) → (marked : List Bool) → (net : ℕ) → Bool

@@ -2,12 +2,12 @@
 use Rattle.std.proofs.Common.{ℕ, zero, suc, ◌≡◌, ◌==◌, Bool, true, false, ◌&&◌, ◌||◌, not, List, [], ◌∷◌, ◌++◌, length, map, filter, slice_get, Option, None, Some, refl, sym, subst, ap, ◌∙◌}
 use Rattle.std.specs.Prelude.{if◌then◌else◌}
 use Rattle.std.specs.List.{list_all, list_any}
-use Rattle.std.proofs.lemmas.Bool.{eq-eqb}
+use Rattle.std.proofs.lemmas.Bool.{eq-eqb, or_parts, or_right}
 use Rattle.std.proofs.lemmas.Option.{none-some, same_Some}
 use Rattle.dft_base.specs.declared.tri.Tri.{Tri}
 use Rattle.dft_base.specs.declared.tri.Tri.TheVariants.{Zero, One, Unknown}
 use Rattle.dft_base.specs.Tri.{known, AboveTri}
-use Rattle.dft_base.proofs.BitLemmas.{true_false}
+use Rattle.dft_base.proofs.BitLemmas.{true_false, and_second, and_first}
 use Rattle.dft_cells.proofs.Completions.{above_self}
 use Rattle.dft_netlist.specs.declared.ids.NetId.{NetId}
 use Rattle.dft_netlist.specs.declared.ids.InstanceId.{InstanceId}
@@ -51,12 +51,8 @@ held_cells : (g : Given) (cells : List InstanceId) → ((c : ℕ) → has_cell c
 held_cells g [] each = tt
 held_cells g (x ∷ cells) each = (
   each x.0 (ap (λ (b : Bool). b || has_cell cells x.0) (eq-eqb x.0 x.0 refl)),
-  held_cells g cells (λ c has. each c (later (x.0 == c) (has_cell cells c) has)),
+  held_cells g cells (λ c has. each c (or_right (x.0 == c) (has_cell cells c) has)),
 )
-  where
-    later : (a b : Bool) → b ≡ true → (a || b) ≡ true
-    later true b h = refl
-    later false b h = h
 
 held_ports : (g : Given) (f : ℕ → Bool) (bits : List NetId) → ((net : ℕ) → f net ≡ true → is_known (g.ports net) ≡ true) → AllHeld g (map (λ net. Port net.0) (filter (λ net. f net.0) bits))
 held_ports g f [] each = tt
@@ -192,29 +188,13 @@ some_passes f (point ∷ points) is = by (f point) refl is (some_passes f points
 
 none_passes : (f : Point → Bool) (points : List Point) (place : ℕ) (point : Point) → list_any f points ≡ false → slice_get points place ≡ Some point → f point ≡ false
 none_passes f [] place point none at = absurd (none-some point at)
-none_passes f (x ∷ points) zero point none at = ap f (sym (same_Some x point at)) ∙ first (f x) (list_any f points) none
-  where
-    first : (a b : Bool) → (a || b) ≡ false → a ≡ false
-    first true b h = absurd cc
-    first false b h = refl
-none_passes f (x ∷ points) (suc place) point none at = none_passes f points place point (later (f x) (list_any f points) none) at
-  where
-    later : (a b : Bool) → (a || b) ≡ false → b ≡ false
-    later true b h = absurd cc
-    later false b h = h
+none_passes f (x ∷ points) zero point none at = ap f (sym (same_Some x point at)) ∙ (or_parts (f x) (list_any f points) none).0
+none_passes f (x ∷ points) (suc place) point none at = none_passes f points place point (or_parts (f x) (list_any f points) none).1 at
 
 all_pass : (f : Point → Bool) (points : List Point) (place : ℕ) (point : Point) → list_all f points ≡ true → slice_get points place ≡ Some point → f point ≡ true
 all_pass f [] place point all at = absurd (none-some point at)
-all_pass f (x ∷ points) zero point all at = ap f (sym (same_Some x point at)) ∙ first (f x) (list_all f points) all
-  where
-    first : (a b : Bool) → (a && b) ≡ true → a ≡ true
-    first true b h = refl
-    first false b h = absurd cc
-all_pass f (x ∷ points) (suc place) point all at = all_pass f points place point (later (f x) (list_all f points) all) at
-  where
-    later : (a b : Bool) → (a && b) ≡ true → b ≡ true
-    later true b h = h
-    later false b h = absurd cc
+all_pass f (x ∷ points) zero point all at = ap f (sym (same_Some x point at)) ∙ and_first (f x) (list_all f points) all
+all_pass f (x ∷ points) (suc place) point all at = all_pass f points place point (and_second (f x) (list_all f points) all) at
 
 -- ---- the points of a search are outputs and cells that move
 
@@ -237,12 +217,8 @@ cells_move s (x ∷ cells) = by (takes_at s false x.0 || takes_at s true x.0) re
 
 chosen_move : (s : Search) (chosen : Point → Bool) (points : List Point) → list_all (can_move s) points ≡ true → list_all (can_move s) (filter chosen points) ≡ true
 chosen_move s chosen [] all = refl
-chosen_move s chosen (x ∷ points) all = by (chosen x) (chosen_move s chosen points (later (can_move s x) (list_all (can_move s) points) all))
+chosen_move s chosen (x ∷ points) all = by (chosen x) (chosen_move s chosen points (and_second (can_move s x) (list_all (can_move s) points) all))
   where
-    later : (a b : Bool) → (a && b) ≡ true → b ≡ true
-    later true b h = h
-    later false b h = absurd cc
-
     both : (a b c : Bool) → (a && b) ≡ true → c ≡ true → (a && c) ≡ true
     both true b c h k = k
     both false b c h k = absurd cc

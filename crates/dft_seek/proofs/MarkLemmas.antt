@@ -1,10 +1,9 @@
 -- Marks that grow, and walks from them: one net more, one list more, one round more.
 use Rattle.std.proofs.Common.{ℕ, zero, suc, ◌+◌, ◌-◌, ◌≡◌, ◌<◌, ◌≤◌, ◌==◌, ◌⊎◌, inl, inr, Bool, true, false, ◌||◌, List, [], ◌∷◌, ◌++◌, length, drop, get_or, take, refl, sym, subst, ap, arith, ◌∙◌, slice_set, get_or-set_same, get_or-set_other, true≢false, drop-cons, add-one}
 use Rattle.std.specs.List.{list_any}
-use Rattle.std.proofs.lemmas.Bool.{eqb-true}
+use Rattle.std.proofs.lemmas.Bool.{eqb-true, or_parts}
 use Rattle.std.proofs.lemmas.Bool.Decides.{eqb_tells, leb_tells}
 use Rattle.std.proofs.lemmas.List.{length-set, get_or_past, drop_all, take_all, take_more}
-use Rattle.dft_base.proofs.BitLemmas.{both_down}
 use Rattle.dft_netlist.specs.declared.ids.NetId.{NetId}
 use Rattle.dft_netlist.specs.Orders.{numbers_of}
 use Rattle.dft_logic.specs.Circuit.{flag_at}
@@ -61,7 +60,7 @@ pub grows_join : (a b c : List Bool) (p q : Bool) → Grows a b p → Grows b c 
 grows_join a b c p q one two = record {
   size = two.size ∙ one.size;
   kept = λ k up. two.kept k (one.kept k up);
-  still = λ is. two.still (both_down p q is).1 ∙ one.still (both_down p q is).0;
+  still = λ is. two.still (or_parts p q is).1 ∙ one.still (or_parts p q is).0;
   grows = omega (arith, one.grows, two.grows);
   more = λ is. elim (either_up p q is) [
     | inl fresh ↦ (let first = one.more fresh in omega (arith, first, two.grows))
@@ -181,10 +180,10 @@ spreads_join steps a b c xs ys p q one two = record {
   grown = grows_join a b c p q one.grown two.grown;
   only = λ k up. behind_more steps a b k one.only (two.only k up);
   closed = λ is k among less any.
-      (let same : c ≡ b = two.grown.still (both_down p q is).1 in
+      (let same : c ≡ b = two.grown.still (or_parts p q is).1 in
       elim (among_either k xs ys among) [
-        | inl first ↦ two.grown.kept k (one.closed (both_down p q is).0 k first less (ap (λ (flags : List Bool). list_any (flag_at flags) (steps k)) (sym same) ∙ any))
-        | inr second ↦ two.closed (both_down p q is).1 k second (let e = one.grown.size in omega (arith, less, e)) any
+        | inl first ↦ two.grown.kept k (one.closed (or_parts p q is).0 k first less (ap (λ (flags : List Bool). list_any (flag_at flags) (steps k)) (sym same) ∙ any))
+        | inr second ↦ two.closed (or_parts p q is).1 k second (let e = one.grown.size in omega (arith, less, e)) any
       ]);
 }
 
@@ -261,11 +260,11 @@ draws_more steps net nets a b c p q one two = record {
   grown = grows_join a b c p q one.grown two.grown;
   only = λ k up. before_more steps a b k one.only (two.only k up);
   closed = λ is k among up from step less.
-      (let same : c ≡ b = two.grown.still (both_down p q is).1 in
-      let last : (net == k) ≡ true → flag_at c from ≡ true = λ q_is. two.closed (both_down p q is).1 k (ap (λ (b : Bool). b || false) q_is) up from step (let e = one.grown.size in omega (arith, less, e)) in
+      (let same : c ≡ b = two.grown.still (or_parts p q is).1 in
+      let last : (net == k) ≡ true → flag_at c from ≡ true = λ q_is. two.closed (or_parts p q is).1 k (ap (λ (b : Bool). b || false) q_is) up from step (let e = one.grown.size in omega (arith, less, e)) in
       elim (either_up (net == k) (is_among k nets) among) [
         | inl first ↦ last first
-        | inr second ↦ two.grown.kept from (one.closed (both_down p q is).0 k second (ap (λ (flags : List Bool). flag_at flags k) (sym same) ∙ up) from step less)
+        | inr second ↦ two.grown.kept from (one.closed (or_parts p q is).0 k second (ap (λ (flags : List Bool). flag_at flags k) (sym same) ∙ up) from step less)
       ]);
 }
 

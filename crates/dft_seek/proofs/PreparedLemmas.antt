@@ -2,7 +2,7 @@
 use Rattle.std.proofs.Common.{ℕ, zero, suc, ◌≡◌, ◌<◌, ◌≤◌, ◌==◌, inl, inr, Bool, true, false, not, ◌&&◌, ◌||◌, List, [], ◌∷◌, length, filter, slice_get, Option, None, Some, refl, sym, subst, ap, arith, ◌∙◌, true≢false}
 use Rattle.std.specs.Prelude.{if◌then◌else◌}
 use Rattle.std.specs.List.{AllByRecursion}
-use Rattle.std.proofs.lemmas.Bool.{eq-eqb}
+use Rattle.std.proofs.lemmas.Bool.{eq-eqb, or_right}
 use Rattle.std.proofs.lemmas.Bool.Decides.{leb_tells}
 use Rattle.std.proofs.lemmas.List.{get_or_past}
 use Rattle.dft_netlist.specs.declared.ids.NetId.{NetId}
@@ -178,8 +178,4 @@ ports_live x resets (net ∷ nets) count size = by (is_input_of (meaning (op_at 
 -- each cell of a list is there
 pub cells_live : (count : ℕ) (cells : List InstanceId) → ((c : ℕ) → has_cell cells c ≡ true → c < count) → AllByRecursion (λ cell. cell.0 < count) cells
 cells_live count [] live = tt
-cells_live count (x ∷ cells) live = (live x.0 (ap (λ (b : Bool). b || has_cell cells x.0) (eq-eqb x.0 x.0 refl)), cells_live count cells (λ c is. live c (later (x.0 == c) (has_cell cells c) is)))
-  where
-    later : (a b : Bool) → b ≡ true → (a || b) ≡ true
-    later true b is = refl
-    later false b is = is
+cells_live count (x ∷ cells) live = (live x.0 (ap (λ (b : Bool). b || has_cell cells x.0) (eq-eqb x.0 x.0 refl)), cells_live count cells (λ c is. live c (or_right (x.0 == c) (has_cell cells c) is)))

@@ -3,7 +3,7 @@ use Rattle.std.proofs.Common.{ℕ, zero, suc, ◌+◌, ◌≡◌, ◌<◌, ◌�
 use Rattle.std.specs.Prelude.{if◌then◌else◌}
 use Rattle.std.specs.List.{list_any}
 use Rattle.std.specs.Str.{bytes_eq}
-use Rattle.std.proofs.lemmas.Bool.{eqb-true}
+use Rattle.std.proofs.lemmas.Bool.{eqb-true, or_right, false_from_ne_true}
 use Rattle.std.proofs.lemmas.Bool.Decides.{leb_tells}
 use Rattle.std.proofs.lemmas.Slice.Eq.{bytes_eq-Decides}
 use Rattle.std.proofs.lemmas.Option.{none-some, same_Some}
@@ -78,11 +78,7 @@ name_among n net (name ∷ names) is = elim (either_up (is_net net (input_net n 
 has_it : (names : List Text) (k : ℕ) (d x : Text) → k < length names → get_or names k d ≡ x → has bytes_eq names x ≡ true
 has_it [] k d x less is = absurd (omega (arith, less))
 has_it (name ∷ names) zero d x less is = ap (λ (t : Text). bytes_eq t x || has bytes_eq names x) is ∙ ap (λ (b : Bool). b || has bytes_eq names x) (bytes_same x)
-has_it (name ∷ names) (suc k) d x less is = or_second (bytes_eq name x) (has bytes_eq names x) (has_it names k d x (omega (arith, less)) is)
-  where
-    or_second : (a b : Bool) → b ≡ true → (a || b) ≡ true
-    or_second true b h = refl
-    or_second false b h = h
+has_it (name ∷ names) (suc k) d x less is = or_right (bytes_eq name x) (has bytes_eq names x) (has_it names k d x (omega (arith, less)) is)
 
 pub no_clock_resets : (n : Netlist) (config : Config) (net : ℕ) → IsInRange config → (config_ports n config).is_clock net ≡ true → (config_ports n config).is_reset net ≡ true → ⊥
 no_clock_resets n config net range clock reset =
@@ -158,12 +154,8 @@ flop_more n one other i more is = by (is_flip_flop (kind_at n i)) is
 pub flags_more : (n : Netlist) (config : Config) (flags : List Bool) → IsInRange config → ((net : ℕ) → flag_at flags net ≡ (config_ports n config).is_clock net) → MoreResets (config_ports n config) (ports_by flags)
 flags_more n config flags range same = record {
   clocks = λ net. sym (same net);
-  resets = λ net reset. ap not (not_up (flag_at flags net) (λ up. no_clock_resets n config net range (sym (same net) ∙ up) reset));
+  resets = λ net reset. ap not (false_from_ne_true (flag_at flags net) (λ up. no_clock_resets n config net range (sym (same net) ∙ up) reset));
 }
-  where
-    not_up : (a : Bool) → (a ≡ true → ⊥) → a ≡ false
-    not_up true never = absurd (never refl)
-    not_up false never = refl
 
 -- ---- the cells of the chains
 
@@ -171,12 +163,8 @@ has_parts : (c : ℕ) (xs ys : List InstanceId) → has_cell (xs ++ ys) c ≡ tr
 has_parts c [] ys is = inr is
 has_parts c (x ∷ xs) ys is = elim (either_up (x.0 == c) (has_cell (xs ++ ys) c) is) [
   | inl here ↦ inl (ap (λ (b : Bool). b || has_cell xs c) here)
-  | inr later ↦ elim (has_parts c xs ys later) [ inl first ↦ inl (or_second (x.0 == c) (has_cell xs c) first) | inr second ↦ inr second ]
+  | inr later ↦ elim (has_parts c xs ys later) [ inl first ↦ inl (or_right (x.0 == c) (has_cell xs c) first) | inr second ↦ inr second ]
 ]
-  where
-    or_second : (a b : Bool) → b ≡ true → (a || b) ≡ true
-    or_second true b h = refl
-    or_second false b h = h
 
 in_cells : (c : ℕ) (cells : List InstanceId) → has_cell cells c ≡ true → (place : ℕ) × (slice_get cells place ≡ Some (record { 0 = c }))
 in_cells c [] is = absurd (true≢false (sym is))

@@ -2,6 +2,7 @@
 use Rattle.std.proofs.Common.{ℕ, ◌≡◌, Bool, true, false, ◌||◌, List, [], ◌∷◌, ◌++◌, filter, refl, sym, ap, ◌∙◌}
 use Rattle.std.specs.Prelude.{if◌then◌else◌}
 use Rattle.std.specs.List.{list_any}
+use Rattle.std.proofs.lemmas.Bool.{or_right}
 use Rattle.dft_base.specs.declared.tri.Tri.{Tri}
 use Rattle.dft_base.specs.declared.tri.Tri.TheVariants.{Zero, One, Unknown}
 use Rattle.dft_base.specs.Tri.{AboveTri}
@@ -106,9 +107,6 @@ any_chosen chosen f h more (point ∷ points) is = by_choice (any_chosen chosen 
     either false true rest here is below = refl
     either false false rest here is below = below is
 
-    behind : (y rest : Bool) → rest ≡ true → (y || rest) ≡ true
-    behind true rest is = refl
-    behind false rest is = is
 
     by_choice : (list_any f (filter chosen points) ≡ true → list_any h points ≡ true) → (c : Bool) → list_any f (if c then point ∷ filter chosen points else filter chosen points) ≡ true → (h point || list_any h points) ≡ true
     by_choice below true is = either (f point) (h point) (list_any f (filter chosen points)) (more point) is below

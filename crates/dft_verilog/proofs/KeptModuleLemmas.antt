@@ -4,10 +4,10 @@ use Rattle.std.specs.List.{All, list_any}
 use Rattle.std.specs.Str.{bytes_eq}
 use Rattle.std.proofs.lemmas.List.{append_assoc, map-append}
 use Rattle.std.proofs.lemmas.List.Elements.{All-weaker, All-append, All-cons, All-nil}
+use Rattle.std.proofs.lemmas.Bool.{or_parts}
 use Rattle.dft_base.specs.Lexing.{Text}
 use Rattle.dft_base.specs.Parser as parser
 use Rattle.dft_base.specs.Parser.{pure, ◌>>=◌, ◌>>◌}
-use Rattle.dft_base.proofs.BitLemmas.{both_down}
 use Rattle.dft_cells.specs.declared.cell.Cell.{Cell}
 use Rattle.dft_cells.specs.declared.cell.CellId.{CellId}
 use Rattle.dft_cells.specs.Cells.{find_cell}
@@ -230,7 +230,7 @@ pub record StandBehind (library : List Cell) (before all : List Module) : Type 0
 none_named : (word : Text) (ms : List Module) → list_any (λ name. bytes_eq name word) (names_of ms) ≡ false → All (λ (m : Module). bytes_eq m.name word ≡ false) ms
 none_named word [] h = All-nil (λ (m : Module). bytes_eq m.name word ≡ false)
 none_named word (m ∷ ms) h =
-    let both = both_down (bytes_eq m.name word) (list_any (λ name. bytes_eq name word) (names_of ms)) h in
+    let both = or_parts (bytes_eq m.name word) (list_any (λ name. bytes_eq name word) (names_of ms)) h in
     All-cons (λ (m : Module). bytes_eq m.name word ≡ false) m ms both.0 (none_named word ms both.1)
 
 no_cell : (o : Option CellId) → is_some o ≡ false → o ≡ None
@@ -240,7 +240,7 @@ no_cell (Some id) h = absurd (cc)
 -- a name that is not repeated is new
 is_new : (library : List Cell) (word : Text) (before : List Module) → is_repeated library (names_of before) word ≡ false → (find_cell library word ≡ None) × All (λ (m : Module). bytes_eq m.name word ≡ false) before
 is_new library word before h =
-    let both = both_down (is_some (find_cell library word)) (list_any (λ name. bytes_eq name word) (names_of before)) h in
+    let both = or_parts (is_some (find_cell library word)) (list_any (λ name. bytes_eq name word) (names_of before)) h in
     (no_cell (find_cell library word) both.0, none_named word before both.1)
 
 -- one module stands behind those before it

@@ -2,6 +2,7 @@
 use Rattle.std.proofs.Common.{◌≡◌, ℕ, suc, ◌+◌, ◌<◌, Bool, true, false, not, cond, List, [], ◌∷◌, ◌++◌, length, get_or, decimal, Some, None, Ok, refl, sym, ap, ◌∙◌, subst, arith, slice_get, append_assoc}
 use Rattle.std.specs.Prelude.{◌&&◌, ◌||◌}
 use Rattle.std.specs.Option.{option_and_then}
+use Rattle.dft_base.proofs.BitLemmas.{and_first}
 use Rattle.dft_base.specs.declared.place.Range.{Range}
 use Rattle.dft_base.specs.Lexing.{Text}
 use Rattle.dft_base.specs.Name.{IsName}
@@ -145,11 +146,7 @@ no_star c begins is = let star : begins_word 42 ≡ true = subst (λ k. begins_w
 
 word_opens : (name rest : Text) → is_word name ≡ true → Opens (name ++ rest)
 word_opens [] rest h = absurd (cc)
-word_opens (c ∷ cs) rest h = record { first = c; others = cs ++ rest; is = refl; other = no_star c (front (begins_word c) _ h) }
-  where
-    front : (a b : Bool) → (a && b) ≡ true → a ≡ true
-    front true b h = refl
-    front false b h = absurd (cc)
+word_opens (c ∷ cs) rest h = record { first = c; others = cs ++ rest; is = refl; other = no_star c (and_first (begins_word c) _ h) }
 
 opens_by : (t : Bool) (name rest : Text) → needs_escape name ≡ t → Opens (name_text name ++ rest)
 opens_by true name rest e = record { first = 92; others = (name ++ 32 ∷ []) ++ rest; is = ap (λ t. cond t (92 ∷ (name ++ 32 ∷ [])) name ++ rest) e; other = λ h. absurd (omega arith) }
