@@ -19,6 +19,7 @@ use Rattle.dft_cycle.specs.Machine.{Machine, value_at, is_one_of, ports_of, logi
 use Rattle.dft_logic.specs.Circuit.{Circuit, IsReady, logic_at, cell_of, cell_at, flag_at, base_of, leaves_from, IsCircuit}
 use Rattle.dft_cycle.specs.Views.{AreFalling, Rises, rank_of, Among, AreNext}
 use Rattle.std.proofs.lemmas.Option.{slice_get-get_or}
+use Rattle.std.proofs.lemmas.List.Folds.{or-false}
 use Rattle.dft_base.proofs.ListLemmas.{refilled_items}
 use Rattle.dft_registers.specs.declared.moves.Move.{Move}
 use Rattle.dft_registers.specs.Cells.{Contents, course}
@@ -334,10 +335,7 @@ flag_more clocks flags j e all a live before =
 
 pub flag_end : (clocks : List NetId) (flags : List Bool) (j e : ℕ) (all : Bool) → length clocks ≤ j → (flag_at flags e || is_one_of (drop j clocks) e) ≡ all → flag_at flags e ≡ all
 flag_end clocks flags j e all past before =
-    or_nothing (flag_at flags e) ∙ sym (ap (λ (l : List NetId). flag_at flags e || is_one_of l e) (drop_all j clocks past)) ∙ before where
-      or_nothing : (f : Bool) → f ≡ (f || false)
-      or_nothing true = refl
-      or_nothing false = refl
+    sym (or-false (flag_at flags e)) ∙ sym (ap (λ (l : List NetId). flag_at flags e || is_one_of l e) (drop_all j clocks past)) ∙ before
 
 pub one_among : (clocks : List NetId) (e : ℕ) → is_one_of clocks e ≡ true → Among clocks (length clocks) e
 one_among [] e h = absurd cc

@@ -30,7 +30,7 @@ use Rattle.dft_hier.specs.Moving.{with_joins}
 use Rattle.dft_hier.specs.Weights.{Live, no_weight}
 use Rattle.dft_hier.proofs.FlattenLemmas.{sound_at}
 use Rattle.dft_hier.proofs.ItemLemmas.{adds_append, adds_keep}
-use Rattle.dft_hier.proofs.NetWalkLemmas.{kept}
+use Rattle.dft_hier.proofs.NetWalkLemmas.{kept, sum_push}
 use Rattle.dft_hier.proofs.WalkLemmas.{back-push}
 
 parts_assoc : (a b c : Parts) → and_parts (and_parts a b) c ≡ and_parts a (and_parts b c)
@@ -222,10 +222,6 @@ module _ (ms : List Module) (items : List Live) (weights : List Weight) (library
       }
 
   -- ---- how many steps are left
-
-  sum_push : {X : Type 0} (f : X → ℕ) (xs : List X) (x : X) → total_by f (xs ++ x ∷ []) ≡ total_by f xs + f x
-  sum_push f [] x = omega arith
-  sum_push f (y ∷ xs) x = let r = sum_push f xs x in omega arith
 
   pub own_fewer : (way : List Visit) (v : Visit) (place : ℕ) → slice_get (live_items_at items v.number) v.item ≡ Some (Own place) → item_way_size ms items (way ++ passed_own v ∷ []) < item_way_size ms items (way ++ v ∷ [])
   own_fewer way v place at =

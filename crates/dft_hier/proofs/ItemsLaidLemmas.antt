@@ -34,6 +34,7 @@ use Rattle.dft_hier.proofs.LivePartLemmas.{DeadGive, NetsExact, items_from, own_
 use Rattle.dft_hier.proofs.NumberLemmas.{module_there, number_within, graph_count, graph_within}
 use Rattle.dft_hier.proofs.PartLemmas.{deep_enough, nets_deep_enough, nets_same, tall_module, count_same}
 use Rattle.dft_hier.proofs.ReachLemmas.{stands_more}
+use Rattle.dft_hier.proofs.ModuleLemmas.{module_at}
 
 -- a live item is one of the module's own, or a module instance
 abbrev IsGood : (ms : List Module) → (all : List Item) → (children : List ℕ) → LiveItem → Type 0
@@ -184,17 +185,9 @@ module _ (library : List Cell) (ms : List Module) (weights : List Weight) (items
       good_items ms weights m.items (children_at (children_of ms) number) 0 m.items (children_at (children_of ms) number) (λ j. (let e : 0 + j ≡ j = omega arith in ap (slice_get m.items) e)) (paired_at ms number m known there) (λ k h. h) at x
       (sym (ap (λ (ls : List LiveItem). slice_get ls at) (lists_at number m there)) ∙ is)
 
-  module_at : (number : ℕ) → number < length ms → (m : Module) × (slice_get ms number ≡ Some m)
-  module_at number less = search_for ms number less
-    where
-      search_for : (xs : List Module) (k : ℕ) → k < length xs → (m : Module) × (slice_get xs k ≡ Some m)
-      search_for [] k less = absurd (omega (arith, less))
-      search_for (x ∷ xs) zero less = (x, refl)
-      search_for (x ∷ xs) (suc k) less = search_for xs k (omega (arith, less))
-
   live_past : (number at : ℕ) (x : LiveItem) → slice_get (live_items_at items number) at ≡ Some x → (m : Module) × (slice_get ms number ≡ Some m)
   live_past number at x is = elim (cases_lt number (length ms)) [
-    | inl less ↦ module_at number less
+    | inl less ↦ module_at ms number less
     | inr past ↦ (
         let c = live.count in
         let none : get_or items number no_live ≡ no_live = get_or_past items number no_live (omega arith) in
@@ -213,7 +206,7 @@ module _ (library : List Cell) (ms : List Module) (weights : List Weight) (items
   sub_there number at l is =
       let m = live_past number at (Sub l) is in
       let good = good_at number m.0 m.1 at (Sub l) is in
-      let child = module_at l.child (number_within ms good.sub.of l.child good.number) in
+      let child = module_at ms l.child (number_within ms good.sub.of l.child good.number) in
       record {
         sub = good.sub;
         item_at = ap (λ (o : Option Module). slice_get (items_in o) l.item) m.1 ∙ good.item_at;

@@ -24,6 +24,7 @@ use Rattle.dft_hier.proofs.LiveLemmas.{GivesNone, exact_weight, live_nets_from, 
 use Rattle.dft_hier.proofs.NumberLemmas.{module_there, number_within, graph_count, graph_within}
 use Rattle.dft_hier.proofs.PartLemmas.{nets_deep_enough, tall_module, count_same}
 use Rattle.dft_hier.proofs.ReachLemmas.{stands_more}
+use Rattle.dft_hier.proofs.ModuleLemmas.{module_at}
 
 -- ---- live instances are instances
 
@@ -113,24 +114,16 @@ module _ (ms : List Module) (weights : List Weight) (items : List Live) (known :
       let f : None ≡ Some l = ap (λ (x : Live). slice_get x.with_nets place) (sym none) ∙ at in
       cc
 
-  module_there_at : (number : ℕ) → number < length ms → (m : Module) × (slice_get ms number ≡ Some m)
-  module_there_at number less = find ms number less
-    where
-      find : (xs : List Module) (k : ℕ) → k < length xs → (m : Module) × (slice_get xs k ≡ Some m)
-      find [] k less = absurd (omega (arith, less))
-      find (x ∷ xs) zero less = (x, refl)
-      find (x ∷ xs) (suc k) less = find xs k (omega (arith, less))
-
   live_among : (number place : ℕ) (l : LiveSub) → slice_get (live_at items number) place ≡ Some l → StandsIn (children_at (children_of ms) number) l.child
   live_among number place l at = elim (cases_lt number (length ms)) [
-    | inl less ↦ (let m = module_there_at number less in (subs_of_module number m.0 m.1 place l at).among)
+    | inl less ↦ (let m = module_at ms number less in (subs_of_module number m.0 m.1 place l at).among)
     | inr past ↦ absurd (live_past number place l past at)
   ]
 
   sub_there : (number place : ℕ) (l : LiveSub) (m : Module) → slice_get ms number ≡ Some m → slice_get (live_at items number) place ≡ Some l → IsSubAt ms number l
   sub_there number place l m there at =
       let is = subs_of_module number m there place l at in
-      let child = module_there_at l.child (number_within ms is.sub.of l.child is.number) in
+      let child = module_at ms l.child (number_within ms is.sub.of l.child is.number) in
       record {
         sub = is.sub;
         item_at = ap (λ (o : Option Module). slice_get (items_in o) l.item) there ∙ is.item_at;
@@ -143,7 +136,7 @@ module _ (ms : List Module) (weights : List Weight) (items : List Live) (known :
   laid = record {
     count = live.count;
     subs = λ number place l at. elim (cases_lt number (length ms)) [
-      | inl less ↦ (let m = module_there_at number less in sub_there number place l m.0 m.1 at)
+      | inl less ↦ (let m = module_at ms number less in sub_there number place l m.0 m.1 at)
       | inr past ↦ absurd (live_past number place l past at)
     ];
     gives = laid_gives;

@@ -142,7 +142,7 @@ instance_of ms items v l is prefix =
 
 -- ---- how many steps are left
 
-sum_push : {X : Type 0} (f : X → ℕ) (xs : List X) (x : X) → total_by f (xs ++ x ∷ []) ≡ total_by f xs + f x
+pub sum_push : {X : Type 0} (f : X → ℕ) (xs : List X) (x : X) → total_by f (xs ++ x ∷ []) ≡ total_by f xs + f x
 sum_push f [] x = omega arith
 sum_push f (y ∷ xs) x = let r = sum_push f xs x in omega arith
 

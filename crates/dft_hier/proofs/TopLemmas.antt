@@ -5,6 +5,7 @@ use Rattle.std.proofs.lemmas.List.{take_all, length-replicate}
 use Rattle.std.proofs.lemmas.List.Sums.{sum_by-cons}
 use Rattle.std.proofs.lemmas.List.Folds.{list_any_more}
 use Rattle.dft_base.proofs.ListLemmas.{none_marked, marked}
+use Rattle.dft_base.proofs.BitLemmas.{or_assoc}
 use Rattle.dft_hier.specs.Reach.{Graph}
 use Rattle.dft_hier.specs.TopNumbers.{AreInstantiated, IsTop, is_instantiated, top_numbers}
 
@@ -12,12 +13,8 @@ use Rattle.dft_hier.specs.TopNumbers.{AreInstantiated, IsTop, is_instantiated, t
 pub mark_more : (old now : List Bool) (children : List ℕ) (k i : ℕ) (child : ℕ) → k < length children → child ≡ get_or children k child → child < length now →
     get_or now i false ≡ (get_or old i false || list_any (λ c. c == i) (take k children)) → get_or (set now child true) i false ≡ (get_or old i false || list_any (λ c. c == i) (take (k + 1) children))
 mark_more old now children k i child less is live h =
-    marked now child i live ∙ ap (λ (b : Bool). b || (child == i)) h ∙ assoc (get_or old i false) (list_any (λ c. c == i) (take k children)) (child == i)
+    marked now child i live ∙ ap (λ (b : Bool). b || (child == i)) h ∙ or_assoc (get_or old i false) (list_any (λ c. c == i) (take k children)) (child == i)
     ∙ ap (λ (b : Bool). get_or old i false || b) (ap (λ (c : ℕ). list_any (λ x. x == i) (take k children) || (c == i)) is ∙ sym (list_any_more (λ c. c == i) children k child less))
-  where
-    assoc : (a b c : Bool) → ((a || b) || c) ≡ (a || (b || c))
-    assoc true b c = refl
-    assoc false b c = refl
 
 pub mark_all : (old now : List Bool) (children : List ℕ) (k i : ℕ) → length children ≤ k → get_or now i false ≡ (get_or old i false || list_any (λ c. c == i) (take k children)) → get_or now i false ≡ (get_or old i false || list_any (λ c. c == i) children)
 mark_all old now children k i past h = h ∙ ap (λ (xs : List ℕ). get_or old i false || list_any (λ c. c == i) xs) (take_all k children past)
