@@ -2,7 +2,7 @@
 use Rattle.std.proofs.Common.{ℕ, zero, suc, ◌+◌, ◌<◌, ◌≡◌, Bool, true, false, cond, List, [], ◌∷◌, ◌++◌, length, Option, None, Some, slice_get, unwrap_or, refl, sym, ap, subst, arith, ◌∙◌, ◌⊎◌, inl, inr}
 use Rattle.std.specs.Prelude.{◌&&◌}
 use Rattle.std.proofs.lemmas.Bool.{cases_lt}
-use Rattle.std.proofs.lemmas.List.{length-append}
+use Rattle.std.proofs.lemmas.List.{length-append, append-nil}
 use Rattle.std.proofs.lemmas.Option.{none-some, same_Some}
 use Rattle.dft_base.specs.Solutions.{Equation, Contradicts, IsSum, StatesFrom, bit_at, equation_at, ids_to, odd_at, odd_bits, sum_to, xor}
 use Rattle.dft_base.proofs.SumLemmas.{sum_same, xor_false, xor_assoc, xor_comm}
@@ -58,13 +58,9 @@ unfolding Differ
 differ_push y [] below differ = ((λ k at. none-some y at), tt)
 differ_push y (x ∷ xs) below differ = ((λ k at. first_push x y xs k below.0 differ.0 at), differ_push y xs below.1 differ.1)
 
-append_none : (l : List ℕ) → l ++ [] ≡ l
-append_none [] = refl
-append_none (x ∷ l) = ap (λ (r : List ℕ). x ∷ r) (append_none l)
-
 differ_one : (t : Bool) (y : ℕ) (xs : List ℕ) → Below y xs → Differ xs → Differ (xs ++ cond t (y ∷ []) [])
 differ_one true y xs below differ = differ_push y xs below differ
-differ_one false y xs below differ = subst Differ (sym (append_none xs)) differ
+differ_one false y xs below differ = subst Differ (sym (append-nil xs)) differ
 
 differ_ids : (m : ℕ) (picks : ℕ → Bool) (es : List Equation) → ((i j : ℕ) → i < j → j < m → (equation_at es i).id < (equation_at es j).id) → Differ (ids_to m picks es)
 unfolding Differ

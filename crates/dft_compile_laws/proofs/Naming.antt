@@ -32,7 +32,7 @@ use Rattle.dft_pattern_behavior.proofs.Listed.{AllNets, all_both}
 use Rattle.dft_pattern_behavior.proofs.Places.{added_nets, all_inputs}
 use Rattle.dft_compile_laws.specs.Formed.{HasQuotableBits}
 use Rattle.dft_compile_laws.proofs.Fitting.{HasDir, Behind, ports_in_dirs, ports_out_dirs}
-use Rattle.dft_compile_laws.proofs.Rows.{Rises, all_above, all_nets, rises_drop, rises_from, rises_ports}
+use Rattle.dft_compile_laws.proofs.Rows.{Rises, all_above, all_nets, rises_drop, rises_from, rises_ports, net_number}
 
 -- ---- nets that differ
 
@@ -76,10 +76,7 @@ names_apart : (w : Netlist) (x y : NetId) → IsNetlist w → x.0 < length w.net
 names_apart w x y sound live_x live_y apart same =
     let at_x : slice_get w.nets x.0 ≡ Some (name_of w x) = slice_get-get_or w.nets x.0 [] live_x in
     let at_y : slice_get w.nets y.0 ≡ Some (name_of w y) = slice_get-get_or w.nets y.0 [] live_y in
-    apart (number_of x y (sound.names (name_of w x) (Net x) (Net y) at_x (at_y ∙ ap Some (sym same))))
-  where
-    number_of : (a b : NetId) → Net a ≡ Net b → a.0 ≡ b.0
-    number_of a b e = cc
+    apart (net_number x y (sound.names (name_of w x) (Net x) (Net y) at_x (at_y ∙ ap Some (sym same))))
 
 abbrev Unlike : StilSignal → StilSignal → Type 0
 Unlike s t = s.name ≢ t.name

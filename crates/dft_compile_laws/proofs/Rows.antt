@@ -30,12 +30,12 @@ use Rattle.dft_pattern_behavior.proofs.Places.{not_in}
 
 -- ---- the nets of signals
 
+pub net_number : (a b : NetId) → Net a ≡ Net b → a.0 ≡ b.0
+net_number a b e = cc
+
 named_by : (n : Netlist) (q : Text) (k : NetId) (o : Option NetId) → IsNetlist n → slice_get n.nets k.0 ≡ Some q → find_net n q ≡ o → or_past (length n.nets) o ≡ k.0
 named_by n q k None sound at found = absurd (not_found 0 n.nets q found k.0 at)
 named_by n q k (Some j) sound at found = let same : Net j ≡ Net k = sound.names q (Net j) (Net k) (found_named n q j found) at in net_number j k same
-  where
-    net_number : (a b : NetId) → Net a ≡ Net b → a.0 ≡ b.0
-    net_number a b e = cc
 
 pub all_nets : (P : ℕ → Type 0) (xs : List NetId) → All (λ (net : NetId). P net.0) xs → AllNets P xs
 all_nets P [] h = tt

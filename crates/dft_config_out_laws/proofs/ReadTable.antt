@@ -5,6 +5,7 @@ use Rattle.std.specs.List.{All}
 use Rattle.std.proofs.lemmas.Bool.Decides.{nat_tests}
 use Rattle.std.proofs.lemmas.List.{length-map}
 use Rattle.std.proofs.lemmas.List.Elements.{recursion_from_All}
+use Rattle.std.proofs.lemmas.Bool.{eq-eqb}
 use Rattle.dft_base.specs.Name.{IsName}
 use Rattle.dft_base.specs.Words.{is_later_reserved, is_simple_name}
 use Rattle.toml.specs.Data.{string}
@@ -86,16 +87,13 @@ injectors_is channels stages list all =
     ∙ ap (λ (o : Option (List Pair)). after (needed key.Injectors o (λ found. Ok found)) (injectors_of channels stages)) (injector_pairs list)
     ∙ injectors_are channels stages list (recursion_from_All (λ injector. (injector.channel < channels) × (injector.stage < stages)) list all)
 
-equal_is : (a b : ℕ) → a ≡ b → (a == b) ≡ true
-equal_is a b e = grind (arith, nat_tests)
-
 below_each : (bound : ℕ) (lists : List (List ℕ)) → All (IsSet bound) lists → All (λ numbers. All (λ n. n < bound) numbers) lists
 below_each bound lists all k d less = (all k d less).below
 
 phase_is : (chains stages : ℕ) (lists : List (List ℕ)) → length lists ≡ chains → All (IsSet stages) lists → phase chains stages (Some (lists_data lists)) ≡ Ok lists
 unfolding phase
 phase_is chains stages lists count all =
-    let many : (length (map (map pos) lists) == chains) ≡ true = equal_is (length (map (map pos) lists)) chains (length-map lists (map pos) ∙ count) in
+    let many : (length (map (map pos) lists) == chains) ≡ true = eq-eqb (length (map (map pos) lists)) chains (length-map lists (map pos) ∙ count) in
     ap (λ (o : Option (List (List ℤ))). needed key.Phase (option_and_then (of_length chains) o) (lists_below key.Phase stages)) (lists_are (λ x. x) lists)
     ∙ ap (λ (b : Bool). needed key.Phase (if b then Some (map (map pos) lists) else None) (lists_below key.Phase stages)) many
     ∙ lists_below_are key.Phase stages lists (recursion_from_All (λ numbers. All (λ n. n < stages) numbers) lists (below_each stages lists all))

@@ -76,7 +76,7 @@ text_read cells made few is = (table_of made, text_is_table cells made few is, t
 
 -- ---- a text gives one configuration, or a refusal
 
-table_one : (text : List ℕ) (a b : Members) → IsTable text a → IsTable text b → a ≡ b
+pub table_one : (text : List ℕ) (a b : Members) → IsTable text a → IsTable text b → a ≡ b
 table_one text a b x y = let e : Some a ≡ Some b = sym x.1 ∙ y.1 in cc
 
 pub config_one : (text : List ℕ) (a b : Config) → IsConfig text a → IsConfig text b → a ≡ b

@@ -82,7 +82,7 @@ mask_stands n ports edt run before i at single well library clock h =
       hold = subst (λ (k : ℕ). IsFlop l edt.edt_clock.0 k hold.0 next.value.0) is (made_flop n ports (suc i + instances_in next.parts) at.library edt.edt_clock next.value hold single well library clock there.0);
     }
 
-mask_size : (edt : EdtPorts) (run before : NetId) (at : Start) → instances_in (a_mask edt run before at).parts ≡ 5
+pub mask_size : (edt : EdtPorts) (run before : NetId) (at : Start) → instances_in (a_mask edt run before at).parts ≡ 5
 unfolding a_mask a_next a_driving_gate
 mask_size edt run before at = refl
 
@@ -93,7 +93,7 @@ abbrev pub before_place : List MaskNets → (first : ℕ) → (port : NetId) →
 before_place masks first port zero = port
 before_place masks first port (suc k) = (masks_at masks (first + k)).mask
 
-segment_size : (edt : EdtPorts) (run before : NetId) (count : ℕ) (at : Start) → instances_in (a_segment edt run before count at).parts ≡ 5 * count
+pub segment_size : (edt : EdtPorts) (run before : NetId) (count : ℕ) (at : Start) → instances_in (a_segment edt run before count at).parts ≡ 5 * count
 unfolding a_segment
 segment_size edt run before zero at = refl
 segment_size edt run before (suc count) at =

@@ -89,7 +89,7 @@ stage_stands n ports ring edt run stages stage i at hw flops single well library
 
 -- ---- the ring
 
-no_instance : (k from : ℕ) (at : Start) → instances_in (collect (λ _. a_net) (range_with_len from k) at).parts ≡ 0
+pub no_instance : (k from : ℕ) (at : Start) → instances_in (collect (λ _. a_net) (range_with_len from k) at).parts ≡ 0
 unfolding collect
 no_instance zero from at = refl
 no_instance (suc k) from at =

@@ -19,6 +19,7 @@ use Rattle.dft_generate_laws.proofs.Nets.{has-other}
 use Rattle.dft_generate_laws.proofs.Ties.{numbers_differ}
 use Rattle.dft_generate_laws.proofs.CubeWords.{is_inside, digits_inside, printed_word, three_words, word_last, three_line}
 use Rattle.dft_generate_laws.proofs.CubeBits.{Takes, takes_more, takes_line, fits_none, pending, bit_read, bit_fits}
+use Rattle.dft_generate_laws.proofs.Lengths.{small_drop}
 
 -- ---- words
 
@@ -127,15 +128,10 @@ module _ (size : ℕ) (words : List ℕ) (few : size ≤ 20000) (some : 0 < size
       let four : at + 4 - at ≡ 4 = omega arith in
       let f = front (drop at words) (let e = at_drop words at (omega (arith, inside)) in omega (arith, e, inside)) in
       let is : words_in size words cube ≡ f.0 ∷ f.1 ∷ f.2 ∷ f.3 ∷ [] = subst (λ (k : ℕ). take k (drop at words) ≡ f.0 ∷ f.1 ∷ f.2 ∷ f.3 ∷ []) {x = 4} (sym four) f.4 in
-      let low = lows (drop at words) f.0 f.1 f.2 f.3 f.4 (dropped words at are.small) in
+      let low = lows (drop at words) f.0 f.1 f.2 f.3 f.4 (small_drop words at are.small) in
       subst (λ (ws : List ℕ). Takes size words few some (pending size words few some cubes name domain []) (bit_lines size ws) (pending size words few some cubes name domain (bits_given size ws))) {x = f.0 ∷ f.1 ∷ f.2 ∷ f.3 ∷ []} (sym is)
       (four_read f.0 f.1 f.2 f.3 cubes name domain low.0 low.1 low.2 low.3)
     where
-      dropped : (xs : List ℕ) (k : ℕ) → All (λ w. w < 2 ^ 32) xs → All (λ w. w < 2 ^ 32) (drop k xs)
-      dropped xs zero all = all
-      dropped [] (suc k) all = all
-      dropped (x ∷ xs) (suc k) all = dropped xs k (λ i d lt. all (suc i) d (omega (arith, lt)))
-
       lows : (xs : List ℕ) (a b c d : ℕ) → take 4 xs ≡ a ∷ b ∷ c ∷ d ∷ [] → All (λ w. w < 2 ^ 32) xs → (a < 2 ^ 32) × (b < 2 ^ 32) × (c < 2 ^ 32) × (d < 2 ^ 32)
       lows [] a b c d e all = absurd (let f : ⊥ = cc in f)
       lows (w ∷ []) a b c d e all = absurd (let f : ⊥ = cc in f)

@@ -94,7 +94,7 @@ small_at [] k all = omega arith
 small_at (x ∷ xs) zero all = all 0 0 (omega arith)
 small_at (x ∷ xs) (suc k) all = small_at xs k (λ i d lt. all (suc i) d (omega (arith, lt)))
 
-small_drop : (xs : List ℕ) (k : ℕ) → All (λ w. w < 2 ^ 32) xs → All (λ w. w < 2 ^ 32) (drop k xs)
+pub small_drop : (xs : List ℕ) (k : ℕ) → All (λ w. w < 2 ^ 32) xs → All (λ w. w < 2 ^ 32) (drop k xs)
 small_drop xs zero all = all
 small_drop [] (suc k) all = all
 small_drop (x ∷ xs) (suc k) all = small_drop xs k (λ i d lt. all (suc i) d (omega (arith, lt)))

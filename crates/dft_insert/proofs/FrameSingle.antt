@@ -40,6 +40,7 @@ use Rattle.dft_insert.specs.Frame.{framed_pins, as_scan_cell, framed_instance, f
 use Rattle.dft_insert.specs.Ports.{added_ports, gap_in}
 use Rattle.dft_insert.proofs.Frames.{scan_pair}
 use Rattle.dft_insert.proofs.FrameRanks.{outs_start, laid}
+use Rattle.dft_insert.proofs.Merging.{differ_down}
 
 -- ---- a scan cell drives what its flip-flop drove
 
@@ -148,9 +149,6 @@ added_below Edt n config =
     subst (λ (k : ℕ). DriveBelow k (added_drives Edt n config)) size
     (subst (λ (ports : List NewPort). DriveBelow (before + length inputs) (driven_by_ports (ports_from before (a ∷ b ∷ c ∷ ports)))) (append_assoc channels masks outputs)
     (ports_below before inputs outputs (λ k. outputs_none k config.names.output 0 (length config.compactor.groups))))
-
-pub differ_down : (a b : ℕ) → b < a → (a == b) ≡ false
-differ_down = grind arith
 
 none_before : (from net : ℕ) (ds : List Driven) → Rises from ds → net < from → NoneAt ds net
 none_before from net [] h less = tt

@@ -2,7 +2,7 @@
 use Rattle.std.proofs.Common.{ℕ, zero, suc, ◌≡◌, ◌==◌, Bool, true, false, List, [], ◌∷◌, ◌++◌, length, Option, Some, slice_get, refl, sym, subst, ap, arith, ◌∙◌, ◌⊎◌, inl, inr}
 use Rattle.std.specs.Prelude.{if◌then◌else◌}
 use Rattle.std.specs.List.{AllByRecursion}
-use Rattle.std.proofs.lemmas.Bool.{eqb-true}
+use Rattle.std.proofs.lemmas.Bool.{eqb-true, eq-eqb}
 use Rattle.std.proofs.lemmas.Bool.Decides.{nat_tests}
 use Rattle.std.proofs.lemmas.Option.{none-some, same_Some}
 use Rattle.dft_base.proofs.BitLemmas.{true_false}
@@ -73,10 +73,7 @@ joined_other (suc j) pin net (y ∷ xs) (suc i) apart = joined_other j pin net x
 
 joined_by : (j pin : ℕ) (net : NetId) (xs : List Instance) (i : ℕ) (x : Instance) (b : Bool) → (j == i) ≡ b → slice_get xs i ≡ Some x → slice_get (instance_joined j pin net xs) i ≡ Some (record x { pins = joined_if pin net b x.pins })
 joined_by j pin net xs i x true is h = subst (λ k. slice_get (instance_joined j pin net xs) k ≡ Some (record x { pins = pin_joined pin net x.pins })) (eqb-true j i is) (joined_here j pin net xs x (ap (slice_get xs) (eqb-true j i is) ∙ h))
-joined_by j pin net xs i x false is h = joined_other j pin net xs i (λ same. absurd (true_false (j == i) (equal j i same) is)) ∙ h
-  where
-    equal : (m k : ℕ) → m ≡ k → (m == k) ≡ true
-    equal m k same = grind (arith, nat_tests, same)
+joined_by j pin net xs i x false is h = joined_other j pin net xs i (λ same. absurd (true_false (j == i) (eq-eqb j i same) is)) ∙ h
 
 joined_at : (j pin : ℕ) (net : NetId) (xs : List Instance) (i : ℕ) (x : Instance) → slice_get xs i ≡ Some x → slice_get (instance_joined j pin net xs) i ≡ Some (record x { pins = joined_if pin net (j == i) x.pins })
 joined_at j pin net xs i x h = joined_by j pin net xs i x (j == i) refl h

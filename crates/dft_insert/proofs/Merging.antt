@@ -47,6 +47,9 @@ joined_front i pin net [] ys less = absurd (omega (arith, less))
 joined_front zero pin net (x ∷ xs) ys less = refl
 joined_front (suc i) pin net (x ∷ xs) ys less = ap (λ (zs : List Instance). x ∷ zs) (joined_front i pin net xs ys (omega (arith, less)))
 
+pub differ_down : (a b : ℕ) → b < a → (a == b) ≡ false
+differ_down = grind arith
+
 joined_more : (i pin : ℕ) (net : NetId) (parts : List Part) (b j : ℕ) (xs : List Instance) → i ≡ b + j →
     map_from (λ (k : ℕ) (x : Instance). record x { pins = joined_in parts k (if i == k then pin_joined pin net x.pins else x.pins) }) b xs ≡ map_from (joined_at parts) b (instance_joined j pin net xs)
 joined_more i pin net parts b j [] is = refl
@@ -56,11 +59,8 @@ joined_more i pin net parts b zero (x ∷ xs) is =
     (map_from_same (λ (k : ℕ) (y : Instance). record y { pins = joined_in parts k (if i == k then pin_joined pin net y.pins else y.pins) }) (joined_at parts) (suc b) xs
     (λ k y at. ap (λ t. record y { pins = joined_in parts (suc b + k) (if t then pin_joined pin net y.pins else y.pins) }) (less_apart i (suc b + k) (omega (arith, is)))))
 joined_more i pin net parts b (suc j) (x ∷ xs) is =
-    ap (λ t. record x { pins = joined_in parts b (if t then pin_joined pin net x.pins else x.pins) } ∷ map_from (λ (k : ℕ) (y : Instance). record y { pins = joined_in parts k (if i == k then pin_joined pin net y.pins else y.pins) }) (suc b) xs) (not_number i b (omega (arith, is)))
+    ap (λ t. record x { pins = joined_in parts b (if t then pin_joined pin net x.pins else x.pins) } ∷ map_from (λ (k : ℕ) (y : Instance). record y { pins = joined_in parts k (if i == k then pin_joined pin net y.pins else y.pins) }) (suc b) xs) (differ_down i b (omega (arith, is)))
     ∙ ap (λ (ys : List Instance). joined_at parts b x ∷ ys) (joined_more i pin net parts (suc b) j xs (omega (arith, is)))
-  where
-    not_number : (m k : ℕ) → k < m → (m == k) ≡ false
-    not_number m k less = grind (arith, nat_tests, less)
 
 same_from : (i : ℕ) (xs : List Instance) → map_from (joined_at []) i xs ≡ xs
 same_from i [] = refl

@@ -1,7 +1,7 @@
 -- Which cubes loads bring.
 use Rattle.std.proofs.Common.{ℕ, zero, suc, ◌*◌, ◌≡◌, ◌==◌, ◌⊎◌, inl, inr, Bool, true, false, List, [], ◌∷◌, Option, None, Some, is_none, slice_get, unwrap_or, refl, sym, ap, ap₂, subst, arith, ◌∙◌}
 use Rattle.std.specs.Prelude.{◌&&◌, if◌then◌else◌}
-use Rattle.std.proofs.lemmas.Bool.{eqb-true}
+use Rattle.std.proofs.lemmas.Bool.{eqb-true, eq-eqb}
 use Rattle.std.proofs.lemmas.Nat.{div-add-mod'}
 use Rattle.std.proofs.lemmas.Option.{none-some, same_Some, slice_get_within}
 use Rattle.dft_base.proofs.BitLemmas.{true_false}
@@ -43,10 +43,7 @@ use Rattle.dft_load_laws.proofs.Sums.{row_bit, row_is}
 
 -- it stands in a list, or nowhere there
 place_none : (x : InstanceId) (cells : List InstanceId) (cell : InstanceId) → (x.0 == cell.0) ≡ false → ((k : ℕ) → slice_get cells k ≡ Some cell → ⊥) → (k : ℕ) → slice_get (x ∷ cells) k ≡ Some cell → ⊥
-place_none x cells cell apart none zero h = true_false (x.0 == cell.0) (same (x.0) (cell.0) (ap (λ (c : InstanceId). c.0) (same_Some x cell h))) apart
-  where
-    same : (a b : ℕ) → a ≡ b → (a == b) ≡ true
-    same a b e = grind (arith, e)
+place_none x cells cell apart none zero h = true_false (x.0 == cell.0) (eq-eqb x.0 cell.0 (ap (λ (c : InstanceId). c.0) (same_Some x cell h))) apart
 place_none x cells cell apart none (suc k) h = none k h
 
 place_by : (x : InstanceId) (cells : List InstanceId) (cell : InstanceId) (b : Bool) → (x.0 == cell.0) ≡ b → ((k : ℕ) × (slice_get cells k ≡ Some cell)) ⊎ ((k : ℕ) → slice_get cells k ≡ Some cell → ⊥) →

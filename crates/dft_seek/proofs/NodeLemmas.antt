@@ -11,6 +11,7 @@ use Rattle.dft_base.specs.declared.tri.Tri.{Tri}
 use Rattle.dft_base.specs.declared.tri.Tri.TheVariants.{One, Unknown}
 use Rattle.dft_base.proofs.NumberLemmas.{other_test}
 use Rattle.dft_base.proofs.ListLemmas.{any_map}
+use Rattle.dft_base.proofs.BitLemmas.{same_tests}
 use Rattle.dft_netlist.specs.declared.ids.NetId.{NetId}
 use Rattle.dft_netlist.specs.declared.ids.InstanceId.{InstanceId}
 use Rattle.dft_netlist.specs.Netlist.{Netlist}
@@ -291,13 +292,8 @@ whole_few (v ∷ vs) [] is = absurd (let f : ⊥ = cc in f)
 whole_few (v ∷ vs) (bit ∷ bits) is = (let below = whole_few vs bits is in omega (arith, below))
 
 whole_same : (vs : List Variable) (bits : List Bool) (count : ℕ) → length vs ≡ count → is_whole vs bits ≡ nat_le count (length bits)
-whole_same vs bits count size = by (is_whole vs bits) (nat_le count (length bits)) (λ is. le-leb count (length bits) (let few = whole_few vs bits is in omega (arith, few, size)))
+whole_same vs bits count size = same_tests (is_whole vs bits) (nat_le count (length bits)) (λ is. le-leb count (length bits) (let few = whole_few vs bits is in omega (arith, few, size)))
     (λ is. whole_at vs bits (let few = leb-true count (length bits) is in omega (arith, few, size)))
-  where
-    by : (a b : Bool) → (a ≡ true → b ≡ true) → (b ≡ true → a ≡ true) → a ≡ b
-    by true b to from = sym (to refl)
-    by false true to from = from refl
-    by false false to from = refl
 
 pub count_of : (cone : Cone) → length (cone_of cone).variables ≡ length cone.cells.items + length cone.ports.items
 count_of cone =

@@ -5,6 +5,7 @@ use Rattle.std.specs.List.{AllByRecursion}
 use Rattle.std.proofs.lemmas.Bool.{eq-eqb, or_right}
 use Rattle.std.proofs.lemmas.Bool.Decides.{leb_tells}
 use Rattle.std.proofs.lemmas.List.{get_or_past}
+use Rattle.std.proofs.lemmas.Option.{slice_get_past}
 use Rattle.dft_netlist.specs.declared.ids.NetId.{NetId}
 use Rattle.dft_netlist.specs.declared.ids.InstanceId.{InstanceId}
 use Rattle.dft_netlist.specs.declared.instance.Instance.{Instance}
@@ -52,12 +53,7 @@ can_by n m config same range passed netlist library ordered =
 
 -- an instance that is not there has no pins
 past_pins : (n : Netlist) (i : ℕ) → length n.instances ≤ i → pins_of n i ≡ []
-past_pins n i past = ap (connected_at n.library) (none_there n.instances i past)
-  where
-    none_there : (xs : List Instance) (k : ℕ) → length xs ≤ k → slice_get xs k ≡ None
-    none_there [] k far = refl
-    none_there (x ∷ xs) zero far = absurd (omega (arith, far))
-    none_there (x ∷ xs) (suc k) far = none_there xs k (omega (arith, far))
+past_pins n i past = ap (connected_at n.library) (slice_get_past n.instances i past)
 
 no_pins_of : (n : Netlist) (i : ℕ) → pins_of n i ≡ [] → ArePinsOf n i no_pins
 no_pins_of n i none = record {

@@ -6,9 +6,9 @@ use Rattle.std.specs.Str.{bytes_eq}
 use Rattle.std.proofs.lemmas.Bool.{eqb-true, or_right, false_from_ne_true}
 use Rattle.std.proofs.lemmas.Bool.Decides.{leb_tells}
 use Rattle.std.proofs.lemmas.Slice.Eq.{bytes_eq-Decides}
-use Rattle.std.proofs.lemmas.Option.{none-some, same_Some}
+use Rattle.std.proofs.lemmas.Option.{none-some, same_Some, slice_get_past}
 use Rattle.dft_base.specs.Lexing.{Text}
-use Rattle.dft_base.proofs.TextLemmas.{same_text}
+use Rattle.dft_base.proofs.TextLemmas.{same_text, bytes_eq-self}
 use Rattle.dft_cells.specs.FlipFlops.{is_flip_flop}
 use Rattle.dft_cells.specs.declared.kind.Role.TheVariants as role
 use Rattle.dft_netlist.specs.declared.ids.NetId.{NetId}
@@ -39,9 +39,6 @@ use Rattle.dft_seek.specs.Rigs.{held_meaning}
 use Rattle.dft_seek.proofs.MarkLemmas.{either_up}
 
 -- ---- a clock is no reset
-
-bytes_same : (a : Text) → bytes_eq a a ≡ true
-bytes_same a = (bytes_eq-Decides a a).1 refl
 
 name_there : (from : ℕ) (nets : List Text) (name : Text) (k : NetId) → find_net_from from nets name ≡ Some k → (i : ℕ) × ((k.0 ≡ from + i) × (slice_get nets i ≡ Some name))
 name_there from [] name k is = absurd (none-some k is)
@@ -77,7 +74,7 @@ name_among n net (name ∷ names) is = elim (either_up (is_net net (input_net n 
 
 has_it : (names : List Text) (k : ℕ) (d x : Text) → k < length names → get_or names k d ≡ x → has bytes_eq names x ≡ true
 has_it [] k d x less is = absurd (omega (arith, less))
-has_it (name ∷ names) zero d x less is = ap (λ (t : Text). bytes_eq t x || has bytes_eq names x) is ∙ ap (λ (b : Bool). b || has bytes_eq names x) (bytes_same x)
+has_it (name ∷ names) zero d x less is = ap (λ (t : Text). bytes_eq t x || has bytes_eq names x) is ∙ ap (λ (b : Bool). b || has bytes_eq names x) (bytes_eq-self x)
 has_it (name ∷ names) (suc k) d x less is = or_right (bytes_eq name x) (has bytes_eq names x) (has_it names k d x (omega (arith, less)) is)
 
 pub no_clock_resets : (n : Netlist) (config : Config) (net : ℕ) → IsInRange config → (config_ports n config).is_clock net ≡ true → (config_ports n config).is_reset net ≡ true → ⊥
@@ -188,14 +185,9 @@ cell_there n config c can is =
 -- a scanned cell is an instance of the design
 pub cell_live : (n : Netlist) (config : Config) (c : ℕ) → CanCapture n config → has_cell (all_cells (plan_of n config).chains) c ≡ true → c < length n.instances
 cell_live n config c can is = elim (leb_tells (length n.instances) c) [
-  | inl out ↦ absurd (let none : false ≡ true = sym (ap (λ (o : Option Instance). may_be_scanned (kind_of n.library o)) (get_past n.instances c out.1)) ∙ (cell_there n config c can is).kind in let f : ⊥ = cc in f)
+  | inl out ↦ absurd (let none : false ≡ true = sym (ap (λ (o : Option Instance). may_be_scanned (kind_of n.library o)) (slice_get_past n.instances c out.1)) ∙ (cell_there n config c can is).kind in let f : ⊥ = cc in f)
   | inr less ↦ less.1
 ]
-  where
-    get_past : (xs : List Instance) (i : ℕ) → length xs ≤ i → slice_get xs i ≡ None
-    get_past [] i past = refl
-    get_past (x ∷ xs) zero past = absurd (omega (arith, past))
-    get_past (x ∷ xs) (suc i) past = get_past xs i (omega (arith, past))
 
 -- ---- what nets mean in a capture
 

@@ -2,6 +2,7 @@
 use Rattle.std.proofs.Common.{ℕ, ◌≡◌, ◌<◌, ◌≤◌, ◌⊎◌, ◌∙◌, inl, inr, nat_lt, true, pos, List, [], ◌∷◌, codes, length, refl, sym, ap, subst, arith, Option, None, Some, option_map, Result, Ok, Err}
 use Rattle.std.proofs.lemmas.Bool.{cases_lt}
 use Rattle.std.proofs.lemmas.Bool.Decides.{nat_tests}
+use Rattle.dft_config_out_laws.proofs.TextRead.{config_one}
 use Rattle.dft_files.specs.Outside.{Held}
 use Rattle.dft_cells.specs.declared.cell.Cell.{Cell}
 use Rattle.dft_cells.specs.Standard.{standard_cells}
@@ -89,7 +90,7 @@ use Rattle.dft_top.proofs.Lengths.{late_short}
 use Rattle.dft_top.proofs.ManyVectors.{replay_many}
 use Rattle.dft_top.proofs.PassingFiles.{replay_read}
 use Rattle.dft_top.proofs.Promised.{are_cubes}
-use Rattle.dft_top.proofs.Readings.{accepted_or_refused, config_one, config_refused, cubes_refused, file_one, given_next, netlist_refused, ok_same, pattern_text_one}
+use Rattle.dft_top.proofs.Readings.{accepted_or_refused, config_refused, cubes_refused, file_one, given_next, netlist_refused, ok_same, pattern_text_one}
 use Rattle.dft_top.proofs.Replays.{on_passes}
 use Rattle.dft_top.proofs.ScannedDesigns.{scanned_given}
 use Rattle.dft_top.proofs.Steps.{CompileOf, CompileOn, CompileOver, CompileWith}

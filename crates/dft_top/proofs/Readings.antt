@@ -1,5 +1,6 @@
 -- A file gives one value or one refusal at most.
 use Rattle.std.proofs.Common.{ℕ, ◌≡◌, ◌⊎◌, inl, inr, List, length, codes, refl, sym, ap, ◌∙◌, arith, Option, None, Some, Result, Ok, Err, subst}
+use Rattle.dft_config_out_laws.proofs.TextRead.{config_one, table_one}
 use Rattle.dft_files.specs.Outside.{Held, file_at}
 use Rattle.dft_cells.specs.Data.{Members}
 use Rattle.dft_cells.specs.Text.{IsTable, IsNoTable}
@@ -100,9 +101,6 @@ text_of limit option text_gives (Some text) value x = (text, x.1)
 
 -- ---- the library
 
-table_one : (text : List ℕ) (t u : Members) → IsTable text t → IsTable text u → t ≡ u
-table_one text t u x y = let e : Some t ≡ Some u = sym x.1 ∙ y.1 in cc
-
 library_one : (text : List ℕ) (a b : List Cell) → IsLibraryOf text a → IsLibraryOf text b → a ≡ b
 library_one text a b x y = let e : Ok a ≡ Ok b = sym x.2 ∙ ap library_of (table_one text x.0 y.0 x.1 y.1) ∙ y.2 in cc
 
@@ -143,9 +141,6 @@ library_gives_one None held (Err refusal) s x y = absurd x
 library_gives_one (Some name) held r s x y = file_one MAX_LIBRARY_BYTES (codes "library") LibraryText library_text_one (file_at name held) r s x y
 
 -- ---- the configuration
-
-pub config_one : (text : List ℕ) (a b : Config) → IsConfig text a → IsConfig text b → a ≡ b
-config_one text a b x y = let e : Ok a ≡ Ok b = sym x.2 ∙ ap reading (table_one text x.0 y.0 x.1 y.1) ∙ y.2 in cc
 
 -- a refusal is that of no table, or tells the first fault
 abbrev Tells : List ℕ → ConfigError → Type 0

@@ -3,7 +3,7 @@ use Rattle.std.proofs.Common.{◌≡◌, ◌≢◌, ℕ, zero, suc, ◌+◌, ◌
 use Rattle.std.specs.List.{All, position, position_or_len}
 use Rattle.std.proofs.lemmas.List.Elements.{All-head, All-tail}
 use Rattle.std.proofs.lemmas.Bool.{eqb-true, eq-eqb, ne_eqb}
-use Rattle.std.proofs.lemmas.List.{length_push, length-set, append_assoc}
+use Rattle.std.proofs.lemmas.List.{length_push, length-set, append_assoc, append-nil}
 use Rattle.dft_base.specs.Ranges.{going_up}
 use Rattle.dft_base.proofs.ListLemmas.{cons_by}
 use Rattle.dft_netlist.specs.declared.ids.NetId.{NetId}
@@ -151,10 +151,7 @@ AreBelow count [] = Unit {0}
 AreBelow count (net ∷ nets) = (net < count) × AreBelow count nets
 
 with_numbers-behind : (done nets : List ℕ) (count : ℕ) → AreBelow count nets → with_numbers nets (length done) (numbers_among done count) ≡ numbers_among (done ++ nets) count
-with_numbers-behind done [] count below = ap (λ xs. numbers_among xs count) (sym (nil done)) where
-  nil : (xs : List ℕ) → xs ++ [] ≡ xs
-  nil [] = refl
-  nil (x ∷ xs) = ap (λ t. x ∷ t) (nil xs)
+with_numbers-behind done [] count below = ap (λ xs. numbers_among xs count) (sym (append-nil done))
 with_numbers-behind done (net ∷ nets) count below =
     let one : suc (length done) ≡ length (done ++ net ∷ []) = sym (length_push done net ∙ add-one (length done)) in
     ap₂ (λ n xs. with_numbers nets n xs) one (with_number-one done count net below.0)
