@@ -5,16 +5,15 @@ use Rattle.std.proofs.Math.Nat.{mod-eq_of_lt, mod-lt}
 use Rattle.std.proofs.lemmas.Bool.{eq-eqb, or_right}
 use Rattle.std.proofs.lemmas.List.Elements.{All-from_recursion}
 use Rattle.std.proofs.lemmas.List.FromFn.{length-map-range_with_len}
-use Rattle.dft_base.proofs.NumberLemmas.{same_or_past}
+use Rattle.dft_base.proofs.NumberLemmas.{same_or_past, more_apart}
 use Rattle.dft_config.specs.Range.{IsCompactorInRange, IsSet, all_differ, has, same_number}
 use Rattle.dft_configure.specs.Compacting.{group_of, groups_of, is_of}
-use Rattle.dft_insert.proofs.FrameSingle.{differ_down}
 
 -- ---- chosen numbers of a range
 
 none_by : (p : ℕ → Bool) (a n k : ℕ) (b : Bool) → k < a → has same_number (filter p (range_with_len (a + 1) n)) k ≡ false →
     has same_number (cond b (a ∷ filter p (range_with_len (a + 1) n)) (filter p (range_with_len (a + 1) n))) k ≡ false
-none_by p a n k true less rest = ap (λ (c : Bool). c || has same_number (filter p (range_with_len (a + 1) n)) k) (differ_down a k less) ∙ rest
+none_by p a n k true less rest = ap (λ (c : Bool). c || has same_number (filter p (range_with_len (a + 1) n)) k) (more_apart k a less) ∙ rest
 none_by p a n k false less rest = rest
 
 none_before : (p : ℕ → Bool) (a n k : ℕ) → k < a → has same_number (filter p (range_with_len a n)) k ≡ false
