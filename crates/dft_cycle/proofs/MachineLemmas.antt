@@ -7,7 +7,7 @@ use Rattle.std.specs.Vec.{with_items}
 use Rattle.std.proofs.lemmas.List.{get_or_past, drop_all}
 use Rattle.dft_base.specs.declared.tri.Tri.{Tri}
 use Rattle.dft_base.specs.declared.tri.Tri.TheVariants.{Unknown}
-use Rattle.dft_base.proofs.BitLemmas.{or_later}
+use Rattle.dft_base.proofs.BitLemmas.{or_later, or_false}
 use Rattle.dft_netlist.specs.declared.ids.NetId.{NetId}
 use Rattle.dft_netlist.specs.Drivers.{Source}
 use Rattle.dft_netlist.specs.Logic.{Logic, Cell, Force}
@@ -19,7 +19,6 @@ use Rattle.dft_cycle.specs.Machine.{Machine, value_at, is_one_of, ports_of, logi
 use Rattle.dft_logic.specs.Circuit.{Circuit, IsReady, logic_at, cell_of, cell_at, flag_at, base_of, leaves_from, IsCircuit}
 use Rattle.dft_cycle.specs.Views.{AreFalling, Rises, rank_of, Among, AreNext}
 use Rattle.std.proofs.lemmas.Option.{slice_get-get_or}
-use Rattle.std.proofs.lemmas.List.Folds.{or-false}
 use Rattle.dft_base.proofs.ListLemmas.{refilled_items}
 use Rattle.dft_registers.specs.declared.moves.Move.{Move}
 use Rattle.dft_registers.specs.Cells.{Contents, course}
@@ -335,7 +334,7 @@ flag_more clocks flags j e all a live before =
 
 pub flag_end : (clocks : List NetId) (flags : List Bool) (j e : ℕ) (all : Bool) → length clocks ≤ j → (flag_at flags e || is_one_of (drop j clocks) e) ≡ all → flag_at flags e ≡ all
 flag_end clocks flags j e all past before =
-    sym (or-false (flag_at flags e)) ∙ sym (ap (λ (l : List NetId). flag_at flags e || is_one_of l e) (drop_all j clocks past)) ∙ before
+    sym (or_false (flag_at flags e)) ∙ sym (ap (λ (l : List NetId). flag_at flags e || is_one_of l e) (drop_all j clocks past)) ∙ before
 
 pub one_among : (clocks : List NetId) (e : ℕ) → is_one_of clocks e ≡ true → Among clocks (length clocks) e
 one_among [] e h = absurd cc

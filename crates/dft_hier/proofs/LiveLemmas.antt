@@ -1,9 +1,8 @@
 -- The items of modules that give something: what is left out gives nothing.
 use Rattle.std.proofs.Common.{ℕ, zero, suc, ◌+◌, ◌≡◌, Bool, true, false, ◌||◌, cond, nat_lt, List, [], ◌∷◌, ◌++◌, length, drop, get_or, map, Option, None, Some, is_some, slice_get, refl, sym, ap, subst, arith, ◌∙◌, length-append, append_assoc, append-nil, true≢false}
 use Rattle.std.specs.List.{list_any, cons_option}
-use Rattle.std.proofs.lemmas.List.Folds.{or-false}
 use Rattle.dft_base.specs.Lexing.{Text}
-use Rattle.dft_base.proofs.BitLemmas.{or_assoc}
+use Rattle.dft_base.proofs.BitLemmas.{or_assoc, or_false}
 use Rattle.dft_modules.specs.declared.module.SubInstance.{SubInstance}
 use Rattle.dft_modules.specs.declared.module.Item.{Item}
 use Rattle.dft_modules.specs.declared.module.Item.TheVariants as item
@@ -48,7 +47,7 @@ with_subs : (depth : ℕ) (ms : List Module) (weights : List Weight) (subs : Lis
     with_all w (weights_of weights (numbers_of_subs ms subs)) ≡ record { nets = at_most (nets + length (subs_nets (nets_in depth ms) ms [] subs)); lives = lives || subs_live (lives_in depth ms) ms subs }
 with_subs depth ms weights [] w nets lives is exact =
     let e : nets ≡ nets + 0 = omega arith in
-    is ∙ ap (λ (n : ℕ). record { nets = at_most n; lives = lives }) e ∙ ap (λ (b : Bool). record { nets = at_most (nets + 0); lives = b }) (sym (or-false lives))
+    is ∙ ap (λ (n : ℕ). record { nets = at_most n; lives = lives }) e ∙ ap (λ (b : Bool). record { nets = at_most (nets + 0); lives = b }) (sym (or_false lives))
 with_subs depth ms weights (s ∷ subs) w nets lives is exact = by (number_of ms s.of) refl exact (with_subs depth ms weights subs)
   where
     more_nets : List Text
@@ -87,7 +86,7 @@ with_subs depth ms weights (s ∷ subs) w nets lives is exact = by (number_of ms
         let none = none_found (find_module ms s.of) (sym (some_first 0 ms s.of) ∙ ap (λ (o : Option ℕ). is_some o) at) in
         let e : nets + length more_nets ≡ nets + 0 + length more_nets = omega arith in
         more w nets lives is exact ∙ ap (λ (n : ℕ). record { nets = at_most n; lives = lives || more_lives }) e
-        ∙ ap (λ (b : Bool). record { nets = at_most (nets + 0 + length more_nets); lives = b || more_lives }) (sym (or-false lives)) ∙ whole None none
+        ∙ ap (λ (b : Bool). record { nets = at_most (nets + 0 + length more_nets); lives = b || more_lives }) (sym (or_false lives)) ∙ whole None none
     by (Some k) at exact more =
         let there = module_there ms s.of k at in
         let m = found_some ms s.of k at in

@@ -126,7 +126,6 @@ module _ (test : Kind → Bool) (library : List Cell) (well : IsWellFormed libra
       (sum_has (stage_terms ring ports.channels stages stage))
       (λ sum. weighs_bind (weight test library) library (a_driving_gate And (sum ∷ run ∷ [])) (λ kept. a_flop ports.edt_clock kept (net_at stages stage)) 0 flop (driving_has And (sum ∷ run ∷ []) none.and) (λ kept. flop_has ports.edt_clock kept (net_at stages stage))))
 
-
   abbrev ring_end : (run : NetId) → (phases : List NetId) → Recipe Ring
   ring_end run phases = pure (record { run = run; phases = phases })
 

@@ -161,7 +161,6 @@ falls_here (x ∷ cells) f c has is = elim (eqb_tells x.0 c) [
   | inr other ↦ or_right (f x.0) (list_any (λ cell. f cell.0) cells) (falls_here cells f c (sym (ap (λ (b : Bool). b || list_any (λ cell. cell.0 == c) cells) other.0) ∙ has) is)
 ]
 
-
 pub has_some : (s : Search) (c : ℕ) → takes_at s true c ≡ true → has_falling s ≡ true
 has_some s c is = falls_here (cells_in s) (takes_at s true) c (and_first (has_cell (cells_in s) c) (is_of s.domain true (clock_of (judgements s.design s.config) (record { 0 = c }))) is) is
 
