@@ -141,7 +141,7 @@ module _ (test : Kind → Bool) (library : List Cell) (well : IsWellFormed libra
   stages_have : (config : Config) (ports : EdtPorts) (run : NetId) (stages : List NetId) → Has (each (a_stage config.ring ports run stages) (range_with_len 0 config.ring.stages)) (times config.ring.stages flop)
   stages_have config ports run stages =
       weighs_as (weight test library) library (each (a_stage config.ring ports run stages) (range_with_len 0 config.ring.stages)) (sum_of (λ stage. flop) (range_with_len 0 config.ring.stages)) (times config.ring.stages flop)
-      (sum_same flop (range_with_len 0 config.ring.stages) ∙ ap (λ k. times k flop) (length_range 0 config.ring.stages))
+      (sum_same flop (range_with_len 0 config.ring.stages) ∙ ap (λ k. times k flop) (length-range_with_len 0 config.ring.stages))
       (weighs_each (weight test library) library (a_stage config.ring ports run stages) (λ stage. flop) (range_with_len 0 config.ring.stages) (λ stage. stage_has config.ring ports run stages stage))
 
   ring_has : (config : Config) (ports : EdtPorts) → Has (a_ring config ports) (times config.ring.stages flop)

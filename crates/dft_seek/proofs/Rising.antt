@@ -109,7 +109,7 @@ any_chosen chosen f h more (point ∷ points) is = by_choice (any_chosen chosen 
 
     by_choice : (list_any f (filter chosen points) ≡ true → list_any h points ≡ true) → (c : Bool) → list_any f (if c then point ∷ filter chosen points else filter chosen points) ≡ true → (h point || list_any h points) ≡ true
     by_choice below true is = either (f point) (h point) (list_any f (filter chosen points)) (more point) is below
-    by_choice below false is = behind (h point) (list_any h points) (below is)
+    by_choice below false is = or_right (h point) (list_any h points) (below is)
 
 -- ---- found nodes
 
