@@ -19,7 +19,6 @@ loop-dead-init c =
     let s : Search = search_in c.args.self.now c.args.fault in
     let cone : Cone = cone_of c.in_ok-cone.cone in
     record {
-      name = refl;
       opens = c.in_ok-values.ensures.opens;
       at = subst (λ (l : List Bool). AreAt c.in_ok-cone.cone l c.in_ok-values.values) (sym c.in_ok-bits.ensures.items) (c.in_ok-values.ensures.at c.in_ok-cone.cone);
       room = omega (arith, c.in_ok-bits.ensures.exact, c.in_ok-cone.cone.cells.ok.0, c.in_ok-cone.cone.ports.ok.0);
@@ -37,7 +36,6 @@ loop-dead-preserved c =
     let leaf = subst (λ (b : Bool). IsLeaf s cone c.loop-dead.bits.items c.descend.new.bits.items b) c.if-descend.false c.descend.ensures.leaf in
     let dead = left_dead s cone c.loop-dead._dead c.loop-dead.bits.items c.descend.new.bits.items c.loop-dead.invariant.left leaf in
     record {
-      name = c.loop-dead.invariant.name;
       opens = c.turn.ensures.opens c.args.fault c.descend.ensures.opens;
       at = c.turn.ensures.at;
       room = omega (arith, c.turn.ensures.room, c.descend.ensures.room, c.loop-dead.invariant.room);
@@ -52,9 +50,9 @@ returns-then-descend c =
     let old = c.loop-dead.bits.items in
     let new = c.descend.new.bits.items in
     let leaf = subst (λ (b : Bool). IsLeaf s cone old new b) c.if-descend.true c.descend.ensures.leaf in
-    let P : Found → Type 0 = λ f. f ≡ found.Cube (cube_at c.loop-dead.name s.domain cone.variables c.deref.result.now) in
-    let same : found.Cube (cube_at c.loop-dead.name s.domain cone.variables c.deref.result.now) ≡ found.Cube (cube_at c.args.name s.domain cone.variables new) =
-    λ t. found.Cube (cube_at (c.loop-dead.invariant.name t) s.domain cone.variables (c.deref.ensures.value t)) in
+    let P : Found → Type 0 = λ f. f ≡ found.Cube (cube_at c.args.name s.domain cone.variables c.deref.result.now) in
+    let same : found.Cube (cube_at c.args.name s.domain cone.variables c.deref.result.now) ≡ found.Cube (cube_at c.args.name s.domain cone.variables new) =
+    λ t. found.Cube (cube_at c.args.name s.domain cone.variables (c.deref.ensures.value t)) in
     let told = tells_cube s cone c.args.limit c.loop-dead._dead c.args.name old new c.in_ok-cone.ensures.cone (omega (arith, c.loop-dead-test.true)) c.loop-dead.invariant.left leaf in
     IfOk-weaker c.cube.result P (IsSought s c.args.limit c.args.name) (λ f is. subst (IsSought s c.args.limit c.args.name) (sym (is ∙ same)) told) c.cube.ensures
 
@@ -74,9 +72,9 @@ returns-then-descend-2 c =
     let old = c.loop-dead.bits.items in
     let new = c.descend-2.new.bits.items in
     let leaf = subst (λ (b : Bool). IsLeaf s cone old new b) c.if-descend-2.true c.descend-2.ensures.leaf in
-    let P : Found → Type 0 = λ f. f ≡ found.Cube (cube_at c.loop-dead.name s.domain cone.variables c.deref-then-descend-2.result.now) in
-    let same : found.Cube (cube_at c.loop-dead.name s.domain cone.variables c.deref-then-descend-2.result.now) ≡ found.Cube (cube_at c.args.name s.domain cone.variables new) =
-    λ t. found.Cube (cube_at (c.loop-dead.invariant.name t) s.domain cone.variables (c.deref-then-descend-2.ensures.value t)) in
+    let P : Found → Type 0 = λ f. f ≡ found.Cube (cube_at c.args.name s.domain cone.variables c.deref-then-descend-2.result.now) in
+    let same : found.Cube (cube_at c.args.name s.domain cone.variables c.deref-then-descend-2.result.now) ≡ found.Cube (cube_at c.args.name s.domain cone.variables new) =
+    λ t. found.Cube (cube_at c.args.name s.domain cone.variables (c.deref-then-descend-2.ensures.value t)) in
     let told = tells_cube s cone c.args.limit c.loop-dead._dead c.args.name old new c.in_ok-cone.ensures.cone c.loop-dead.auto._dead-end c.loop-dead.invariant.left leaf in
     IfOk-weaker c.cube-then-descend-2.result P (IsSought s c.args.limit c.args.name) (λ f is. subst (IsSought s c.args.limit c.args.name) (sym (is ∙ same)) told) c.cube-then-descend-2.ensures
 

@@ -9,7 +9,6 @@ use Rattle.dft_seek.proofs.rig.Rig.seek.Given as goal
 
 abbrev pub invariant-loop-dead : goal.invariant-loop-dead
 invariant-loop-dead l = record {
-  name : l.name ≡ l.initial.name;
   opens : AreOpen l.self l.fault l.cone.needed.items l.values;
   at : AreAt l.cone l.bits.items l.values;
   room : length l.cone.cells.items + length l.cone.ports.items ≤ vec_capacity l.bits;
