@@ -1,7 +1,7 @@
 -- Without lock-ups, where one domain pulses at most, its view in the rises is the strobe.
 use Rattle.std.proofs.Common.{ℕ, Bool, true, false, not, ◌≡◌, ◌==◌, refl, sym, ap, ◌∙◌, Option, None, Some}
 use Rattle.std.specs.Prelude.{if◌then◌else◌}
-use Rattle.std.proofs.lemmas.Bool.{eq-eqb}
+use Rattle.std.proofs.lemmas.Bool.{eq-eqb, and_parts}
 use Rattle.dft_base.specs.declared.tri.Tri.{Tri}
 use Rattle.dft_base.specs.declared.tri.Tri.TheVariants.{Zero, Unknown}
 use Rattle.dft_base.specs.Tri.{AboveTri, join}
@@ -12,7 +12,6 @@ use Rattle.dft_netlist.specs.Settled.{value_from, IsTriSettled}
 use Rattle.dft_netlist.specs.Runs.{Vector, takes}
 use Rattle.dft_abstract.specs.Cycle.{Pulse, tri_forced_by, tri_taken_by, changes, view_sources, AreViews, next_value, IsLeast, rise_of, fall_of, strobe_sources, Round}
 use Rattle.dft_abstract.specs.Laws.{HasNoLockup, next_from, OneDomain}
-use Rattle.dft_abstract.proofs.Phases.{of_both}
 use Rattle.dft_abstract.proofs.Views.{views_exist, settled_same}
 use Rattle.dft_abstract.proofs.Halves.{rises_change, rising_after}
 
@@ -40,7 +39,7 @@ view_is_strobe : (l : Logic) (rank : ℕ → ℕ) (x : Vector) (d : ℕ) (old va
     IsTriSettled l (strobe_sources l x old values) values → AreViews l (rise_of l x old) poss view → (net : ℕ) → view d net ≡ values net
 view_is_strobe l rank x d old values poss view ranked none one settled views net =
     settled_same l rank (view_sources l (rise_of l x old) poss view d) (strobe_sources l x old values) (view d) values ranked (views d) settled
-    (λ k. refl) (λ e. clock_low (x.pulsed e) (e == d) (one e)) (λ c. flop_old (changes l (rise_of l x old) c) ((l.cell c).domain == d) _ _ (λ ch. one (l.cell c).domain (of_both (x.pulsed (l.cell c).domain) (not (l.cell c).falling) ch).0))
+    (λ k. refl) (λ e. clock_low (x.pulsed e) (e == d) (one e)) (λ c. flop_old (changes l (rise_of l x old) c) ((l.cell c).domain == d) _ _ (λ ch. one (l.cell c).domain (and_parts (x.pulsed (l.cell c).domain) (not (l.cell c).falling) ch).0))
     (λ k c e high source is ih below. absurd (none k c e high source is)) net
 
 next_is : (l : Logic) (x : Vector) (old values : ℕ → Tri) (view : ℕ → ℕ → Tri) (c : ℕ) → ((net : ℕ) → view (l.cell c).domain net ≡ values net) → next_value l (rise_of l x old) view c ≡ next_from l x values c
@@ -78,7 +77,7 @@ alone_view : (l : Logic) (rank : ℕ → ℕ) (p : Pulse) (d : ℕ) (poss other 
     AreViews l p poss view → AreViews l p other its → (net : ℕ) → its d net ≡ view d net
 alone_view l rank p d poss other view its ranked none one views at net =
     let own : (map : ℕ → Tri) (c : ℕ) → (if changes l p c then (if (l.cell c).domain == d then p.old c else map c) else p.old c) ≡ p.old c =
-    λ map c. flop_old (changes l p c) ((l.cell c).domain == d) (p.old c) (map c) (λ ch. one (l.cell c).domain (of_both (p.pulsed (l.cell c).domain) (takes p.rising (l.cell c).falling) ch).0) in
+    λ map c. flop_old (changes l p c) ((l.cell c).domain == d) (p.old c) (map c) (λ ch. one (l.cell c).domain (and_parts (p.pulsed (l.cell c).domain) (takes p.rising (l.cell c).falling) ch).0) in
     settled_same l rank (view_sources l p other its d) (view_sources l p poss view d) (its d) (view d) ranked (at d) (views d)
     (λ k. refl) (λ e. refl) (λ c. own other c ∙ sym (own poss c))
     (λ k c e high source is ih below. absurd (none k c e high source is)) net
@@ -96,7 +95,7 @@ alone_least l rank p d ranked none one =
     let view : ℕ → ℕ → Tri = (views_exist l rank p poss ranked).0 in
     let views : AreViews l p poss view = (views_exist l rank p poss ranked).1 in
     let next_at : (other : ℕ → Tri) (its : ℕ → ℕ → Tri) → AreViews l p other its → (c : ℕ) → changes l p c ≡ true → next_value l p its c ≡ next_value l p first c =
-    λ other its at c ch. (let own = one (l.cell c).domain (of_both (p.pulsed (l.cell c).domain) (takes p.rising (l.cell c).falling) ch).0 in
+    λ other its at c ch. (let own = one (l.cell c).domain (and_parts (p.pulsed (l.cell c).domain) (takes p.rising (l.cell c).falling) ch).0 in
     next_same l p first its c
     (λ net. ap (λ (e : ℕ). its e net) own ∙ alone_view l rank p d p.old other first its ranked none (λ e up. eq-eqb e d (one e up)) firsts at net ∙ sym (ap (λ (e : ℕ). first e net) own))) in (
       poss,

@@ -1,7 +1,7 @@
 -- The values of a phase stand above the bits after every order of its edges.
 use Rattle.std.proofs.Common.{ℕ, Bool, true, false, not, ◌&&◌, List, [], ◌∷◌, ◌≡◌, ◌<◌, ◌+◌, ◌==◌, inl, inr, zero, suc, refl, sym, ap, subst, arith, Option, None, Some, ◌∙◌, map}
 use Rattle.std.specs.Prelude.{if◌then◌else◌}
-use Rattle.std.proofs.lemmas.Bool.{eqb-true, eq-eqb, cases_Bool, and_from, and_left}
+use Rattle.std.proofs.lemmas.Bool.{eqb-true, eq-eqb, cases_Bool, and_from, and_left, and_parts}
 use Rattle.dft_base.specs.declared.tri.Tri.{Tri}
 use Rattle.dft_base.specs.declared.tri.Tri.TheVariants.{Zero, Unknown}
 use Rattle.dft_base.specs.Tri.{known, Above, AboveTri}
@@ -39,10 +39,6 @@ tri_choice false x y u p q = q refl
 pub bit_choice : (b : Bool) (x y : Bool) (t : Tri) → (b ≡ true → Above t x) → (b ≡ false → Above t y) → Above t (if b then x else y)
 bit_choice true x y t p q = p refl
 bit_choice false x y t p q = q refl
-
-pub of_both : (a b : Bool) → (a && b) ≡ true → (a ≡ true) × (b ≡ true)
-of_both true b h = (refl, h)
-of_both false b h = absurd cc
 
 pub only_second : (a b : Bool) → a ≡ true → (a && b) ≡ b
 only_second true b h = refl
@@ -101,7 +97,7 @@ there p s e d h is = subst (λ (x : ℕ). s.high x ≡ level_before p x) (sym (e
 
 -- the level before an edge that comes
 coming : (l : Logic) (p : Pulse) (c : ℕ) → changes l p c ≡ true → level_before p (l.cell c).domain ≡ not p.rising
-coming l p c ch = only_second (p.pulsed (l.cell c).domain) (not p.rising) (of_both (p.pulsed (l.cell c).domain) (takes p.rising (l.cell c).falling) ch).0
+coming l p c ch = only_second (p.pulsed (l.cell c).domain) (not p.rising) (and_parts (p.pulsed (l.cell c).domain) (takes p.rising (l.cell c).falling) ch).0
 
 flop_above : (l : Logic) (p : Pulse) (poss : ℕ → Tri) (view : ℕ → ℕ → Tri) (s : State) → IsClosed l p poss view → Holds l p view s → (d : ℕ) → s.high d ≡ level_before p d → (c : ℕ) → Above ((view_sources l p poss view d).flops c) (s.flops c)
 flop_above l p poss view s closed holds d before c =
@@ -166,7 +162,7 @@ edge_keeps l p view now d seen before pulsed holds =
     let from : (e : ℕ) (source : Source) → (e == d) ≡ true → Above (value_from (view e) source) (bit_from (sources_of now) now.moment.seen source) =
     λ e source is. source_all (sources_of now) now.moment.seen (view e) source (λ k. seen e k (there p s e d at is)) in
     let turn : ℕ → Bool = λ c. (l.cell c).domain == d && takes p.rising (l.cell c).falling in
-    let takes_it : (c : ℕ) → changes l p c ≡ true → takes p.rising (l.cell c).falling ≡ true = λ c ch. (of_both (p.pulsed (l.cell c).domain) (takes p.rising (l.cell c).falling) ch).1 in
+    let takes_it : (c : ℕ) → changes l p c ≡ true → takes p.rising (l.cell c).falling ≡ true = λ c ch. (and_parts (p.pulsed (l.cell c).domain) (takes p.rising (l.cell c).falling) ch).1 in
     let elsewhere : (c : ℕ) → turn c ≡ false → changes l p c ≡ true → ((l.cell c).domain == d) ≡ false = λ c no ch. first_false ((l.cell c).domain == d) (takes p.rising (l.cell c).falling) no (takes_it c ch) in
     record {
       ports = holds.ports;
@@ -175,12 +171,12 @@ edge_keeps l p view now d seen before pulsed holds =
         | inr is_not ↦ rw is_not (holds.quiet e rests)
       ];
       moved = λ c ch came. bit_choice (turn c) _ _ _
-          (λ now_it. (let is = (of_both ((l.cell c).domain == d) (takes p.rising (l.cell c).falling) now_it).0 in
+          (λ now_it. (let is = (and_parts ((l.cell c).domain == d) (takes p.rising (l.cell c).falling) now_it).0 in
           above_forced (l.cell c).force p.ports (port_bits s now.moment) _ _ (ports_above p.ports s now.moment holds.ports)
           (above_taken (l.cell c).scan (value_from (view (l.cell c).domain)) (bit_from (sources_of now) now.moment.seen) _ _ (λ source. from (l.cell c).domain source is) (from (l.cell c).domain (l.cell c).input is))))
           (λ no. holds.moved c ch (rw (elsewhere c no ch) at came));
       others = λ c comes. bit_choice (turn c) _ _ _
-          (λ now_it. (let two = of_both ((l.cell c).domain == d) (takes p.rising (l.cell c).falling) now_it in
+          (λ now_it. (let two = and_parts ((l.cell c).domain == d) (takes p.rising (l.cell c).falling) now_it in
           absurd (other_bit p.rising (rw two.0 at (comes (and_from (p.pulsed (l.cell c).domain) (takes p.rising (l.cell c).falling) (ap p.pulsed (eqb-true (l.cell c).domain d two.0) ∙ pulsed) two.1))))))
           (λ no. holds.others c (λ ch. rw (elsewhere c no ch) at (comes ch)));
     }
@@ -255,7 +251,7 @@ level_by false rising level up quiet = quiet refl
 pub end_stands : (l : Logic) (p : Pulse) (view : ℕ → ℕ → Tri) (s : State) → Holds l p view s → ((d : ℕ) → p.pulsed d ≡ true → s.high d ≡ p.rising) → StandsAt (λ e. p.pulsed e && p.rising) (after_pulse l p view) s
 end_stands l p view s holds all = record {
   above = λ c. tri_choice (changes l p c) _ _ _
-      (λ ch. holds.moved c ch (all (l.cell c).domain (of_both (p.pulsed (l.cell c).domain) (takes p.rising (l.cell c).falling) ch).0))
+      (λ ch. holds.moved c ch (all (l.cell c).domain (and_parts (p.pulsed (l.cell c).domain) (takes p.rising (l.cell c).falling) ch).0))
       (λ no. holds.others c (λ ch. absurd (let q : true ≡ false = sym ch ∙ no in cc)));
   levels = λ e. level_by (p.pulsed e) p.rising (s.high e) (all e) (holds.quiet e);
 }

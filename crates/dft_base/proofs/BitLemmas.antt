@@ -58,14 +58,6 @@ not_true false is = refl
 pub same_bit : (a b : Bool) → not (xor a b) ≡ true → a ≡ b
 same_bit = grind arith
 
-pub or_right : (x y : Bool) → y ≡ true → (x || y) ≡ true
-or_right true y e = refl
-or_right false y e = e
-
-pub both_down : (a b : Bool) → (a || b) ≡ false → (a ≡ false) × (b ≡ false)
-both_down true b is = absurd cc
-both_down false b is = (refl, is)
-
 pub bit_same : (a : Bool) → not (xor a a) ≡ true
 bit_same true = refl
 bit_same false = refl
@@ -101,3 +93,12 @@ xor_same false false is = refl
 pub with_true : (b : Bool) → b ≡ (b && true)
 with_true true = refl
 with_true false = refl
+
+-- what follows from the second test of two
+pub or_more : (a b c : Bool) → (b ≡ true → c ≡ true) → (a || b) ≡ true → (a || c) ≡ true
+or_more true b c more is = refl
+or_more false b c more is = more is
+
+pub and_assoc : (a b c : Bool) → ((a && b) && c) ≡ (a && (b && c))
+and_assoc true b c = refl
+and_assoc false b c = refl

@@ -6,6 +6,7 @@ pub mod ReservedLemmas
 pub mod SumLemmas
 pub mod BitLemmas
 pub mod NumberLemmas
+pub mod DigitLemmas
 pub mod OptionLemmas
 pub mod ListLemmas
 pub mod TextLemmas

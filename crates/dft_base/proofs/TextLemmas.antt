@@ -47,3 +47,7 @@ printed b e = grind (arith, nat_tests)
 
 pub digits_printed : (index : ℕ) → index < 2 ^ 64 → All IsPrinted (decimal index)
 digits_printed index lt = All-from_get_or IsPrinted (decimal index) 0 (λ i within. let d = digits_decimal (numerals_by_value _ tells_by_index) index lt i within in (omega (arith, d.0), omega (arith, d.1)))
+
+-- a byte from 33 to 126 is printed
+pub printed_byte : (b : ℕ) → 33 ≤ b → b ≤ 126 → is_printed b ≡ true
+printed_byte b low high = grind (arith, nat_tests)

@@ -3,6 +3,7 @@ use Rattle.std.proofs.Common.{ℕ, ◌≡◌, ◌+◌, ◌*◌, ◌%◌, ◌^◌
 use Rattle.std.proofs.lemmas.List.{drop_more}
 use Rattle.std.proofs.lemmas.Grind.{pow_more}
 use Rattle.std.proofs.Math.Pow.{pow_mono}
+use Rattle.dft_cells.proofs.Bits.{weigh}
 use Rattle.dft_toml.specs.Values.{with_first}
 use Rattle.dft_cells.specs.Gates.{number_of}
 use Rattle.dft_cells.specs.Drafts.{bit_of_row, bits_of_rows, number_of_rows}
@@ -18,14 +19,10 @@ one_row : (rows : List ℕ) (i d : ℕ) (bit : Bool) → i < length rows → bit
 one_row rows i d bit less e =
     ap (λ (l : List ℕ). number_of_rows l) (drop_more rows i d less) ∙ first_row bit (bit_of_row (get_or rows i d)) (bits_of_rows (drop (i + 1) rows)) e
 
-weighed : (bit : Bool) (number weight n : ℕ) → number + weight * (cond bit 1 0 + 2 * n) ≡ number + cond bit weight 0 + weight * 2 * n
-weighed true number weight n = omega arith
-weighed false number weight n = omega arith
-
 moved : (bit : Bool) (number weight : ℕ) (rest : Option ℕ)
     → option_map (λ n. number + weight * n) (option_map (λ n. cond bit 1 0 + 2 * n) rest) ≡ option_map (λ n. number + cond bit weight 0 + weight * 2 * n) rest
 moved bit number weight None = refl
-moved bit number weight (Some n) = ap Some (weighed bit number weight n)
+moved bit number weight (Some n) = ap Some (weigh bit number weight n)
 
 pub row_more : (rows : List ℕ) (i d : ℕ) (bit : Bool) (number : ℕ) → i < length rows → bit_of_row (get_or rows i d) ≡ Some bit
     → option_map (λ n. number + 2 ^ i * n) (number_of_rows (drop i rows)) ≡ option_map (λ n. number + cond bit (2 ^ i) 0 + 2 ^ (i + 1) * n) (number_of_rows (drop (i + 1) rows))

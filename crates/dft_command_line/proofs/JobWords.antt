@@ -1,14 +1,14 @@
 -- The options of the commands `certify`, `grade` and `generate`, from the rows that show them.
 use Rattle.std.proofs.Common.{◌≡◌, ◌≤◌, ◌<◌, ◌&&◌, ◌^◌, ℕ, Bool, true, false, List, Option, Some, None, Result, Ok, Err, option_and_then, if◌then◌else◌, codes, length, refl, sym, ap, ap₂, ◌∙◌, subst}
 use Rattle.std.specs.Char.{is_ascii_digit}
-use Rattle.std.specs.Int.{IsInRange}
 use Rattle.std.specs.List.{AllByRecursion, list_all}
 use Rattle.std.specs.Result.{OkIff, result_ok}
 use Rattle.std.specs.Str.Parse.{ParsesUnsigned, digits_value}
 use Rattle.std.proofs.lemmas.Bool.{leb-true, le-leb, ltb-true, lt-ltb, and_parts}
-use Rattle.std.proofs.lemmas.Str.Parse.{IsDigitsTest, IsNumeralModel, numerals_by_value, parse_digits}
+use Rattle.std.proofs.lemmas.Str.Parse.{parse_digits}
 use Rattle.std.proofs.lemmas.Option.{same_Some}
 use Rattle.clap.specs.Walk.{Row}
+use Rattle.dft_base.proofs.DigitLemmas.{all_digits}
 use Rattle.dft_command_line.specs.Words.{CertifyFiles, GradeFiles, IsDecimal, JobNumbers, Text, certify_options, generate_options, grade_options}
 use Rattle.dft_command_line.specs.CommandLine.{certify_from, certify_in, decimal_in, decimal_of, generate_from, generate_in, grade_from, grade_in, is_decimal, perhaps_in, sized, value_in}
 use Rattle.dft_command_line.proofs.Taken.{Shows}
@@ -98,22 +98,6 @@ grade_shows rs files e =
     )
 
 -- ---- decimal numbers
-
-digit_tells : (c : ℕ) → is_ascii_digit c ≡ true → IsInRange 48 57 c
-digit_tells c e = let k = and_parts _ _ e in (leb-true 48 c k.0, leb-true c 57 k.1)
-
-tells_digit : (c : ℕ) → IsInRange 48 57 c → is_ascii_digit c ≡ true
-tells_digit c k = ap₂ (λ a b. a && b) (le-leb 48 c k.0) (le-leb c 57 k.1)
-
-tells_digits : IsDigitsTest (λ ds. list_all is_ascii_digit ds ≡ true)
-tells_digits = record {
-  empty = refl;
-  parts = λ c cs e. let k = and_parts (is_ascii_digit c) (list_all is_ascii_digit cs) e in (digit_tells c k.0, k.1);
-  more = λ c cs k e. ap₂ (λ a b. a && b) (tells_digit c k) e;
-}
-
-all_digits : IsNumeralModel (λ ds. list_all is_ascii_digit ds ≡ true) (digits_value 10)
-all_digits = numerals_by_value (λ ds. list_all is_ascii_digit ds ≡ true) tells_digits
 
 four : (a b c d : Bool) → a ≡ true → b ≡ true → c ≡ true → d ≡ true → (a && (b && (c && d))) ≡ true
 four a b c d p q r s = ap₂ (λ x y. x && y) p (ap₂ (λ x y. x && y) q (ap₂ (λ x y. x && y) r s))

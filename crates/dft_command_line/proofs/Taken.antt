@@ -137,7 +137,7 @@ agrees [] [] = true
 agrees (o ∷ os) (v ∷ vs) = (bytes_eq o.name v.0 && (not o.required || is_some v.1)) && agrees os vs
 agrees _ _ = false
 
-at_most_one : (q : Option Text) → length (list_of q) ≤ 1
+pub at_most_one : (q : Option Text) → length (list_of q) ≤ 1
 at_most_one None = omega arith
 at_most_one (Some v) = omega arith
 

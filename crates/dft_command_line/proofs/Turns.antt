@@ -1,7 +1,6 @@
 -- What `clap` makes of one word behind a command.
 use Rattle.std.proofs.Common.{◌≡◌, ◌==◌, ◌||◌, ℕ, nat_lt, Bool, true, false, not, List, [], ◌∷◌, map, Option, Some, None, option_map, if◌then◌else◌, bytes_eq, refl, sym, ap, ◌∙◌, subst, cond, true≢false}
 use Rattle.std.specs.Option.{option_map_or}
-use Rattle.std.proofs.lemmas.Slice.Eq.{bytes_eq-Decides}
 use Rattle.clap.specs.Lexer.{long_of, short_of, name_and_value}
 use Rattle.clap.specs.Faults.{long_fault, positional_fault, react_fault, repeat_fault, settle_fault, step_fault, turn_fault, use_fault, word_fault}
 use Rattle.clap.specs.Kinds.{Kinds, or_else}
@@ -9,6 +8,7 @@ use Rattle.clap.specs.declared.error.kind.ErrorKind.{ErrorKind}
 use Rattle.clap.specs.declared.error.kind.ErrorKind.TheVariants as kind
 use Rattle.clap.specs.Simple.{App, Shape, built, filled, new_shape}
 use Rattle.clap.specs.Walk.{Held, Rule, Step, Walk, Waiting, Row, option, idle, after_flag, after_step, arg_by_id, arg_by_index, arg_by_long, long_met, option_word, plain_word, reacted, settled, used, used_by_id, walked, word_met}
+use Rattle.dft_base.proofs.TextLemmas.{bytes_eq-self}
 use Rattle.dft_command_line.specs.Words.{Text}
 use Rattle.dft_command_line.specs.CommandLine.{Form, Known, dft_app, forms, may_stand, option_rule}
 use Rattle.dft_command_line.proofs.Options.{Has, are_names, find_known, good_name, is_plain, long_is, met, no_escape, option_from, option_of, word_of}
@@ -243,9 +243,6 @@ after_value : (os : List Known) (id w : Text) (h : Held) → IsPlainWord w →
 unfolding walked
 after_value os id w h plain = rw (value_met os id w h plain) refl
 
-same_bytes : (t : Text) → bytes_eq t t ≡ true
-same_bytes t = (bytes_eq-Decides t t).1 refl
-
 -- the walk behind a value, by the rule of the option
 abbrev value_walked_by : Text → Text → List Row → ℕ → Option Rule → Walk
 value_walked_by n w rows skip r =
@@ -253,7 +250,7 @@ value_walked_by n w rows skip r =
     at met.1 met.0
 
 value_step : (o : Known) (w : Text) (rows : List Row) (skip : ℕ) → value_walked_by o.name w rows skip (Some (rule o)) ≡ at idle (has_value o.name w rows skip)
-value_step o w rows skip = ap (λ b. at (if nat_lt (if b then 1 else 0) 1 then option o.name else idle) (has_value o.name w rows skip)) (same_bytes o.name)
+value_step o w rows skip = ap (λ b. at (if nat_lt (if b then 1 else 0) 1 then option o.name else idle) (has_value o.name w rows skip)) (bytes_eq-self o.name)
 
 pub value_walked : (os : List Known) (o : Known) (w : Text) (rows : List Row) (skip : ℕ) → Has os o → may_stand w ≡ true → is_plain w ≡ true →
     walked (rules os) [] (at (option o.name) (still_waits o.name rows skip)) w ≡ at idle (has_value o.name w rows skip)

@@ -5,7 +5,7 @@ use Rattle.std.specs.List.{All, AllByRecursion}
 use Rattle.std.proofs.lemmas.Bool.{lt-ltb}
 use Rattle.std.proofs.lemmas.Bool.Decides.{nat_tests}
 use Rattle.std.proofs.lemmas.List.Elements.{recursion_from_All}
-use Rattle.dft_base.specs.Bytes.{is_printed}
+use Rattle.dft_base.proofs.TextLemmas.{printed_byte}
 use Rattle.dft_base.specs.Name.{IsName}
 use Rattle.toml.specs.Data.{string}
 use Rattle.dft_toml.specs.Values.{all_printed, name_of, names_in, with_first}
@@ -73,12 +73,9 @@ injectors_are channels stages (injector ∷ injectors) all =
 
 -- ---- names
 
-printed_is : (b : ℕ) → 33 ≤ b → b ≤ 126 → is_printed b ≡ true
-printed_is b low high = grind (arith, nat_tests)
-
 bytes_printed : (bytes : List ℕ) → AllByRecursion (λ b. (33 ≤ b) × (b ≤ 126)) bytes → all_printed bytes ≡ true
 bytes_printed [] all = refl
-bytes_printed (b ∷ bytes) all = (λ i. printed_is b all.0.0 all.0.1 i && bytes_printed bytes all.1 i)
+bytes_printed (b ∷ bytes) all = (λ i. printed_byte b all.0.0 all.0.1 i && bytes_printed bytes all.1 i)
 
 pub name_is : (name : List ℕ) → IsName name → name_of name ≡ Some name
 name_is name is =

@@ -1,5 +1,5 @@
 -- The most used of some ports.
-use Rattle.std.proofs.Common.{◌≡◌, ℕ, zero, suc, ◌+◌, ◌<◌, ◌==◌, Bool, true, false, cond, ◌&&◌, ◌||◌, List, [], ◌∷◌, ◌++◌, map, filter, count_by, Option, refl, sym, ◌∙◌, ap, arith, append-nil}
+use Rattle.std.proofs.Common.{◌≡◌, ℕ, zero, suc, ◌+◌, ◌<◌, ◌==◌, Bool, true, false, cond, ◌&&◌, ◌||◌, List, [], ◌∷◌, ◌++◌, map, filter, count_by, Option, refl, sym, ◌∙◌, ap, arith, append-nil, zero-add}
 use Rattle.std.specs.Prelude.{nat_lt}
 use Rattle.std.specs.List.{range_with_len}
 use Rattle.std.proofs.lemmas.List.{map-append}
@@ -11,13 +11,10 @@ use Rattle.dft_netlist.specs.declared.ids.NetId.{NetId}
 use Rattle.dft_configure.specs.Found.{number, numbers, numbers_of}
 use Rattle.dft_configure.specs.Roots.{comes_before, is_most_used}
 
-plus_zero : (n : ℕ) → 0 + n ≡ n
-plus_zero n = omega arith
-
 -- one number more
 pub count_more : (p : ℕ → Bool) (k : ℕ) → count_by p (range_with_len 0 (k + 1)) ≡ count_by p (range_with_len 0 k) + cond (p k) 1 0
 count_more p k =
-    ap (count_by p) (range_last k) ∙ sum_by-append (λ x. cond (p x) 1 0) (range_with_len 0 k) (k ∷ []) ∙ ap (λ (n : ℕ). count_by p (range_with_len 0 k) + n) (plus_zero (cond (p k) 1 0))
+    ap (count_by p) (range_last k) ∙ sum_by-append (λ x. cond (p x) 1 0) (range_with_len 0 k) (k ∷ []) ∙ ap (λ (n : ℕ). count_by p (range_with_len 0 k) + n) (zero-add (cond (p k) 1 0))
 
 pub filter_more : (p : ℕ → Bool) (k : ℕ) → filter p (range_with_len 0 (k + 1)) ≡ filter p (range_with_len 0 k) ++ cond (p k) (k ∷ []) []
 filter_more p k = ap (filter p) (range_last k) ∙ filter-append p (range_with_len 0 k) (k ∷ [])

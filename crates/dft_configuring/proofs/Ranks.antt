@@ -1,5 +1,5 @@
 -- At most 16 ports are the most used: no two have the same rank.
-use Rattle.std.proofs.Common.{◌≡◌, ℕ, zero, suc, ◌+◌, ◌<◌, ◌≤◌, ◌==◌, ◌⊎◌, inl, inr, Bool, true, false, cond, ◌&&◌, ◌||◌, [], ◌∷◌, length, count_by, refl, sym, ◌∙◌, ap, arith, subst}
+use Rattle.std.proofs.Common.{◌≡◌, ℕ, zero, suc, ◌+◌, ◌<◌, ◌≤◌, ◌==◌, ◌⊎◌, inl, inr, Bool, true, false, cond, ◌&&◌, ◌||◌, [], ◌∷◌, length, count_by, refl, sym, ◌∙◌, ap, arith, subst, zero-add}
 use Rattle.std.specs.Prelude.{nat_lt}
 use Rattle.std.specs.List.{range_with_len}
 use Rattle.std.proofs.lemmas.Bool.Decides.{nat_tests}
@@ -23,10 +23,7 @@ some_of b is = ap one_of is
 
 -- the first number of a range, and the others
 count_cons : (p : ℕ → Bool) (from n : ℕ) → count_by p (range_with_len from (suc n)) ≡ cond (p from) 1 0 + count_by p (range_with_len (from + 1) n)
-count_cons p from n = sum_by-append (λ x. cond (p x) 1 0) (from ∷ []) (range_with_len (from + 1) n) ∙ (λ i. alone (cond (p from) 1 0) i + count_by p (range_with_len (from + 1) n))
-  where
-    alone : (k : ℕ) → 0 + k ≡ k
-    alone k = omega arith
+count_cons p from n = sum_by-append (λ x. cond (p x) 1 0) (from ∷ []) (range_with_len (from + 1) n) ∙ (λ i. zero-add (cond (p from) 1 0) i + count_by p (range_with_len (from + 1) n))
 
 -- what passes the first test passes the second
 count_less : (p q : ℕ → Bool) (from n : ℕ) → ((k : ℕ) → p k ≡ true → q k ≡ true) → count_by p (range_with_len from n) ≤ count_by q (range_with_len from n)

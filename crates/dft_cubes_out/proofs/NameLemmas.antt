@@ -5,7 +5,7 @@ use Rattle.std.specs.List.{list_any, position_or_len}
 use Rattle.std.specs.Option.{option_and_then}
 use Rattle.std.specs.Str.{bytes_eq}
 use Rattle.std.proofs.lemmas.Bool.Decides.{nat_tests}
-use Rattle.std.proofs.lemmas.Bool.{and_parts}
+use Rattle.std.proofs.lemmas.Bool.{and_parts, or_right, or_parts}
 use Rattle.std.proofs.lemmas.Option.{none-some}
 use Rattle.dft_base.specs.Lexing.{Text}
 use Rattle.dft_base.proofs.TextLemmas.{same_text, bytes_eq-self}
@@ -48,10 +48,6 @@ net_by n name net (Some other) sound is named =
 pub port_found : (n : Netlist) (name : Text) (net : NetId) → IsNetlist n → slice_get n.nets net.0 ≡ Some name → is_input (driver n net.0) ≡ true → input_net n name ≡ Some net
 port_found n name net sound named input = rw (net_by n name net (find_net n name) sound refl named, input) refl
 
-or_parts : (a b : Bool) → a || b ≡ false → (a ≡ false) × (b ≡ false)
-or_parts true b h = absurd (let f : ⊥ = cc in f)
-or_parts false b h = (refl, h)
-
 among_by : (n : Netlist) (t : Bool) (other name : Text) (net : NetId) (rest : Bool) → bytes_eq other name ≡ t → input_net n name ≡ Some net → is_net net.0 (input_net n other) ≡ false → rest ≡ false → t || rest ≡ false
 among_by n true other name net rest same is none more =
     let e : other ≡ name = same_text other name same in
@@ -67,14 +63,10 @@ among_stands n (other ∷ names) name net is none =
 
 -- ---- clocks
 
-or_on : (a b : Bool) → b ≡ true → a || b ≡ true
-or_on true b h = refl
-or_on false b h = h
-
 has_at : (xs : List Text) (name : Text) (k : ℕ) → slice_get xs k ≡ Some name → has bytes_eq xs name ≡ true
 has_at [] name k at = absurd (none-some name at)
 has_at (x ∷ xs) name zero at = let e : x ≡ name = cc in rw (ap (λ (t : Text). bytes_eq t name) e ∙ bytes_eq-self name) refl
-has_at (x ∷ xs) name (suc k) at = or_on (bytes_eq x name) (has bytes_eq xs name) (has_at xs name k at)
+has_at (x ∷ xs) name (suc k) at = or_right (bytes_eq x name) (has bytes_eq xs name) (has_at xs name k at)
 
 -- where a name differs from one that stands before it
 abbrev IsPlace : List Text → (name : Text) → (k : ℕ) → Type 0

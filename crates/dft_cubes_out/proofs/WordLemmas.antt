@@ -4,6 +4,7 @@ use Rattle.std.specs.Prelude.{◌||◌}
 use Rattle.std.specs.List.{All, list_all}
 use Rattle.std.proofs.lemmas.Bool.Decides.{nat_tests}
 use Rattle.std.proofs.lemmas.Bool.{and_parts}
+use Rattle.dft_base.proofs.TextLemmas.{printed_byte}
 use Rattle.dft_base.specs.Lexing.{Text}
 use Rattle.dft_base.specs.Bytes.{is_printed}
 use Rattle.dft_word_lines.specs.Lines.{lines_of, onto_first, words_from, words_of, is_printed_word}
@@ -18,9 +19,6 @@ no_gap b h = grind (arith, nat_tests)
 stays : (b : ℕ) → is_printed b ≡ true → eqb b 10 ≡ false
 stays b h = grind (arith, nat_tests)
 
-printed : (b : ℕ) → 33 ≤ b → b ≤ 126 → is_printed b ≡ true
-printed b low high = grind (arith, nat_tests)
-
 -- bytes of a line: of words, or a blank
 abbrev pub is_of_line : ℕ → Bool
 is_of_line b = is_printed b || eqb b 32
@@ -34,7 +32,7 @@ of_line false b is h = absurd (let f : ⊥ = cc in f)
 
 -- ---- a word
 
--- all its bytes are printed, and the first one, which it has, is no `#`
+-- all its bytes are printed_byte, and the first one, which it has, is no `#`
 abbrev pub Stands : Text → Type 0
 Stands [] = ⊥
 Stands (x ∷ w) = (eqb x 35 ≡ false) × (list_all is_printed (x ∷ w) ≡ true)
@@ -43,7 +41,7 @@ all_printed : (w : Text) → All (λ b. (33 ≤ b) × (b ≤ 126)) w → list_al
 all_printed [] each = refl
 all_printed (x ∷ w) each =
     let first = each 0 0 (omega arith) in
-    rw (printed x first.0 first.1) (all_printed w (λ k d lt. each (suc k) d (omega (arith, lt))))
+    rw (printed_byte x first.0 first.1) (all_printed w (λ k d lt. each (suc k) d (omega (arith, lt))))
 
 no_mark : (t : Bool) (x : ℕ) → eqb x 35 ≡ t → (x ≡ 35 → ⊥) → t ≡ false
 no_mark true x is other = absurd (other (let e : x ≡ 35 = grind (arith, nat_tests) in e))

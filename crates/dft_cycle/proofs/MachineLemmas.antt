@@ -195,20 +195,22 @@ pulsed_of m mid after pulsed rise fall =
 
 -- ---- the clocks that pulse
 
+-- where the first of these pulses another, one of the rest pulses
+missed : (b t r : Bool) → t ≡ false → ((b && t) || r) ≡ true → r ≡ true
+missed true false r h u = u
+missed false false r h u = u
+missed true true r h u = absurd cc
+missed false true r h u = absurd cc
+
 -- an entry that is 1 is one of the clocks
 pub pulses_among : (clocks : List NetId) (pulsed : List Bool) (e : ℕ) → pulses clocks pulsed e ≡ true → Among clocks (length clocks) e
 pulses_among [] pulsed e up = absurd cc
 pulses_among (clock ∷ clocks) [] e up = absurd cc
 pulses_among (clock ∷ clocks) (b ∷ pulsed) e up = elim (eqb_tells clock.0 e) [
   | inl q ↦ record { place = 0; before = omega arith; here = q.1 }
-  | inr q ↦ (let rest = pulses_among clocks pulsed e (skip b (clock.0 == e) (pulses clocks pulsed e) q.0 up) in
+  | inr q ↦ (let rest = pulses_among clocks pulsed e (missed b (clock.0 == e) (pulses clocks pulsed e) q.0 up) in
       record { place = suc rest.place; before = (let less = rest.before in omega arith); here = rest.here })
-] where
-  skip : (b t r : Bool) → t ≡ false → ((b && t) || r) ≡ true → r ≡ true
-  skip true false r h u = u
-  skip false false r h u = u
-  skip true true r h u = absurd cc
-  skip false true r h u = absurd cc
+]
 
 pulses_front : (clocks : List NetId) (pulsed : List Bool) (j e : ℕ) → j < length clocks → j < length pulsed →
     pulses (drop j clocks) (drop j pulsed) e ≡ (get_or pulsed j false && ((get_or clocks j (record { 0 = 0 })).0 == e)) || pulses (drop (j + 1) clocks) (drop (j + 1) pulsed) e
@@ -264,19 +266,13 @@ pulses_by P (clock ∷ clocks) (b ∷ pulsed) e up each = elim (eqb_tells clock.
     | inl first ↦ subst P q.1 (each 0 (omega arith) first)
     | inr later ↦ pulses_by P clocks pulsed e later (λ place less. each (suc place) (omega (arith, less)))
   ]
-  | inr q ↦ pulses_by P clocks pulsed e (miss b (clock.0 == e) (pulses clocks pulsed e) q.0 up) (λ place less. each (suc place) (omega (arith, less)))
+  | inr q ↦ pulses_by P clocks pulsed e (missed b (clock.0 == e) (pulses clocks pulsed e) q.0 up) (λ place less. each (suc place) (omega (arith, less)))
 ] where
   hit : (b t r : Bool) → t ≡ true → ((b && t) || r) ≡ true → (b ≡ true) ⊎ (r ≡ true)
   hit true true r h u = inl refl
   hit false true r h u = inr u
   hit true false r h u = absurd cc
   hit false false r h u = absurd cc
-
-  miss : (b t r : Bool) → t ≡ false → ((b && t) || r) ≡ true → r ≡ true
-  miss true false r h u = u
-  miss false false r h u = u
-  miss true true r h u = absurd cc
-  miss false true r h u = absurd cc
 
 -- where no entry of the clocks that pulse may fall, their domains take their bits at rises
 pub pulsed_rise : (x : Circuit) (clocks : List NetId) (falls pulsed : List Bool) (e : ℕ) → AreFalling x clocks falls → ((place : ℕ) → flag_at pulsed place ≡ true → flag_at falls place ≡ false) → pulses clocks pulsed e ≡ true → Rises x e

@@ -1,7 +1,7 @@
 -- The capture, by rank of the original's nets, in the rises and then in the falls.
 use Rattle.std.proofs.Common.{ℕ, zero, suc, Bool, true, false, ◌&&◌, List, [], ◌∷◌, ◌≡◌, ◌==◌, ◌<◌, inl, inr, refl, sym, subst, ap, arith, map, ◌∙◌, Option, None, Some}
 use Rattle.std.specs.Prelude.{if◌then◌else◌}
-use Rattle.std.proofs.lemmas.Bool.{eq-eqb, eqb-true}
+use Rattle.std.proofs.lemmas.Bool.{eq-eqb, eqb-true, and_parts}
 use Rattle.dft_base.specs.declared.tri.Tri.{Tri}
 use Rattle.dft_base.specs.declared.tri.Tri.TheVariants.{Zero, Unknown}
 use Rattle.dft_base.specs.Tri.{known, AboveTri}
@@ -18,7 +18,6 @@ use Rattle.dft_netlist.proofs.Meanings.{pin_monotone}
 use Rattle.dft_abstract.specs.Cycle.{Pulse, tri_forced_by, tri_taken_by, changes, clock_value, view_sources, AreViews, next_value, after_pulse, rise_of, fall_of, strobe_sources}
 use Rattle.dft_abstract.specs.Laws.{next_from}
 use Rattle.dft_abstract.proofs.Forces.{by_twice}
-use Rattle.dft_abstract.proofs.Phases.{of_both}
 use Rattle.dft_abstract.proofs.OneDomain.{flop_old}
 use Rattle.dft_abstract.proofs.Least.{forced_by_monotone}
 use Rattle.dft_chains.specs.ScanOff.{moved_source, moved_force, moved_meaning, Places, IsWithin, IsForceWithin, IsEnabledBy, KeepsFlop}
@@ -197,7 +196,7 @@ module _ (original written : Logic) (rank : ℕ → ℕ) (p : Places) (d : ℕ) 
     clocks = clocks;
     flops = λ c flop. subst (λ t. AboveTri ((rise_of original y state).old c) t)
         (sym (flop_old (changes written q c) ((written.cell c).domain == e) (before c) (poss c)
-        (λ ch. eq-eqb (written.cell c).domain e ((has.flops c flop).domain ∙ ap p.moved (alone c flop (of_both (x.pulsed (written.cell c).domain) (takes rising (written.cell c).falling) ch).0)))))
+        (λ ch. eq-eqb (written.cell c).domain e ((has.flops c flop).domain ∙ ap p.moved (alone c flop (and_parts (x.pulsed (written.cell c).domain) (takes rising (written.cell c).falling) ch).0)))))
         (over c flop);
   }
 
@@ -226,11 +225,11 @@ module _ (original written : Logic) (rank : ℕ → ℕ) (p : Places) (d : ℕ) 
   edge_by : (cell : ℕ) (b : Bool) (had : Tri) → p.is_flop cell ≡ true → (((original.cell cell).domain == d) && takes rising (original.cell cell).falling) ≡ b → AboveTri had (before cell)
       → (takes rising (original.cell cell).falling ≡ true → AllIn free (nets_of ((original.cell cell).input ∷ []))) → AboveTri (if b then next_from original y values cell else had) (after_pulse written q view cell)
   edge_by cell true had is test above among =
-      let both = of_both ((original.cell cell).domain == d) (takes rising (original.cell cell).falling) test in
+      let both = and_parts ((original.cell cell).domain == d) (takes rising (original.cell cell).falling) test in
       taken cell is (eqb-true (original.cell cell).domain d both.0) both.1 (among both.1)
   edge_by cell false had is test above among =
       subst (λ t. AboveTri had t) (sym (pick_false (changes written q cell) (next_value written q view cell) (before cell) (λ ch. (
-      let both = of_both (x.pulsed (written.cell cell).domain) (takes rising (written.cell cell).falling) ch in
+      let both = and_parts (x.pulsed (written.cell cell).domain) (takes rising (written.cell cell).falling) ch in
       let own : ((original.cell cell).domain == d) ≡ true = eq-eqb (original.cell cell).domain d (alone cell is both.0) in
       let edge : takes rising (original.cell cell).falling ≡ true = ap (takes rising) (sym (has.flops cell is).falling) ∙ both.1 in
       let never : true ≡ false = sym (λ i. own i && edge i) ∙ test in

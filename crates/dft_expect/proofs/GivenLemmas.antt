@@ -12,6 +12,7 @@ use Rattle.dft_cells.specs.declared.kind.Kind.TheVariants as kind
 use Rattle.dft_cells.specs.declared.kind.Role.TheVariants as role
 use Rattle.dft_cells.specs.FlipFlops.{is_flip_flop, tri_forced}
 use Rattle.dft_cells.proofs.TriLemmas.{forced_one}
+use Rattle.dft_netlist.proofs.LiveLemmas.{past_free}
 use Rattle.dft_netlist.specs.declared.instance.Join.{Join}
 use Rattle.dft_netlist.specs.declared.net_driver.NetDriver.{NetDriver}
 use Rattle.dft_netlist.specs.declared.net_driver.NetDriver.TheVariants as by
@@ -24,7 +25,6 @@ use Rattle.dft_netlist.specs.Logic.{Cell, Force, Ports, Scan, Input, Clock, cell
 use Rattle.dft_netlist.specs.Settled.{TriSources, inverse}
 use Rattle.dft_netlist.proofs.StoredLemmas.{stored_force}
 use Rattle.dft_abstract.specs.Cycle.{strobe_sources, tri_forced_by}
-use Rattle.dft_logic.proofs.Pasts.{past_free}
 use Rattle.dft_config.specs.Config.{Config}
 use Rattle.dft_rules.specs.Rules.{may_be_scanned}
 use Rattle.dft_expect.specs.Captures.{config_ports}
@@ -195,7 +195,7 @@ net_given n config merged loaded values given net settings can prepared value (i
     subst (λ (d : Driver). IsGiven (sources_of n config merged loaded values) given net (meaning_of n (config_ports n config) net d)) (sym it.is)
     (driven_given n config merged loaded values given net prepared.clocks prepared.resets (setting_at settings net) it.drives can (prepared.domains.each net) (prepared.held.each net) it.set value)
 net_given n config merged loaded values given net settings can prepared value (inr past) =
-    subst (λ (d : Driver). IsGiven (sources_of n config merged loaded values) given net (meaning_of n (config_ports n config) net d)) (sym (past_free n net can.netlist past))
+    subst (λ (d : Driver). IsGiven (sources_of n config merged loaded values) given net (meaning_of n (config_ports n config) net d)) (sym (past_free n can.netlist net past))
     (value ∙ ap (λ (k : Setting). value_by k (bit_of_port merged.ports net) loaded) (get_or_past settings net setting.Unknown (omega (arith, prepared.set.nets, past))))
 
 pub are_given : (n : Netlist) (config : Config) (merged : Merged) (loaded : List Bool) (values given : ℕ → Tri) (settings : List Setting) → CanCapture n config → IsPrepared n config settings

@@ -1,5 +1,5 @@
 -- Masks by chain.
-use Rattle.std.proofs.Common.{ℕ, Bool, false, List, [], ◌∷◌, ◌++◌, ◌≡◌, ◌<◌, ◌≤◌, ◌+◌, ◌-◌, refl, sym, ap, arith, map, take, drop, length, length-append, drop-drop, append_assoc, append-nil, Some, ◌∙◌}
+use Rattle.std.proofs.Common.{ℕ, Bool, false, List, [], ◌∷◌, ◌++◌, ◌≡◌, ◌<◌, ◌≤◌, ◌+◌, ◌-◌, refl, sym, ap, arith, map, take, drop, length, length-append, drop-drop, append_assoc, append-nil, Some, ◌∙◌, zero-add}
 use Rattle.std.specs.Prelude.{◌||◌, slice_get}
 use Rattle.std.specs.List.{list_any, enumerate_from}
 use Rattle.std.proofs.lemmas.List.{get_or-map, drop_all}
@@ -21,10 +21,7 @@ mask_at always values chain cells at =
     let mask : ℕ × List Tri → Bool = λ c. is_masked (bit_at always c.0) c.1 in
     get_or-map mask (enumerate_from 0 values) chain (0, cells) false (omega (arith, length-enumerate_from 0 values))
     ∙ ap mask (get_or-enumerate_from 0 values chain (0, cells) within)
-    ∙ (λ i. is_masked (bit_at always (plus_zero chain i)) (get_or_from_slice_get values chain cells cells at i))
-  where
-    plus_zero : (k : ℕ) → 0 + k ≡ k
-    plus_zero k = omega arith
+    ∙ (λ i. is_masked (bit_at always (zero-add chain i)) (get_or_from_slice_get values chain cells cells at i))
 
 pub unmasked : UnmaskedAreKnown
 unmasked always values chain cells at clear = neither (list_any is_unknown cells) (bit_at always chain) (sym (mask_at always values chain cells at) ∙ clear)

@@ -10,6 +10,7 @@ use Rattle.dft_base.specs.declared.tri.Tri.TheVariants.{Unknown}
 use Rattle.dft_cells.specs.declared.kind.Kind.{Kind}
 use Rattle.dft_cells.specs.declared.kind.Kind.TheVariants as kind
 use Rattle.dft_lanes.specs.declared.wide.Wide.{Wide}
+use Rattle.dft_netlist.proofs.LiveLemmas.{past_free}
 use Rattle.dft_netlist.specs.declared.ids.InstanceId.{InstanceId}
 use Rattle.dft_netlist.specs.declared.instance.Join.{Join}
 use Rattle.dft_netlist.specs.declared.net_driver.NetDriver.{NetDriver}
@@ -22,7 +23,6 @@ use Rattle.dft_netlist.specs.Logic as logic
 use Rattle.dft_netlist.specs.Runs.{Vector}
 use Rattle.dft_netlist.specs.Settled.{TriSources, inverse, value_given}
 use Rattle.dft_abstract.specs.Cycle.{strobe_sources, tri_forced_by}
-use Rattle.dft_logic.proofs.Pasts.{past_free}
 use Rattle.dft_config.specs.Config.{Config}
 use Rattle.dft_rules.specs.Rules.{may_be_scanned}
 use Rattle.dft_stitch.specs.Chains.{plan_of}
@@ -234,7 +234,7 @@ module _ (n : Netlist) (config : Config) (pattern : Pattern) (r : Response) (can
       subst (λ (d : Driver). IsGiven second given net (meaning net d)) (sym it.is)
       (driven_again given net prepared.clocks prepared.resets (setting_at settings net) it.drives it.set value (settled net ∙ ap (λ (d : Driver). value_given first before net (meaning net d)) it.is))
   net_again given net settings prepared value (inr past) =
-      let free = past_free n net can.netlist past in
+      let free = past_free n can.netlist net past in
       subst (λ (d : Driver). IsGiven second given net (meaning net d)) (sym free)
       (value ∙ ap (λ (t : Setting). moved_by t r.cells (before net)) (get_or_past settings net setting.Unknown (omega (arith, prepared.set.nets, past))) ∙ settled net ∙ ap (λ (d : Driver). value_given first before net (meaning net d)) free)
 

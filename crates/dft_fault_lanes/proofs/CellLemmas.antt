@@ -28,6 +28,7 @@ use Rattle.dft_evaluator.proofs.SweepLemmas.{whole_set}
 use Rattle.dft_fault_lanes.specs.Lanes.{flop_at, is_changed, AreActedOn, AreTaken}
 use Rattle.dft_fault_lanes.specs.Moves.{NoneActs}
 use Rattle.dft_fault_lanes.specs.Plans.{ArePlaces}
+use Rattle.dft_registers.proofs.CellLemmas.{either_unknown}
 
 -- ---- next values
 
@@ -128,10 +129,6 @@ taken_by flops rising pulsed ports wides lane c t = if is_changed (flop_at flops
 
 pub acted_past : (flops : List FlipFlop) (ports : List Tri) (lane c : ℕ) → length flops ≤ c → acted_by flops ports lane c Unknown ≡ Unknown
 acted_past flops ports lane c far = ap (λ (cell : Cell). tri_forced_by cell.force (value_at ports) Unknown) (cell_past flops c far)
-
-either_unknown : (b : Bool) → (if b then Unknown else Unknown) ≡ Unknown
-either_unknown true = refl
-either_unknown false = refl
 
 pub taken_past : (flops : List FlipFlop) (rising : Bool) (pulsed : List Bool) (ports : List Tri) (wides : List Wide) (lane c : ℕ) → length flops ≤ c → taken_by flops rising pulsed ports wides lane c Unknown ≡ Unknown
 taken_past flops rising pulsed ports wides lane c far =

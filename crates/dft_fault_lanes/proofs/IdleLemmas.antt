@@ -1,6 +1,7 @@
 -- Cells that read nothing can be anything, whatever they take.
 use Rattle.std.proofs.Common.{ℕ, Bool, true, false, ◌≡◌, ◌<◌, List, [], length, get_or, inl, inr, refl, sym, ap, subst, ◌∙◌, true≢false, Option, None, Some}
 use Rattle.std.specs.Prelude.{◌==◌, ◌&&◌, ◌||◌, nat_lt, if◌then◌else◌}
+use Rattle.std.proofs.lemmas.Bool.{and_parts}
 use Rattle.dft_base.specs.declared.tri.Tri.{Tri}
 use Rattle.dft_base.specs.declared.tri.Tri.TheVariants.{Unknown}
 use Rattle.dft_lanes.specs.declared.wide.Wide.{Wide}
@@ -9,7 +10,6 @@ use Rattle.dft_netlist.specs.Logic.{Cell, Force, Scan}
 use Rattle.dft_netlist.specs.Runs.{takes}
 use Rattle.dft_netlist.specs.Settled.{value_from}
 use Rattle.dft_abstract.specs.Cycle.{tri_forced_by, tri_taken_by}
-use Rattle.dft_abstract.proofs.Phases.{of_both}
 use Rattle.dft_registers.specs.declared.layout.Place.{Place}
 use Rattle.dft_registers.specs.Layout.{Layout, place_at}
 use Rattle.dft_evaluator.specs.Wides.{values_in}
@@ -41,14 +41,14 @@ nothing_read false (Loose i pin) values is = refl
 
 pub idle_next : (cell : Cell) (ports values : ℕ → Tri) → is_idle cell ≡ true → next_at cell ports values ≡ Unknown
 idle_next cell ports values is =
-    let parts = of_both (if cell.falling then false else is_loose cell.input) (is_unscanned cell.scan && is_unforced cell.force) is in
-    let pins = of_both (is_unscanned cell.scan) (is_unforced cell.force) parts.1 in
+    let parts = and_parts (if cell.falling then false else is_loose cell.input) (is_unscanned cell.scan && is_unforced cell.force) is in
+    let pins = and_parts (is_unscanned cell.scan) (is_unforced cell.force) parts.1 in
     no_force cell.force ports (taken_at cell values) pins.1 ∙ no_scan cell.scan (value_from values) (value_from values cell.input) pins.0 ∙ nothing_read cell.falling cell.input values parts.0
 
 idle_forced : (cell : Cell) (ports : ℕ → Tri) (t : Tri) → is_idle cell ≡ true → tri_forced_by cell.force ports t ≡ t
 idle_forced cell ports t is =
-    let parts = of_both (if cell.falling then false else is_loose cell.input) (is_unscanned cell.scan && is_unforced cell.force) is in
-    no_force cell.force ports t (of_both (is_unscanned cell.scan) (is_unforced cell.force) parts.1).1
+    let parts = and_parts (if cell.falling then false else is_loose cell.input) (is_unscanned cell.scan && is_unforced cell.force) is in
+    no_force cell.force ports t (and_parts (is_unscanned cell.scan) (is_unforced cell.force) parts.1).1
 
 -- ---- idle cells stay as they are
 
@@ -82,15 +82,10 @@ left_tells l moves flops c flop place left near read at is =
     let cell : cell_of flop ≡ flop_at flops c = ap cell_of read ∙ cell_read flops c flop near in
     is ∙ ap (λ (p : Place). (flag_at moves p.register && nat_lt 0 p.index) || (is_idle (cell_of flop) && (p.register == 0))) at ∙ ap (λ (k : Cell). is_carried l moves c || (is_idle k && ((place_at l.places c).register == 0))) cell
 
--- a cell that is not left out is not carried
-pub left_carried : (b c : Bool) → (b || c) ≡ false → b ≡ false
-left_carried true c down = down
-left_carried false c down = refl
-
 -- one that is not carried and is left out is idle and lies in no register
 pub left_idle : (b c d : Bool) → b ≡ false → (b || (c && d)) ≡ true → (c ≡ true) × (d ≡ true)
 left_idle true c d down up = absurd (true≢false down)
-left_idle false c d down up = of_both c d up
+left_idle false c d down up = and_parts c d up
 
 down_idle : (falling loose rest : Bool) → takes false falling ≡ true → ((if falling then false else loose) && rest) ≡ false
 down_idle true loose rest is = refl
@@ -100,5 +95,5 @@ down_idle false loose rest is = absurd (true≢false (sym is))
 pub left_falls : (l : Layout) (flops : List FlipFlop) (pulsed : List Bool) (c : ℕ) → is_carried l [] c ≡ false → is_changed (flop_at flops c) false pulsed ≡ true → is_left l [] flops c ≡ false
 left_falls l flops pulsed c stays up =
     let cell : Cell = flop_at flops c in
-    let down : is_idle cell ≡ false = down_idle cell.falling (is_loose cell.input) (is_unscanned cell.scan && is_unforced cell.force) (of_both (flag_at pulsed cell.domain) (takes false cell.falling) up).1 in
+    let down : is_idle cell ≡ false = down_idle cell.falling (is_loose cell.input) (is_unscanned cell.scan && is_unforced cell.force) (and_parts (flag_at pulsed cell.domain) (takes false cell.falling) up).1 in
     ap (λ (b : Bool). b || (is_idle cell && ((place_at l.places c).register == 0))) stays ∙ ap (λ (b : Bool). b && ((place_at l.places c).register == 0)) down

@@ -20,7 +20,7 @@ use Rattle.dft_logic.specs.declared.circuit.FlipFlop.{FlipFlop}
 use Rattle.dft_logic.specs.Circuit.{cell_of, flag_at}
 use Rattle.dft_logic.specs.EntryTables.{MarksAll}
 use Rattle.dft_logic.specs.Needs.{HasAll, chosen_reads, taken_reads, next_reads}
-use Rattle.dft_logic.proofs.PlanLemmas.{has_needs}
+use Rattle.dft_logic.proofs.PlanLemmas.{has_needs, one_or_more}
 use Rattle.dft_logic.proofs.Writings.{cell_read, cell_past}
 use Rattle.dft_logic.proofs.RiseLemmas.{first_all, rest_all, more_all}
 use Rattle.dft_fault_lanes.specs.declared.marking.Steer.{Steer}
@@ -138,10 +138,6 @@ marks_both start middle new source sources first second =
         | inr more ↦ second.all k (omega arith) more
       ];
     } where
-      one_or_more : (k : ℕ) (source : Source) (sources : List Source) → Has (nets_of (source ∷ sources)) k → Has (nets_of (source ∷ [])) k ⊎ Has (nets_of sources) k
-      one_or_more k (Net net) sources h = elim h [ inl e ↦ inl (inl e) | inr rest ↦ inr rest ]
-      one_or_more k (Tied bit) sources h = inr h
-      one_or_more k (Loose i pin) sources h = inr h
 
 -- ---- compared bits
 

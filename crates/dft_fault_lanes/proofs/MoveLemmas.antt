@@ -2,8 +2,9 @@
 use Rattle.std.proofs.Common.{ℕ, zero, suc, Bool, true, false, ◌≡◌, ◌<◌, ◌≤◌, ◌≢◌, ◌+◌, ◌-◌, ◌⊎◌, inl, inr, List, [], ◌∷◌, length, get_or, slice_set, get_or-set_same, get_or-set_other, refl, sym, ap, subst, arith, ◌∙◌, true≢false, Option, None, Some}
 use Rattle.std.specs.Prelude.{nat_lt, slice_index_or, ◌==◌, ◌&&◌, if◌then◌else◌}
 use Rattle.std.proofs.lemmas.List.{get_or_past}
-use Rattle.std.proofs.lemmas.Bool.{cases_Bool, cases_eq}
+use Rattle.std.proofs.lemmas.Bool.{cases_Bool, cases_eq, and_parts}
 use Rattle.std.proofs.lemmas.Bool.Decides.{eqb_tells, leb_tells}
+use Rattle.dft_base.proofs.BitLemmas.{neither}
 use Rattle.dft_base.specs.declared.tri.Tri.{Tri}
 use Rattle.dft_base.specs.declared.tri.Tri.TheVariants.{One, Unknown}
 use Rattle.dft_base.proofs.SumLemmas.{and_false}
@@ -17,7 +18,6 @@ use Rattle.dft_netlist.specs.Orders.{Has}
 use Rattle.dft_netlist.specs.Runs.{takes}
 use Rattle.dft_netlist.specs.Settled.{value_from}
 use Rattle.dft_abstract.specs.Cycle.{tri_forced_by, tri_taken_by}
-use Rattle.dft_abstract.proofs.Phases.{of_both}
 use Rattle.dft_registers.specs.Layout.{Layout, place_at, cells_at}
 use Rattle.dft_lane_registers.specs.Cells.{Contents, Course, Rests, Follows, course_in, course, IsCarried, IsShifted}
 use Rattle.dft_evaluator.specs.Wides.{value_in, values_in, wide_at, unknown_wide, IsWide, AreWides}
@@ -46,7 +46,7 @@ use Rattle.dft_fault_lanes.specs.Moves.{NoneActs, is_carried, ShowsCell, TakesFr
 use Rattle.dft_fault_lanes.specs.Idle.{is_idle, is_left, AreIdleUnknown}
 use Rattle.dft_fault_lanes.specs.Made.{IsPlan}
 use Rattle.dft_fault_lanes.proofs.CellLemmas.{past_unknown, taken_by, taken_past, has_or_not}
-use Rattle.dft_fault_lanes.proofs.IdleLemmas.{idle_next, left_carried, left_idle}
+use Rattle.dft_fault_lanes.proofs.IdleLemmas.{idle_next, left_idle}
 use Rattle.dft_fault_lanes.proofs.SteadyLemmas.{force_has}
 use Rattle.dft_fault_lanes.proofs.SeenLemmas.{marked_seen, needs_known, shown_known, knows_settled, shows_held}
 use Rattle.dft_fault_lanes.proofs.WholeLemmas.{both_sets}
@@ -180,7 +180,7 @@ moved_from ops clamps s cell cells (suc index) up is = (slice_index_or cells ind
 pub carried : (x : Circuit) (clamps : List (Option Clamp)) (l : Layout) (signals : List NetId) (p : Plan) (c : ℕ) → IsPlan x clamps l signals p → c < length x.flops → is_carried l p.moves.items c ≡ true → Carried x clamps l p c
 carried x clamps l signals p c is near up =
     let place = place_at l.places c in
-    let both = of_both (flag_at p.moves.items place.register) (nat_lt 0 place.index) up in
+    let both = and_parts (flag_at p.moves.items place.register) (nat_lt 0 place.index) up in
     let at = is.moving c near both.0 in
     let from = moved_from x.ops clamps p.steer (flop_at x.flops c) (cells_at l.registers place.register) place.index both.1 at.1 in
     record {
@@ -200,8 +200,8 @@ falls_stay x clamps l signals p c is down = elim (leb_tells (length x.flops) c) 
   | inl far ↦ absurd (true≢false (sym down ∙ ap (λ (k : Cell). is_changed k false p.pulsed.items) (cell_past x.flops c far.1) ∙ and_false (flag_at p.pulsed.items 0)))
   | inr near ↦ elim (cases_Bool (is_carried l p.moves.items c)) [
     | inl up ↦ (let cell = flop_at x.flops c in
-        let rising = of_both (flag_at p.pulsed.items cell.domain) (takes true cell.falling) (carried x clamps l signals p c is near.1 up).changed in
-        let falling = of_both (flag_at p.pulsed.items cell.domain) (takes false cell.falling) down in
+        let rising = and_parts (flag_at p.pulsed.items cell.domain) (takes true cell.falling) (carried x clamps l signals p c is near.1 up).changed in
+        let falling = and_parts (flag_at p.pulsed.items cell.domain) (takes false cell.falling) down in
         absurd (takes_once cell.falling rising.1 falling.1))
     | inr rests ↦ rests
   ]
@@ -354,7 +354,7 @@ moves_taken x clamps signals p ports wides old shifted new is size count steers 
       | inr near ↦ elim (has_or_not p.taking.items c) [
         | inl h ↦ (let here = (is.taking.1 c h).1 in
             let same : Agree v w (nets_of (next_reads cell (value_at ports) (value_from v))) = set_agrees (needs_of (length x.ops) p.marked.items) v w (nets_of (next_reads cell (value_at ports) (value_from v)))
-            (is.reads c (left_carried (is_carried old.layout p.moves.items c) (is_idle cell && ((place_at old.layout.places c).register == 0)) here.1) (value_at ports) v (steers lane within)) (λ net need. sym (ap (λ (u : Wide). value_in u lane) (marked_seen x.ops clamps p.marked.items old.values wides net count need))) in
+            (is.reads c (neither (is_carried old.layout p.moves.items c) (is_idle cell && ((place_at old.layout.places c).register == 0)) here.1) (value_at ports) v (steers lane within)) (λ net need. sym (ap (λ (u : Wide). value_in u lane) (marked_seen x.ops clamps p.marked.items old.values wides net count need))) in
             taken lane c within h ∙ next_same x ports c v w same ∙ if_true up next (values_in old.values lane c) here.0)
         | inr none ↦ ap (λ (u : Wide). value_in u lane) (kept c none)
             ∙ kept_value x clamps old.layout p ports old.values shifted.values wides lane c within near.1 free idle on (knows_settled x ports [] old.values clamps p.marked.items wides count is.closed settled) (kept_at x clamps signals p old shifted c is size moved near.1 none)

@@ -1,6 +1,7 @@
 -- The round of a vector in a lane, from what is settled and taken in it.
 use Rattle.std.proofs.Common.{ℕ, Bool, true, false, ◌&&◌, ◌≡◌, ◌<◌, inl, inr, List, [], length, refl, sym, ap, subst, ◌∙◌, Option}
 use Rattle.std.specs.Prelude.{if◌then◌else◌}
+use Rattle.dft_base.proofs.BitLemmas.{with_true}
 use Rattle.dft_base.specs.declared.tri.Tri.{Tri}
 use Rattle.dft_base.specs.declared.tri.Tri.TheVariants.{Zero}
 use Rattle.dft_lanes.specs.declared.wide.Wide.{Wide}
@@ -114,10 +115,6 @@ unfolding logic_at
 risen_is x ports pulsed before held strobe risen lane stuck value within acted taken = λ t c.
     (taken lane c within ∙ ap (λ (m : Tri). if is_changed (flop_at x.flops c) true pulsed then next_at (flop_at x.flops c) (value_at ports) (values_in strobe lane) else m) (acted lane c within)) t
 
-and_true : (b : Bool) → b ≡ b && true
-and_true true = refl
-and_true false = refl
-
 -- the falls are of one pass, and cells have after it what these values of the set give
 pub record Fallen (x : Circuit) (q : Pulse) (later : ℕ → Tri) (shown : List Shown) (stuck : ℕ) (value : Bool) : Type 0 where
   pub all : ℕ → Tri
@@ -137,7 +134,7 @@ lane_fall x needs ports pulsed clamps risen later shown lane stuck value is clos
     let l : Logic = with_fault stuck value (logic_at x) in
     let values : ℕ → Tri = values_in later lane in
     let made : Pulse = fall_from ports pulsed (values_in risen lane) in
-    let level : flag_at pulsed ≡ level_before made = λ t e. and_true (flag_at pulsed e) t in
+    let level : flag_at pulsed ≡ level_before made = λ t e. with_true (flag_at pulsed e) t in
     let given : IsStillOn l (flag_at pulsed) (value_at ports) (values_in risen lane) needs values = lane_is_faulty x (at_levels ports pulsed risen clamps) needs later lane stuck value at within stuck_is in
     let whole : Whole l (flag_at pulsed) (value_at ports) (values_in risen lane) needs values =
     whole_there l (rank_of x) (flag_at pulsed) (value_at ports) (values_in risen lane) needs values (lane_ranked x stuck value is) (closed_stays (logic_at x) stuck value needs closed) given in

@@ -4,6 +4,7 @@ use Rattle.std.specs.Prelude.{nat_le, if◌then◌else◌}
 use Rattle.std.proofs.lemmas.List.{get_or_past}
 use Rattle.std.proofs.lemmas.Bool.{cases_Bool, or_left, or_right}
 use Rattle.std.proofs.lemmas.Bool.Decides.{leb_tells}
+use Rattle.dft_base.proofs.BitLemmas.{neither}
 use Rattle.dft_base.specs.declared.tri.Tri.{Tri}
 use Rattle.dft_lanes.specs.declared.wide.Wide.{Wide}
 use Rattle.dft_netlist.specs.Logic.{reads}
@@ -22,7 +23,6 @@ use Rattle.dft_fault_lanes.specs.Lanes.{Situation, AreSettledOn, clamp_at, clamp
 use Rattle.dft_fault_lanes.specs.Plans.{needs_of}
 use Rattle.dft_fault_lanes.specs.Pulses.{at_levels}
 use Rattle.dft_fault_lanes.specs.Seen.{shown_within, cell_shown, seen_at, seen_from, seen, is_some, knows}
-use Rattle.dft_fault_lanes.proofs.IdleLemmas.{left_carried}
 
 -- ---- what a net has
 
@@ -129,7 +129,7 @@ knows_settled x ports levels held clamps marked wides size closed settled lane k
             | inr live ↦ omega (arith, live.1, size)
           ] in
           let wide : wide_at (seen ops clamps marked held wides) k ≡ wide_at held shown.0 = seen_is ops clamps marked held wides k near
-          ∙ ap (λ (b : Bool). seen_at b (cell_shown ops clamps k) held (wide_at wides k)) (left_carried (flag_at marked k) (nat_le (length ops) k) out)
+          ∙ ap (λ (b : Bool). seen_at b (cell_shown ops clamps k) held (wide_at wides k)) (neither (flag_at marked k) (nat_le (length ops) k) out)
           ∙ ap (λ (o : Option ℕ). seen_at false o held (wide_at wides k)) shown.1 in
           ap (λ (u : Wide). value_in u lane) wide ∙ sym (given_shown (clamp_at clamps k) (op_at ops k) shown.0 lane k (flag_at levels) (value_at ports) (values_in held lane) w shown.1))
     ]

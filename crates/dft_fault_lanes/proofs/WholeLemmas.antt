@@ -1,13 +1,12 @@
 -- What is settled of a set that is closed under reading is what all nets are settled to, and cells take the same from both.
 use Rattle.std.proofs.Common.{ℕ, Bool, true, false, ◌≡◌, ◌==◌, ◌&&◌, inl, inr, List, [], ◌∷◌, sym, ap, ◌∙◌}
 use Rattle.std.specs.Prelude.{if◌then◌else◌}
-use Rattle.std.proofs.lemmas.Bool.{cases_Bool}
+use Rattle.std.proofs.lemmas.Bool.{cases_Bool, and_parts}
 use Rattle.dft_base.specs.declared.tri.Tri.{Tri}
 use Rattle.dft_netlist.specs.Drivers.{Tied, nets_of}
 use Rattle.dft_netlist.specs.Logic.{Logic, Cell, Meaning, Joined, reads, IsRanked}
 use Rattle.dft_netlist.specs.Settled.{value_from}
 use Rattle.dft_abstract.specs.Cycle.{Pulse, changes, next_value}
-use Rattle.dft_abstract.proofs.Phases.{of_both}
 use Rattle.dft_logic.specs.Needs.{HasAll, IsStrobeClosed, IsStillOn, IsStillFrom, next_reads}
 use Rattle.dft_logic.specs.Shows.{Shown, is_still, still_needs}
 use Rattle.dft_logic.proofs.NeededLemmas.{needed_is_strobe}
@@ -43,10 +42,10 @@ whole_there l rank level ports flops needs values ranked closed on =
 
 pub wider : (needs : ℕ → Bool) (shown : ℕ → Shown) (d : ℕ) (nets : List ℕ) → HasAll (still_needs needs shown d) nets → HasAll (still_needs every shown d) nets
 wider needs shown d [] has = tt
-wider needs shown d (net ∷ nets) has = ((of_both (needs net) (is_still d (shown net)) has.0).1, wider needs shown d nets has.1)
+wider needs shown d (net ∷ nets) has = ((and_parts (needs net) (is_still d (shown net)) has.0).1, wider needs shown d nets has.1)
 
 pub needed_agree : (needs : ℕ → Bool) (shown : ℕ → Shown) (d : ℕ) (values all : ℕ → Tri) (nets : List ℕ) → ((net : ℕ) → needs net ≡ true → values net ≡ all net) → HasAll (still_needs needs shown d) nets → Agree values all nets
-needed_agree needs shown d values all nets same has = set_agrees (still_needs needs shown d) values all nets has (λ k need. same k (of_both (needs k) (is_still d (shown k)) need).0)
+needed_agree needs shown d values all nets same has = set_agrees (still_needs needs shown d) values all nets has (λ k need. same k (and_parts (needs k) (is_still d (shown k)) need).0)
 
 -- a cell that reads what is still of the set reads what is still of all nets
 pub still_of_all : (needs : ℕ → Bool) (shown : ℕ → Shown) (cell : Cell) (ports values all : ℕ → Tri) → ((net : ℕ) → needs net ≡ true → values net ≡ all net) →

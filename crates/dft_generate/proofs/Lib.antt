@@ -1,4 +1,3 @@
 pub mod Lines
-pub mod WordLemmas
 mod WorkedJob
 pub mod ReadConfiguration

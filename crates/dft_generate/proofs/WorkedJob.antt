@@ -5,7 +5,7 @@ use Rattle.rand_core.specs.Steps.{first_words}
 use Rattle.rand_pcg.specs.Pcg.{pcg32}
 use Rattle.dft_generate.specs.Cubes.{bit_line, bit_lines, cube_line, cube_lines, cubes_text}
 use Rattle.dft_generate.specs.Netlists.{cell_lines, flop_line, gate_line, netlist_text}
-use Rattle.dft_generate.specs.Words.{generator}
+use Rattle.dft_random.specs.Words.{generator}
 
 -- three words for each cell, and four for the cube: the highest bit of the first and of the last is 1
 abbrev pub words : List ℕ
@@ -21,6 +21,6 @@ pub example_cubes : cubes_text 4 words ≡ codes "cube k0 clk0\ncell f1 1\ncell 
 unfolding cube_lines cube_line bit_lines bit_line fmt.digits
 example_cubes = refl
 
-pub example_words : first_words pcg32 3 (generator 1) ≡ 3795398737 ∷ 17903413 ∷ 3545275701 ∷ []
+pub example_words : first_words pcg32 3 (generator 1 0) ≡ 3795398737 ∷ 17903413 ∷ 3545275701 ∷ []
 unfolding first_words
 example_words = refl

@@ -1,16 +1,12 @@
 -- The words of a generated job.
 use Rattle.std.specs.Prelude.{ℕ, ◌+◌, ◌*◌, ◌/◌, List, get_or}
 use Rattle.rand_core.specs.Steps.{first_words}
-use Rattle.rand_pcg.specs.Lcg.{Lcg, started, increment_of}
-use Rattle.rand_pcg.specs.Pcg.{multiplier_64, pcg32}
+use Rattle.rand_pcg.specs.Pcg.{pcg32}
+use Rattle.dft_random.specs.Words.{generator}
 
--- the generator PCG XSH RR 64/32 with the seed for its state, on stream 0
-abbrev pub generator : (seed : ℕ) → Lcg
-generator seed = started 64 multiplier_64 seed (increment_of 64 0)
-
--- a job of so many cells takes three words for each cell, and behind them four for each cube; there is a cube for each four cells
+-- a job of so many cells takes three words of the generator on stream 0 for each cell, and behind them four for each cube; there is a cube for each four cells
 abbrev pub words_of : (seed size : ℕ) → List ℕ
-words_of seed size = first_words pcg32 (size * 3 + size / 4 * 4) (generator seed)
+words_of seed size = first_words pcg32 (size * 3 + size / 4 * 4) (generator seed 0)
 
 -- the word of a number
 abbrev pub word_at : List ℕ → ℕ → ℕ

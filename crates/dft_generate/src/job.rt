@@ -8,7 +8,7 @@ ghost use Rattle.dft_generate.specs.Words.{words_of};
 use crate::configuration::configuration;
 use crate::cubes::cubes;
 use crate::netlist::netlist;
-use crate::words::drawn;
+use dft_random::drawn;
 use std::alloc::{AllocError, Global};
 
 /// The texts of a generated job.
@@ -59,6 +59,6 @@ pub fn generate(alloc: Global, seed: u64, size: usize) -> Result<Job, AllocError
     requires { IsSize size }
     ensures { IfOk result (IsJob size (words_of seed size)) }
 {
-    let words = drawn(alloc, seed, size * 3 + size / 4 * 4)?;
+    let words = drawn(alloc, seed, 0, size * 3 + size / 4 * 4)?;
     job_of(alloc, size, &words)
 }

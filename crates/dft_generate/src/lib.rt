@@ -7,7 +7,6 @@ mod job;
 mod laws;
 mod netlist;
 mod numbers;
-mod words;
 
 pub use job::{Job, generate, is_size};
 pub use laws::configuration_is_read;

@@ -1,9 +1,10 @@
 -- No scan rule refuses a generated design with its configuration, and no limit of the plan.
-use Rattle.std.proofs.Common.{◌≡◌, ◌⊎◌, inl, inr, ℕ, zero, suc, ◌+◌, ◌*◌, ◌%◌, ◌<◌, ◌≤◌, Bool, true, false, cond, eqb, ltb, List, [], ◌∷◌, ◌++◌, length, map, Option, Some, None, count_by, refl, sym, ap, ◌∙◌, subst, arith}
+use Rattle.std.proofs.Common.{◌≡◌, ◌⊎◌, inl, inr, ℕ, zero, suc, ◌+◌, ◌*◌, ◌%◌, ◌<◌, ◌≤◌, Bool, false, cond, eqb, ltb, List, [], ◌∷◌, ◌++◌, length, map, Option, Some, None, count_by, refl, sym, ap, ◌∙◌, subst, arith}
 use Rattle.std.specs.Prelude.{is_some, option_map, find, slice_index_or, ◌||◌, ◌&&◌}
 use Rattle.std.specs.List.{range_with_len, list_any}
 use Rattle.std.proofs.lemmas.Bool.Decides.{nat_tests}
 use Rattle.std.proofs.lemmas.List.Sums.{sum_by-cons}
+use Rattle.std.proofs.lemmas.Bool.{and_right}
 use Rattle.dft_base.specs.Lexing.{Text}
 use Rattle.dft_cells.specs.declared.cell.Cell.{Cell}
 use Rattle.dft_cells.specs.Standard.{standard_cells}
@@ -110,13 +111,9 @@ module _ (size : ℕ) (words : List ℕ) (few : size ≤ 20000) (some : 0 < size
   near_or (suc zero) = inl (omega arith)
   near_or (suc (suc net)) = inr (omega arith)
 
-  and_false : (a b : Bool) → b ≡ false → a && b ≡ false
-  and_false true b h = h
-  and_false false b h = refl
-
   no_clock : (net : ℕ) → is_clock_as_data (design size words) configuration.domains net ≡ false
   no_clock net = elim (near_or net) [
-    | inl low ↦ and_false (is_some (clock_of_source (design size words) configuration.domains (Net net))) (list_any (is_data_of standard_cells net) (design size words).instances) (no_data net size 0 low (omega arith))
+    | inl low ↦ and_right (is_some (clock_of_source (design size words) configuration.domains (Net net))) (list_any (is_data_of standard_cells net) (design size words).instances) (no_data net size 0 low (omega arith))
     | inr high ↦ ap (λ (o : Option ClockRoot). is_some (place_of_clock (design size words) configuration.domains o) && list_any (is_data_of standard_cells net) (design size words).instances) (far_clock net high (length all))
   ]
 

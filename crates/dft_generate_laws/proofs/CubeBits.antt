@@ -6,6 +6,7 @@ use Rattle.std.proofs.Math.Nat.{mod-lt}
 use Rattle.std.proofs.lemmas.Bool.Decides.{nat_tests}
 use Rattle.std.proofs.lemmas.Fmt.{decimal_digit}
 use Rattle.std.proofs.lemmas.List.Folds.{list_any-append}
+use Rattle.dft_base.proofs.BitLemmas.{or_false}
 use Rattle.dft_base.specs.Lexing.{Text}
 use Rattle.dft_base.specs.declared.place.Place.{Place}
 use Rattle.dft_base.proofs.TextLemmas.{bytes_eq-self}
@@ -100,21 +101,17 @@ module _ (size : ℕ) (words : List ℕ) (few : size ≤ 20000) (some : 0 < size
       by true is = grind (arith, nat_tests)
       by false is = grind (arith, nat_tests)
 
-  or_none : (b : Bool) → b || false ≡ b
-  or_none true = refl
-  or_none false = refl
-
   covered : (t : Bool) (before : List ℕ) (cell word : ℕ) → (word % size == cell) ≡ t → is_named size before (word % size) ≡ true → is_named size before cell ≡ (is_named size before cell || (t || false))
   covered true before cell word is named =
       let e : word % size ≡ cell = grind (arith, nat_tests) in
       let h : is_named size before cell ≡ true = ap (is_named size before) (sym e) ∙ named in
       rw h refl
-  covered false before cell word is named = sym (or_none (is_named size before cell))
+  covered false before cell word is named = sym (or_false (is_named size before cell))
 
   fits_by : (t : Bool) (cells : List Given) (before : List ℕ) (word : ℕ) → is_named size before (word % size) ≡ t → Fits cells before → Fits (cells ++ given_unless t (bit_given size word)) (before ++ word ∷ [])
   fits_by true cells before word named fits cell =
       let same : (word % size == cell) ≡ (word % size == cell) = refl in
-      list_any-append (λ (g : Given). g.0.0 == suc (cell + cell)) cells [] ∙ or_none (list_any (λ (g : Given). g.0.0 == suc (cell + cell)) cells) ∙ fits cell
+      list_any-append (λ (g : Given). g.0.0 == suc (cell + cell)) cells [] ∙ or_false (list_any (λ (g : Given). g.0.0 == suc (cell + cell)) cells) ∙ fits cell
       ∙ covered (word % size == cell) before cell word refl named ∙ sym (list_any-append (λ (w : ℕ). w % size == cell) before (word ∷ []))
   fits_by false cells before word named fits cell =
       list_any-append (λ (g : Given). g.0.0 == suc (cell + cell)) cells (bit_given size word ∷ [])

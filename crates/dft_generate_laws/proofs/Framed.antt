@@ -10,6 +10,7 @@ use Rattle.std.proofs.lemmas.Option.{none-some}
 use Rattle.dft_base.specs.Lexing.{Text}
 use Rattle.dft_base.proofs.TextLemmas.{differ}
 use Rattle.dft_cells.specs.WellFormed.{has_name}
+use Rattle.dft_netlist.proofs.NamesLemmas.{none_append}
 use Rattle.dft_netlist.specs.declared.ids.InstanceId.{InstanceId}
 use Rattle.dft_netlist.specs.declared.instance.Instance.{Instance}
 use Rattle.dft_netlist.specs.declared.limits.TheConstants.{MAX_NETS}
@@ -45,7 +46,7 @@ use Rattle.dft_generate_laws.proofs.Places.{nets-few, instances-length}
 use Rattle.dft_generate_laws.proofs.Checks.{all_rise, scanned_here, rules_pass}
 use Rattle.dft_generate_laws.proofs.Plans.{few_cells, plan_passes}
 use Rattle.dft_generate_laws.proofs.Added.{AreLow, edt_most}
-use Rattle.dft_generate_laws.proofs.Fresh.{none_append, none_take, none_drop, none_each, IsFree, IsFresh, parts_pass}
+use Rattle.dft_generate_laws.proofs.Fresh.{none_take, none_drop, none_each, IsFree, IsFresh, parts_pass}
 
 -- ---- the plan
 

@@ -5,9 +5,11 @@ use Rattle.std.specs.List.{filter_map, cons_option}
 use Rattle.std.specs.Str.{bytes_eq}
 use Rattle.std.proofs.lemmas.List.Elements.{filter_map-append}
 use Rattle.std.proofs.lemmas.Fmt.{decimal_injective}
+use Rattle.std.proofs.lemmas.Bool.{or_parts}
 use Rattle.dft_base.specs.Lexing.{Text}
 use Rattle.dft_base.proofs.TextLemmas.{differ}
 use Rattle.dft_cells.specs.WellFormed.{has_name}
+use Rattle.dft_netlist.proofs.NamesLemmas.{none_append}
 use Rattle.dft_netlist.specs.declared.error.NetlistError.{NetlistError}
 use Rattle.dft_netlist.specs.declared.ids.NetId.{NetId}
 use Rattle.dft_netlist.specs.declared.ids.InstanceId.{InstanceId}
@@ -30,23 +32,15 @@ neither : (a b c : Bool) → a || b ≡ false → (b ≡ false → c ≡ false) 
 neither true b c h k = absurd (let f : ⊥ = cc in f)
 neither false b c h k = k h
 
-pub none_append : (xs ys : List Text) (w : Text) → has_name xs w ≡ false → has_name ys w ≡ false → has_name (xs ++ ys) w ≡ false
-none_append [] ys w a b = b
-none_append (x ∷ xs) ys w a b = neither (bytes_eq x w) (has_name xs w) (has_name (xs ++ ys) w) a (λ r. none_append xs ys w r b)
-
 pub none_take : (k : ℕ) (xs : List Text) (w : Text) → has_name xs w ≡ false → has_name (take k xs) w ≡ false
 none_take zero xs w h = refl
 none_take (suc k) [] w h = refl
 none_take (suc k) (x ∷ xs) w h = neither (bytes_eq x w) (has_name xs w) (has_name (take k xs) w) h (λ r. none_take k xs w r)
 
-rest_none : (a b : Bool) → a || b ≡ false → b ≡ false
-rest_none true b h = absurd (let f : ⊥ = cc in f)
-rest_none false b h = h
-
 pub none_drop : (k : ℕ) (xs : List Text) (w : Text) → has_name xs w ≡ false → has_name (drop k xs) w ≡ false
 none_drop zero xs w h = h
 none_drop (suc k) [] w h = refl
-none_drop (suc k) (x ∷ xs) w h = none_drop k xs w (rest_none (bytes_eq x w) (has_name xs w) h)
+none_drop (suc k) (x ∷ xs) w h = none_drop k xs w ((or_parts (bytes_eq x w) (has_name xs w) h).1)
 
 pub none_each : (xs : List Text) (w : Text) → ((k : ℕ) (v : Text) → slice_get xs k ≡ Some v → bytes_eq v w ≡ false) → has_name xs w ≡ false
 none_each [] w h = refl

@@ -2,6 +2,7 @@
 use Rattle.std.proofs.Common.{◌≡◌, ℕ, suc, ◌+◌, ◌<◌, ◌≤◌, Bool, true, false, cond, List, [], ◌∷◌, ◌++◌, length, Some, slice_get, refl, sym, ap, ◌∙◌, subst, arith, append_assoc, append-nil, length-append}
 use Rattle.std.specs.Prelude.{◌||◌}
 use Rattle.std.specs.Str.{bytes_eq}
+use Rattle.dft_base.proofs.BitLemmas.{or_more}
 use Rattle.dft_base.specs.Lexing.{Text}
 use Rattle.dft_base.proofs.TextLemmas.{same_text, bytes_eq-self}
 use Rattle.dft_cells.specs.WellFormed.{has_name}
@@ -18,13 +19,9 @@ pub number-kept : (nets more : List Text) (w : Text) → has_name nets w ≡ tru
 number-kept [] more w h = absurd (cc)
 number-kept (x ∷ nets) more w h = here_by (bytes_eq x w) (has_name nets w) (number_in (nets ++ more) w) (number_in nets w) (number-kept nets more w) h
 
-kept_by : (t r s : Bool) → (r ≡ true → s ≡ true) → (t || r) ≡ true → (t || s) ≡ true
-kept_by true r s ih h = refl
-kept_by false r s ih h = ih h
-
 pub has-kept : (nets more : List Text) (w : Text) → has_name nets w ≡ true → has_name (nets ++ more) w ≡ true
 has-kept [] more w h = absurd (cc)
-has-kept (x ∷ nets) more w h = kept_by (bytes_eq x w) (has_name nets w) (has_name (nets ++ more) w) (has-kept nets more w) h
+has-kept (x ∷ nets) more w h = or_more (bytes_eq x w) (has_name nets w) (has_name (nets ++ more) w) (has-kept nets more w) h
 
 -- a name that is not there has the number behind all
 new_by : (t r : Bool) (k m : ℕ) → (r ≡ false → k ≡ m) → (t || r) ≡ false → cond t 0 (suc k) ≡ suc m

@@ -2,6 +2,7 @@
 use Rattle.std.proofs.Common.{ℕ, zero, suc, Bool, true, false, ◌≡◌, ◌<◌, refl, sym, ap, arith, ◌∙◌, ◌⊎◌, inl, inr}
 use Rattle.std.proofs.lemmas.Bool.{cases_lt}
 use Rattle.std.specs.Prelude.{◌&&◌}
+use Rattle.dft_base.proofs.BitLemmas.{and_assoc}
 use Rattle.dft_base.specs.Solutions.{xor, sum_to}
 use Rattle.dft_base.proofs.SumLemmas.{and_over_xor, sum_same, sum_zero, sum_add}
 
@@ -22,9 +23,6 @@ sum_add_left n f h x =
 sum_and_right : (n : ℕ) (b : Bool) (f : ℕ → Bool) → (sum_to n f) && b ≡ sum_to n (λ i. f i && b)
 sum_and_right zero b f = refl
 sum_and_right (suc n) b f = and_over_xor (f n) (sum_to n f) b ∙ ap (xor (f n && b)) (sum_and_right n b f)
-
-and_assoc : (a b c : Bool) → (a && b) && c ≡ a && (b && c)
-and_assoc = grind arith
 
 -- two sums change places
 sum_swap : (n m : ℕ) (f : ℕ → ℕ → Bool) → sum_to n (λ i. sum_to m (λ j. f i j)) ≡ sum_to m (λ j. sum_to n (λ i. f i j))

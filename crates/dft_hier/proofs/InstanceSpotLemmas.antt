@@ -11,7 +11,7 @@ use Rattle.dft_hier.specs.Flat.{Parts, Giving, sub_parts, item_parts, parts_with
 use Rattle.dft_hier.specs.Laws.{IsInstanceAt}
 use Rattle.dft_hier.specs.Paths.{Path, Spot, Finding, module_of, module_at, below, sub_spots, item_spots, instance_spots_within}
 use Rattle.dft_hier.proofs.PartLemmas.{StandsTall, Rises}
-use Rattle.dft_hier.proofs.SpotLemmas.{spot, Among, AreOnce, either, among_left, among_right, once_both, IsUnder, IsThrough, same_place, never_above, module_below}
+use Rattle.dft_hier.proofs.SpotLemmas.{spot, Among, AreOnce, either, among_left, among_right, once_both, IsUnder, IsThrough, same_place, never_above, module_below, one_under, one_once}
 
 -- a spot stands at this path, from this number on
 pub record IsOwn (path : Path) (from : ℕ) (s : Spot) : Type 0 where
@@ -19,9 +19,6 @@ pub record IsOwn (path : Path) (from : ℕ) (s : Spot) : Type 0 where
   pub least : from ≤ s.at
 
 module _ (find : Finding) (ms : List Module) (under : (path : Path) (m : Module) (k : ℕ) (s : Spot) → slice_get (find path m) k ≡ Some s → IsUnder path s) where
-  one_under : (path : Path) (o : Option Module) (k : ℕ) (s : Spot) → slice_get (sub_spots find path o) k ≡ Some s → IsUnder path s
-  one_under path None k s at = absurd (let f : ⊥ = cc in f)
-  one_under path (Some m) k s at = under path m k s at
 
   pub items_cases : (path : Path) (cell place : ℕ) (items : List Item) (k : ℕ) (s : Spot) → slice_get (item_spots find ms path cell place items) k ≡ Some s → IsOwn path cell s ⊎ IsThrough path place s
   items_cases path cell place [] k s at = absurd (let f : ⊥ = cc in f)
@@ -35,16 +32,12 @@ module _ (find : Finding) (ms : List Module) (under : (path : Path) (m : Module)
     | inr deep ↦ inr deep
   ]
   items_cases path cell place (item.Sub x ∷ items) k s at = elim (either (sub_spots find (below path place) (find_module ms x.of)) (item_spots find ms path cell (suc place) items) k s at) [
-    | inl front ↦ inr (record { place = place; least = omega arith; under = one_under (below path place) (find_module ms x.of) front.number s front.at })
+    | inl front ↦ inr (record { place = place; least = omega arith; under = one_under find ms under (below path place) (find_module ms x.of) front.number s front.at })
     | inr back ↦ elim (items_cases path cell (suc place) items back.number s back.at) [
       | inl own ↦ inl own
       | inr deep ↦ (let less = deep.least in inr (record { place = deep.place; least = omega arith; under = deep.under }))
     ]
   ]
-
-  one_once : (path : Path) (o : Option Module) → ((p : Path) (m : Module) → AreOnce (find p m)) → AreOnce (sub_spots find path o)
-  one_once path None each = tt
-  one_once path (Some m) each = each path m
 
   pub items_once : (path : Path) (cell place : ℕ) (items : List Item) → ((p : Path) (m : Module) → AreOnce (find p m)) → AreOnce (item_spots find ms path cell place items)
   items_once path cell place [] each = tt
@@ -57,9 +50,9 @@ module _ (find : Finding) (ms : List Module) (under : (path : Path) (m : Module)
     items_once path (suc cell) place items each,
   )
   items_once path cell place (item.Sub x ∷ items) each =
-      once_both (sub_spots find (below path place) (find_module ms x.of)) (item_spots find ms path cell (suc place) items) (one_once (below path place) (find_module ms x.of) each) (items_once path cell (suc place) items each)
+      once_both (sub_spots find (below path place) (find_module ms x.of)) (item_spots find ms path cell (suc place) items) (one_once find ms under (below path place) (find_module ms x.of) each) (items_once path cell (suc place) items each)
       (λ a b s p q. (
-      let here = one_under (below path place) (find_module ms x.of) a s p in
+      let here = one_under find ms under (below path place) (find_module ms x.of) a s p in
       elim (items_cases path cell (suc place) items b s q) [
         | inl own ↦ never_above path here.more place (sym own.same ∙ here.is)
         | inr deep ↦ (

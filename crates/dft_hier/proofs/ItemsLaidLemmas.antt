@@ -27,12 +27,12 @@ use Rattle.dft_hier.specs.Weights.{AreWeights, AreLive, Live, at_most, no_live, 
 use Rattle.dft_hier.proofs.DeadLemmas.{dead_module, dead_joins}
 use Rattle.dft_hier.proofs.FitLemmas.{numbers, paired_at}
 use Rattle.dft_hier.proofs.FlattenLemmas.{sound_at}
-use Rattle.dft_hier.proofs.HeightLemmas.{IsTall, Grows, all_tall}
+use Rattle.dft_hier.proofs.HeightLemmas.{IsTall, Grows}
 use Rattle.dft_hier.proofs.LaidLemmas.{IsLiveSub}
 use Rattle.dft_hier.proofs.LiveLemmas.{exact_weight, first_child}
 use Rattle.dft_hier.proofs.LivePartLemmas.{DeadGive, NetsExact, items_from, own_or_sub, live_items_from, live_parts_from, child_is}
-use Rattle.dft_hier.proofs.NumberLemmas.{module_there, number_within, graph_count, graph_within}
-use Rattle.dft_hier.proofs.PartLemmas.{deep_enough, nets_deep_enough, nets_same, tall_module, count_same}
+use Rattle.dft_hier.proofs.NumberLemmas.{module_there, number_within}
+use Rattle.dft_hier.proofs.PartLemmas.{deep_enough, nets_deep_enough, nets_same, tall_module, count_same, every_tall}
 use Rattle.dft_hier.proofs.ReachLemmas.{stands_more}
 use Rattle.dft_hier.proofs.ModuleLemmas.{module_at}
 
@@ -129,17 +129,15 @@ size_same g items (suc depth) number (Grows each) among =
 -- ---- the whole
 
 module _ (library : List Cell) (ms : List Module) (weights : List Weight) (items : List Live) (sound : AreModules library ms) (known : first_unknown ms ≡ None) (apart : NoCircle (children_of ms)) (weighed : AreWeights ms (children_of ms) weights) (live : AreLive ms (children_of ms) weights items) where
-  tall : (k : ℕ) → k < length ms → IsTall (children_of ms) (length ms) k
-  tall k less = let c = graph_count ms in subst (λ (n : ℕ). IsTall (children_of ms) n k) c (all_tall (children_of ms) k apart (graph_within ms) (omega arith))
 
   exact_nets : (k : ℕ) (m : Module) → slice_get ms k ≡ Some m → (get_or weights k no_weight).nets ≡ at_most (net_total ms m)
-  exact_nets k m at = ap (λ (w : Weight). w.nets) (exact_weight ms weights (length ms) k m weighed (tall k (slice_get_within ms k m at)) at)
+  exact_nets k m at = ap (λ (w : Weight). w.nets) (exact_weight ms weights (length ms) k m weighed (every_tall ms apart k (slice_get_within ms k m at)) at)
 
   dead_at : (k : ℕ) (m : Module) → slice_get ms k ≡ Some m → (get_or weights k no_weight).lives ≡ false → ((prefix : Text) (first : ℕ) → parts_within (length ms) ms prefix first m ≡ no_parts) × (m.nets ≡ [])
   dead_at k m at dead =
       let within = slice_get_within ms k m at in
-      let lives = ap (λ (w : Weight). w.lives) (exact_weight ms weights (length ms) k m weighed (tall k within) at) in
-      dead_module library ms (length ms) m sound (tall_module ms (length ms) k m (tall k within) at) (sound_at library ms k m sound at) (sym lives ∙ dead)
+      let lives = ap (λ (w : Weight). w.lives) (exact_weight ms weights (length ms) k m weighed (every_tall ms apart k within) at) in
+      dead_module library ms (length ms) m sound (tall_module ms (length ms) k m (every_tall ms apart k within) at) (sound_at library ms k m sound at) (sym lives ∙ dead)
 
   weighs_nets : WeighsNets ms weights
   weighs_nets k m at =
@@ -167,7 +165,7 @@ module _ (library : List Cell) (ms : List Module) (weights : List Weight) (items
   laid_gives number m at prefix first few =
       let N : Giving = parts_within (length ms) ms in
       let within = slice_get_within ms number m at in
-      let standing = tall_module ms (length ms) number m (tall number within) at in
+      let standing = tall_module ms (length ms) number m (every_tall ms apart number within) at in
       let deep = deep_enough ms (length ms) m standing prefix first in
       let rest : Parts = item_parts N ms prefix first (first + length m.nets) m.items in
       let total = ap (λ (p : Parts). length p.nets) deep in
@@ -220,7 +218,7 @@ module _ (library : List Cell) (ms : List Module) (weights : List Weight) (items
 
   totals_at : (number : ℕ) (m : Module) → slice_get ms number ≡ Some m → net_total ms m ≤ MAX_NETS → net_total ms m ≡ length m.nets + total_by (nets_of weights) (live_items_at items number)
   totals_at number m at few =
-      let standing = tall_module ms (length ms) number m (tall number (slice_get_within ms number m at)) at in
+      let standing = tall_module ms (length ms) number m (every_tall ms apart number (slice_get_within ms number m at)) at in
       let deep = ap (λ (xs : List Text). length xs) (nets_deep_enough ms (length ms) m standing []) in
       let split = length-append (map (λ name. [] ++ name) m.nets) (subs_nets (nets_in (length ms) ms) ms [] (subs_of m.items)) in
       let names = length-map m.nets (λ (name : Text). [] ++ name) in
@@ -238,5 +236,5 @@ module _ (library : List Cell) (ms : List Module) (weights : List Weight) (items
     exact = λ number m at few. (let e = exact_nets number m at in omega arith);
     totals = totals_at;
     gives = laid_gives;
-    steps = λ number less. size_same (children_of ms) items (length ms) number (tall number less) sub_among;
+    steps = λ number less. size_same (children_of ms) items (length ms) number (every_tall ms apart number less) sub_among;
   }

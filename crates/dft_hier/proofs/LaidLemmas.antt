@@ -19,10 +19,10 @@ use Rattle.dft_hier.specs.Refusals.{first_unknown}
 use Rattle.dft_hier.specs.FlatNets.{total_by, NetsGiving, nets_in, live_nets, items_in, live_at, IsSubAt, GivesLive, size_in, IsNetLaid}
 use Rattle.dft_hier.specs.Weights.{AreWeights, AreLive, Live, no_live, no_weight, and_own, and_sub, and_item, live_from}
 use Rattle.dft_hier.proofs.FitLemmas.{numbers, paired_at}
-use Rattle.dft_hier.proofs.HeightLemmas.{IsTall, Grows, all_tall}
+use Rattle.dft_hier.proofs.HeightLemmas.{IsTall, Grows}
 use Rattle.dft_hier.proofs.LiveLemmas.{GivesNone, exact_weight, live_nets_from, first_child}
-use Rattle.dft_hier.proofs.NumberLemmas.{module_there, number_within, graph_count, graph_within}
-use Rattle.dft_hier.proofs.PartLemmas.{nets_deep_enough, tall_module, count_same}
+use Rattle.dft_hier.proofs.NumberLemmas.{module_there, number_within}
+use Rattle.dft_hier.proofs.PartLemmas.{nets_deep_enough, tall_module, count_same, every_tall}
 use Rattle.dft_hier.proofs.ReachLemmas.{stands_more}
 use Rattle.dft_hier.proofs.ModuleLemmas.{module_at}
 
@@ -76,14 +76,12 @@ size_same g items (suc depth) number (Grows each) among =
 -- ---- the whole
 
 module _ (ms : List Module) (weights : List Weight) (items : List Live) (known : first_unknown ms ≡ None) (apart : NoCircle (children_of ms)) (weighed : AreWeights ms (children_of ms) weights) (live : AreLive ms (children_of ms) weights items) where
-  tall : (k : ℕ) → k < length ms → IsTall (children_of ms) (length ms) k
-  tall k less = let c = graph_count ms in subst (λ (n : ℕ). IsTall (children_of ms) n k) c (all_tall (children_of ms) k apart (graph_within ms) (omega arith))
 
   -- a module without weight gives no net
   gives_none : GivesNone (nets_in (length ms) ms) ms weights
   gives_none k m at none prefix =
       let within = slice_get_within ms k m at in
-      let w = ap (λ (x : Weight). x.nets) (exact_weight ms weights (length ms) k m weighed (tall k within) at) in
+      let w = ap (λ (x : Weight). x.nets) (exact_weight ms weights (length ms) k m weighed (every_tall ms apart k within) at) in
       let zero_nets : (get_or weights k no_weight).nets ≡ 0 = grind (arith, nat_tests) in
       let c = count_same (length ms) ms prefix [] m in
       nil_from_length (nets_in (length ms) ms prefix m) (omega arith)
@@ -92,7 +90,7 @@ module _ (ms : List Module) (weights : List Weight) (items : List Live) (known :
   laid_gives number m at prefix =
       let N : NetsGiving = nets_in (length ms) ms in
       let within = slice_get_within ms number m at in
-      let standing = tall_module ms (length ms) number m (tall number within) at in
+      let standing = tall_module ms (length ms) number m (every_tall ms apart number within) at in
       let lists = live.each number m at in
       let found = live_nets_from N ms weights prefix m.items 0 m.items (children_at (children_of ms) number) no_live gives_none (λ j. (let e : 0 + j ≡ j = omega arith in ap (slice_get m.items) e)) (paired_at ms number m known at) in
       nets_deep_enough ms (length ms) m standing prefix
@@ -140,5 +138,5 @@ module _ (ms : List Module) (weights : List Weight) (items : List Live) (known :
       | inr past ↦ absurd (live_past number place l past at)
     ];
     gives = laid_gives;
-    steps = λ number less. size_same (children_of ms) items (length ms) number (tall number less) live_among;
+    steps = λ number less. size_same (children_of ms) items (length ms) number (every_tall ms apart number less) live_among;
   }

@@ -19,7 +19,7 @@ use Rattle.dft_hier.specs.Refusals.{IsBelow, Within as BelowWithin, Deeper as Be
 use Rattle.dft_hier.specs.TopNumbers.{is_instantiated, top_numbers, IsTop}
 use Rattle.dft_hier.proofs.NumberLemmas.{module_there, number_within, graph_count}
 use Rattle.dft_hier.proofs.FitLemmas.{children_of_at}
-use Rattle.dft_hier.proofs.ReachLemmas.{stands_cases, stands_none, stands_more}
+use Rattle.dft_hier.proofs.ReachLemmas.{stands_cases, stands_none, stands_behind}
 
 -- ---- the number of a name
 
@@ -76,15 +76,12 @@ has_child : (ms : List Module) (subs : List SubInstance) (name : Text) (k : ℕ)
 has_child ms [] name k has is = absurd (true≢false (sym has))
 has_child ms (s ∷ subs) name k has is = by (bytes_eq s.of name) refl has (has_child ms subs name k)
   where
-    behind : (o : Option ℕ) → StandsIn (numbers_of_subs ms subs) k → StandsIn (cons_option o (numbers_of_subs ms subs)) k
-    behind None h = h
-    behind (Some n) h = stands_more n (numbers_of_subs ms subs) k h
 
     by : (t : Bool) → bytes_eq s.of name ≡ t → (t || list_any (λ (s : SubInstance). bytes_eq s.of name) subs) ≡ true → (list_any (λ (s : SubInstance). bytes_eq s.of name) subs ≡ true → number_of ms name ≡ Some k → StandsIn (numbers_of_subs ms subs) k) → StandsIn (cons_option (number_of ms s.of) (numbers_of_subs ms subs)) k
     by true here has more =
         let same : number_of ms s.of ≡ Some k = ap (number_of ms) (same_text s.of name here) ∙ is in
         subst (λ (o : Option ℕ). StandsIn (cons_option o (numbers_of_subs ms subs)) k) (sym same) (record { place = 0; at = refl })
-    by false here has more = behind (number_of ms s.of) (more has is)
+    by false here has more = stands_behind (number_of ms s.of) (numbers_of_subs ms subs) k (more has is)
 
 -- a child is the module of an instance
 pub child_named : (ms : List Module) (subs : List SubInstance) (k : ℕ) (m : Module) → StandsIn (numbers_of_subs ms subs) k → slice_get ms k ≡ Some m → list_any (λ (s : SubInstance). bytes_eq s.of m.name) subs ≡ true

@@ -1,20 +1,21 @@
 -- What modules give: their nets, and that it does not hang on how deep a recursion may go.
-use Rattle.std.proofs.Common.{ℕ, zero, suc, ◌+◌, ◌≡◌, List, [], ◌∷◌, ◌++◌, length, map, Option, None, Some, slice_get, refl, sym, ap, subst, ◌∙◌, length-append}
+use Rattle.std.proofs.Common.{ℕ, zero, suc, ◌+◌, ◌≡◌, List, [], ◌∷◌, ◌++◌, length, map, Option, None, Some, slice_get, refl, sym, ap, subst, ◌∙◌, length-append, ◌<◌, arith}
 use Rattle.std.specs.List.{cons_option}
 use Rattle.dft_base.specs.Lexing.{Text}
+use Rattle.dft_hier.proofs.ReachLemmas.{stands_behind}
 use Rattle.dft_modules.specs.declared.module.SubInstance.{SubInstance}
 use Rattle.dft_modules.specs.declared.module.Item.{Item}
 use Rattle.dft_modules.specs.declared.module.Item.TheVariants as item
 use Rattle.dft_modules.specs.Modules.{Module}
 use Rattle.dft_hier.specs.Hierarchy.{subs_of, find_module}
 use Rattle.dft_hier.specs.Numbers.{number_of, numbers_of_subs, children_of}
-use Rattle.dft_hier.specs.Reach.{StandsIn, children_at}
+use Rattle.dft_hier.specs.Reach.{StandsIn, children_at, NoCircle}
 use Rattle.dft_hier.specs.Flat.{Parts, and_parts, Giving, sub_parts, item_parts, parts_within, inside, moved_join, moved_instance, connection_joins}
 use Rattle.dft_hier.specs.FlatNets.{NetsGiving, sub_nets, subs_nets, nets_in}
 use Rattle.dft_hier.proofs.FitLemmas.{children_of_at}
-use Rattle.dft_hier.proofs.HeightLemmas.{IsTall, Grows}
+use Rattle.dft_hier.proofs.HeightLemmas.{IsTall, Grows, all_tall}
 use Rattle.dft_hier.proofs.ModuleLemmas.{number_there}
-use Rattle.dft_hier.proofs.NumberLemmas.{module_there}
+use Rattle.dft_hier.proofs.NumberLemmas.{module_there, graph_count, graph_within}
 
 -- ---- nets alone
 
@@ -76,11 +77,11 @@ sub_number ms [] place k s at is = absurd (let f : ⊥ = cc in f)
 sub_number ms (x ∷ subs) zero k s at is =
     let e : x ≡ s = cc in
     subst (λ (o : Option ℕ). StandsIn (cons_option o (numbers_of_subs ms subs)) k) (sym (ap (λ (y : SubInstance). number_of ms y.of) e ∙ is)) (record { place = 0; at = refl })
-sub_number ms (x ∷ subs) (suc place) k s at is = behind (number_of ms x.of) (sub_number ms subs place k s at is)
-  where
-    behind : (o : Option ℕ) → StandsIn (numbers_of_subs ms subs) k → StandsIn (cons_option o (numbers_of_subs ms subs)) k
-    behind None h = h
-    behind (Some n) h = record { place = suc h.place; at = h.at }
+sub_number ms (x ∷ subs) (suc place) k s at is = stands_behind (number_of ms x.of) (numbers_of_subs ms subs) k (sub_number ms subs place k s at is)
+
+-- every module stands as tall as there are modules
+pub every_tall : (ms : List Module) → NoCircle (children_of ms) → (k : ℕ) → k < length ms → IsTall (children_of ms) (length ms) k
+every_tall ms apart k less = let c = graph_count ms in subst (λ (n : ℕ). IsTall (children_of ms) n k) c (all_tall (children_of ms) k apart (graph_within ms) (omega arith))
 
 pub tall_module : (ms : List Module) (depth k : ℕ) (m : Module) → IsTall (children_of ms) depth k → slice_get ms k ≡ Some m → StandsTall ms depth m
 tall_module ms zero k m tall at = elim tall [ ]

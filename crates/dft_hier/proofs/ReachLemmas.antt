@@ -1,8 +1,9 @@
 -- Modules that stand below each other, by their numbers.
-use Rattle.std.proofs.Common.{ℕ, zero, suc, ◌+◌, ◌<◌, ◌≤◌, ◌≡◌, ◌⊎◌, inl, inr, List, [], ◌∷◌, ◌++◌, length, take, get_or, Some, slice_get, refl, sym, ap, subst, arith, ◌∙◌}
+use Rattle.std.proofs.Common.{ℕ, zero, suc, ◌+◌, ◌<◌, ◌≤◌, ◌≡◌, ◌⊎◌, inl, inr, List, [], ◌∷◌, ◌++◌, length, take, get_or, Option, None, Some, slice_get, refl, sym, ap, subst, arith, ◌∙◌}
 use Rattle.std.proofs.lemmas.List.Elements.{All-get_or}
 use Rattle.std.proofs.lemmas.Option.{slice_get_within, get_or_from_slice_get}
 use Rattle.std.proofs.lemmas.Bool.{cases_lt}
+use Rattle.std.specs.List.{cons_option}
 use Rattle.dft_base.proofs.ListLemmas.{get_left, get_right, get_push}
 use Rattle.dft_hier.specs.Reach.{Graph, AreBelow, AreWithin, StandsIn, children_at, Leads, Child, Deeper, NoCircle, HasCircle, IsFirstOnCircle, IsOrder, NeverFalls, HasOwn}
 
@@ -19,6 +20,10 @@ stands_first k xs = record { place = 0; at = refl }
 
 pub stands_more : (x : ℕ) (xs : List ℕ) (k : ℕ) → StandsIn xs k → StandsIn (x ∷ xs) k
 stands_more x xs k h = record { place = suc h.place; at = h.at }
+
+pub stands_behind : (o : Option ℕ) (xs : List ℕ) (k : ℕ) → StandsIn xs k → StandsIn (cons_option o xs) k
+stands_behind None xs k h = h
+stands_behind (Some x) xs k h = stands_more x xs k h
 
 stands_cases_at : (x : ℕ) (xs : List ℕ) (k place : ℕ) → slice_get (x ∷ xs) place ≡ Some k → (x ≡ k) ⊎ StandsIn xs k
 stands_cases_at x xs k zero at = inl (let e : x ≡ k = cc in e)

@@ -114,7 +114,7 @@ never_above (x ∷ path) q j same = let rest : path ≡ below path j ++ q = cc i
 -- ---- below module instances
 
 module _ (find : Finding) (ms : List Module) (under : (path : Path) (m : Module) (k : ℕ) (s : Spot) → slice_get (find path m) k ≡ Some s → IsUnder path s) where
-  one_under : (path : Path) (o : Option Module) (k : ℕ) (s : Spot) → slice_get (sub_spots find path o) k ≡ Some s → IsUnder path s
+  pub one_under : (path : Path) (o : Option Module) (k : ℕ) (s : Spot) → slice_get (sub_spots find path o) k ≡ Some s → IsUnder path s
   one_under path None k s at = absurd (let f : ⊥ = cc in f)
   one_under path (Some m) k s at = under path m k s at
 
@@ -125,7 +125,7 @@ module _ (find : Finding) (ms : List Module) (under : (path : Path) (m : Module)
     | inr back ↦ (let r = subs_under path (suc place) subs back.number s back.at in let less = r.least in record { place = r.place; least = omega arith; under = r.under })
   ]
 
-  one_once : (path : Path) (o : Option Module) → ((p : Path) (m : Module) → AreOnce (find p m)) → AreOnce (sub_spots find path o)
+  pub one_once : (path : Path) (o : Option Module) → ((p : Path) (m : Module) → AreOnce (find p m)) → AreOnce (sub_spots find path o)
   one_once path None each = tt
   one_once path (Some m) each = each path m
 

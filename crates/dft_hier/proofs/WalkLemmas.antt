@@ -1,6 +1,6 @@
 -- A walk down through modules: a module is met, a module is finished, and what all of them give.
 use Rattle.std.proofs.Common.{ℕ, zero, suc, ◌+◌, ◌-◌, ◌<◌, ◌≤◌, ◌≡◌, ◌⊎◌, inl, inr, Bool, true, false, not, ◌||◌, ◌&&◌, cond, List, [], ◌∷◌, ◌++◌, length, take, get_or, reverse, replicate, Option, None, Some, slice_get, slice_set, refl, sym, ap, subst, arith, ◌∙◌, length-set, true≢false}
-use Rattle.std.proofs.lemmas.List.{reverse-append, take-append-le, take_at}
+use Rattle.std.proofs.lemmas.List.{reverse-append, take-append-le, take_at, length-replicate}
 use Rattle.std.proofs.lemmas.List.Elements.{All-from_get_or}
 use Rattle.std.proofs.lemmas.Option.{slice_get_within, slice_get-get_or}
 use Rattle.std.proofs.lemmas.Bool.{cases_lt, and_parts}
@@ -418,14 +418,10 @@ new_states zero k s h = absurd (let f : ⊥ = cc in f)
 new_states (suc count) zero s h = cc
 new_states (suc count) (suc k) s h = new_states count k s h
 
-new_count : (count : ℕ) → length (replicate count New) ≡ count
-new_count zero = refl
-new_count (suc count) = ap suc (new_count count)
-
 pub begins : (g : Graph) (count : ℕ) → count ≡ length g → IsWalkedTo g 0 (record { states = replicate count New; way = []; order = []; circle = false })
 begins g count is = record {
   walking = record {
-    count = new_count count ∙ is;
+    count = length-replicate count New ∙ is;
     way = tt;
     walked = λ k h. (let e : New ≡ Walked = new_states count k Walked h in let f : ⊥ = cc in absurd f);
     finished = λ k h. (let e : New ≡ Finished = new_states count k Finished h in let f : ⊥ = cc in absurd f);

@@ -3,6 +3,7 @@ use Rattle.std.proofs.Common.{ℕ, zero, suc, ◌+◌, ◌≡◌, ◌<◌, ◌�
 use Rattle.std.specs.List.{range_with_len}
 use Rattle.std.proofs.lemmas.List.Sums.{sum_by-cons}
 use Rattle.std.proofs.lemmas.Bool.{eqb-true}
+use Rattle.dft_netlist.proofs.LiveLemmas.{le_or_lt}
 use Rattle.dft_netlist.specs.NetNumbers.{nets_from}
 use Rattle.dft_netlist.specs.Netlist.{Netlist}
 use Rattle.dft_config.specs.Config.{Config}
@@ -176,12 +177,7 @@ claims_once style n config k ready =
     let range = range_row (length (frame style n config).nets) (nets_in (made_in style n config)) k in
     let row = lone_row style n config k in
     let lies = laid style n config ready in
-    elim (le_or_lt_here (length (frame style n config).nets) k) [
+    elim (le_or_lt (length (frame style n config).nets) k) [
       | inl past ↦ (let e = row.back (omega (arith, past, lies.before, frame_nets style n config)) in let f = range.few in omega (arith, few, e, f))
       | inr less ↦ (let e = range.front less in let f = row.few in omega (arith, few, e, f))
     ]
-  where
-    le_or_lt_here : (a b : ℕ) → (a ≤ b) ⊎ (b < a)
-    le_or_lt_here zero b = inl (omega arith)
-    le_or_lt_here (suc a) zero = inr (omega arith)
-    le_or_lt_here (suc a) (suc b) = elim (le_or_lt_here a b) [ inl h ↦ inl (omega (arith, h)) | inr h ↦ inr (omega (arith, h)) ]

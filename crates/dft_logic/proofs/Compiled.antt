@@ -11,6 +11,7 @@ use Rattle.dft_cells.specs.declared.kind.Kind.TheVariants as kind
 use Rattle.dft_cells.specs.declared.kind.Role.{Role}
 use Rattle.dft_cells.specs.declared.kind.Role.TheVariants.{Input, Clock, Din, Reset, Preset, ScanIn, ScanEnable, Output, Inverted}
 use Rattle.dft_cells.specs.FlipFlops.{is_flip_flop}
+use Rattle.dft_netlist.proofs.LiveLemmas.{past_free}
 use Rattle.dft_netlist.specs.declared.ids.NetId.{NetId}
 use Rattle.dft_netlist.specs.declared.instance.Instance.{Instance}
 use Rattle.dft_netlist.specs.Netlist.{Netlist}
@@ -29,7 +30,6 @@ use Rattle.dft_logic.specs.declared.circuit.FlipFlop.{FlipFlop}
 use Rattle.dft_logic.specs.Circuit.{Circuit, IsCircuit, AreTables, meaning, Fits, op_at, cell_of, cell_at, latch_of, latch_at, logic_at, AreOrdered}
 use Rattle.dft_logic.specs.Compiling.{found_in, wired_by, with_source, latch_in, latch_kept, kept_latch, IsOpOf, AreFlops, AreLatches, IsCircuitOf}
 use Rattle.dft_logic.proofs.Writings.{cell_read, cell_past}
-use Rattle.dft_logic.proofs.Pasts.{past_free}
 
 -- ---- lock-ups by instance
 
@@ -153,7 +153,7 @@ sourced ports s (Some clock) e source clocks h = sym (ap (λ (p : ℕ × Source)
 means_all : (n : Netlist) (ports : Ports) (ops : List Op) → IsNetlist n → length ops ≡ length n.nets → ((net : ℕ) → net < length n.nets → IsOpOf n ports net (op_at ops net)) →
     (k : ℕ) → meaning (op_at ops k) ≡ (logic_of n ports).net k
 means_all n ports ops sound size each k = elim (leb_tells (length n.nets) k) [
-  | inl out ↦ (let far : length ops ≤ k = omega (arith, out.1) in ap meaning (get_or_past ops k Free far) ∙ sym (ap (meaning_of n ports k) (past_free n k sound out.1)))
+  | inl out ↦ (let far : length ops ≤ k = omega (arith, out.1) in ap meaning (get_or_past ops k Free far) ∙ sym (ap (meaning_of n ports k) (past_free n sound k out.1)))
   | inr live ↦ (each k live.1).means
 ]
 

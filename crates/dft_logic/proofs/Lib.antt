@@ -17,7 +17,6 @@ pub mod PackedLemmas
 pub mod WireLemmas
 pub mod OpLemmas
 pub mod BuildLemmas
-pub mod Pasts
 pub mod Compiled
 pub mod Fillings
 pub mod NeedLemmas

@@ -5,10 +5,10 @@ use Rattle.std.specs.List.{AllByRecursion}
 use Rattle.std.proofs.lemmas.Bool.Decides.{leb_tells}
 use Rattle.std.proofs.lemmas.List.{get_or_past, drop_all, append-nil}
 use Rattle.std.proofs.lemmas.Bool.{cases_Bool}
+use Rattle.dft_netlist.proofs.StandLemmas.{has_all}
 use Rattle.dft_netlist.specs.declared.ids.NetId.{NetId}
 use Rattle.dft_netlist.specs.Logic.{reads}
 use Rattle.dft_netlist.specs.Orders.{Has, numbers_of}
-use Rattle.dft_netlist.proofs.RankLemmas.{has_all}
 use Rattle.dft_netlist.proofs.ListingLemmas.{all_from}
 use Rattle.dft_logic.specs.Needs.{HasAll, IsStrobeClosed}
 use Rattle.dft_logic.specs.declared.circuit.Op.{Op}

@@ -31,10 +31,10 @@ use Rattle.dft_logic.specs.ShownTables.{edges_of}
 
 -- ---- what a flip-flop needs
 
-split : (k : ℕ) (source : Source) (sources : List Source) → Has (nets_of (source ∷ sources)) k → Has (nets_of (source ∷ [])) k ⊎ Has (nets_of sources) k
-split k (Net net) sources h = elim h [ inl e ↦ inl (inl e) | inr rest ↦ inr rest ]
-split k (Tied bit) sources h = inr h
-split k (Loose i pin) sources h = inr h
+pub one_or_more : (k : ℕ) (source : Source) (sources : List Source) → Has (nets_of (source ∷ sources)) k → Has (nets_of (source ∷ [])) k ⊎ Has (nets_of sources) k
+one_or_more k (Net net) sources h = elim h [ inl e ↦ inl (inl e) | inr rest ↦ inr rest ]
+one_or_more k (Tied bit) sources h = inr h
+one_or_more k (Loose i pin) sources h = inr h
 
 first : (k : ℕ) (source : Source) (sources : List Source) → Has (nets_of (source ∷ [])) k → Has (nets_of (source ∷ sources)) k
 first k (Net net) sources h = elim h [ inl e ↦ inl e | inr none ↦ absurd none ]
@@ -69,14 +69,14 @@ enable_needed k cell Computes scan is h = has_right k (nets_of (cell.input ∷ [
 chosen_needed : (k : ℕ) (enable : Tri) (scan : Scan) (data_in : Source) → Has (nets_of (chosen_reads enable scan.input data_in)) k → Has (nets_of (data_in ∷ []) ++ nets_of (scan.enable ∷ scan.input ∷ [])) k
 chosen_needed k Zero scan d h = has_left k (nets_of (d ∷ [])) (nets_of (scan.enable ∷ scan.input ∷ [])) h
 chosen_needed k One scan d h = has_right k (nets_of (d ∷ [])) (nets_of (scan.enable ∷ scan.input ∷ [])) (second k scan.enable (scan.input ∷ []) h)
-chosen_needed k Unknown scan d h = elim (split k scan.input (d ∷ []) h) [
+chosen_needed k Unknown scan d h = elim (one_or_more k scan.input (d ∷ []) h) [
   | inl si ↦ has_right k (nets_of (d ∷ [])) (nets_of (scan.enable ∷ scan.input ∷ [])) (second k scan.enable (scan.input ∷ []) si)
   | inr di ↦ has_left k (nets_of (d ∷ [])) (nets_of (scan.enable ∷ scan.input ∷ [])) di
 ]
 
 taken_needed : (k : ℕ) (scan : Option Scan) (at : Source → Tri) (data_in : Source) → Has (nets_of (taken_reads scan at data_in)) k → Has (nets_of (data_in ∷ []) ++ scan_needs false scan) k
 taken_needed k None at d h = has_left k (nets_of (d ∷ [])) [] h
-taken_needed k (Some scan) at d h = elim (split k scan.enable (chosen_reads (at scan.enable) scan.input d) h) [
+taken_needed k (Some scan) at d h = elim (one_or_more k scan.enable (chosen_reads (at scan.enable) scan.input d) h) [
   | inl e ↦ has_right k (nets_of (d ∷ [])) (nets_of (scan.enable ∷ scan.input ∷ [])) (first k scan.enable (scan.input ∷ []) e)
   | inr rest ↦ chosen_needed k (at scan.enable) scan d rest
 ]

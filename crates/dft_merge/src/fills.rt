@@ -1,15 +1,12 @@
 //! The bits that the channels take where no equation decides.
 
 ghost use Rattle.std.specs.Prelude.{◌≡◌, ◌/◌, ◌<◌, IfOk, length};
-ghost use Rattle.rand_core.specs.Steps.{first_words};
-ghost use Rattle.rand_pcg.specs.Pcg.{pcg32};
 ghost use Rattle.dft_config.specs.declared.config.FillRule.TheVariants.{Seed};
 ghost use Rattle.dft_merge.specs.Fills as spec;
-ghost use Rattle.dft_merge.specs.Fills.{fill_of, generator};
+ghost use Rattle.dft_merge.specs.Fills.{fill_of};
 
 use dft_config::{Config, FillRule};
-use rand_core::utils::NextWord;
-use rand_pcg::Lcg64Xsh32;
+use dft_random::drawn;
 use std::alloc::{AllocError, Global};
 
 /// The fill bits of a pattern, one for each of so many columns: zeros, ones, or the bits, lowest first, of the words of 32
@@ -47,16 +44,4 @@ fn bit_of_column(words: &[u32], column: usize) -> bool
     ensures { result ≡ spec.bit_of_column words.now column }
 {
     words[column / 32] >> (column % 32) & 1 == 1
-}
-
-// The first words that a pattern's generator gives.
-fn drawn(alloc: Global, seed: u64, pattern: u32, count: usize) -> Result<Vec<u32>, AllocError>
-    ensures { IfOk result (λ words. words.items ≡ first_words pcg32 count (generator seed pattern)) }
-{
-    let mut random = Lcg64Xsh32::new(seed, u64::from(pattern));
-    let mut words = Vec::with_capacity(alloc, count)?;
-    for _turn in 0..count {
-        words.push(random.next_word())?;
-    }
-    Ok(words)
 }

@@ -1,9 +1,10 @@
 -- The least net that is driven twice.
-use Rattle.std.proofs.Common.{◌≡◌, ℕ, zero, suc, ◌+◌, ◌<◌, ◌≤◌, Bool, true, false, cond, List, [], ◌∷◌, length, Option, None, Some, refl, sym, ◌∙◌, ap, subst, arith, slice_get, count_by, ◌==◌, ◌⊎◌, inl, inr}
+use Rattle.std.proofs.Common.{◌≡◌, ℕ, ◌+◌, ◌<◌, ◌≤◌, Bool, true, false, cond, List, [], ◌∷◌, length, Option, None, Some, refl, sym, ◌∙◌, ap, subst, arith, slice_get, count_by, ◌==◌, ◌⊎◌, inl, inr}
 use Rattle.std.specs.Prelude.{nat_le}
 use Rattle.std.proofs.lemmas.Bool.Decides.{nat_tests}
 use Rattle.std.proofs.lemmas.List.Sums.{sum_by-cons}
 use Rattle.std.proofs.lemmas.Bool.{eqb-true, eq-eqb, ne_eqb}
+use Rattle.dft_netlist.proofs.StandLemmas.{there}
 use Rattle.dft_netlist.specs.declared.ids.NetId.{NetId}
 use Rattle.dft_netlist.specs.declared.net_driver.NetDriver.{NetDriver}
 use Rattle.dft_netlist.specs.declared.net_driver.NetDriver.TheVariants.{Input, Pin, Join, Nothing}
@@ -85,12 +86,7 @@ apart : (d : Drive) (net : ℕ) (a : NetDriver) → (d.0.0 ≡ net → ⊥) → 
 apart d net a ne = rw (ne_eqb d.0.0 net ne) (kept a)
 
 below_one : (s : Notes) (d : Drive) (net : ℕ) (a : NetDriver) (o : Option NetDriver) → (d.1 ≡ Nothing → ⊥) → slice_get s.found net ≡ Some a → slice_get s.found d.0.0 ≡ o → d.0.0 < length s.found → IsBelow (noted_at o s d).clash net → BelowOne s d net a
-below_one s d net a None some at is live h = absurd (past s.found d.0.0 live is)
-  where
-    past : {X : Type 0} (xs : List X) (i : ℕ) → i < length xs → slice_get xs i ≡ None → ⊥
-    past [] i lt e = let f : ⊥ = absurd (omega arith) in f
-    past (x ∷ xs) zero lt e = cc
-    past (x ∷ xs) (suc i) lt e = past xs i (omega arith) e
+below_one s d net a None some at is live h = absurd (there s.found d.0.0 live is)
 below_one s d net a (Some Nothing) some at is live h = record { below = h; exact = by (d.0.0 == net) refl }
   where
     by : (t : Bool) → (d.0.0 == net) ≡ t → occ (merged a (cond t d.1 Nothing)) ≡ occ a + cond t 1 0

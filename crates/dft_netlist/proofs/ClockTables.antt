@@ -1,7 +1,7 @@
 -- The clock that a net shows is one step back from it, by the clocks of the nets that its driver reads.
 use Rattle.std.proofs.Common.{◌≡◌, ℕ, zero, suc, ◌<◌, Bool, List, [], ◌∷◌, Option, None, Some, length, get_or, set, drop, refl, sym, ◌∙◌, ap, subst, arith, ◌⊎◌, inl, inr}
-use Rattle.std.specs.List.{AllByRecursion}
 use Rattle.std.proofs.lemmas.List.{length-set, get_or_past, get_or-set_same, get_or-set_other, at_drop_more}
+use Rattle.dft_netlist.proofs.StandLemmas.{has_all}
 use Rattle.dft_netlist.specs.declared.ids.NetId.{NetId}
 use Rattle.dft_netlist.specs.declared.instance.Signal.{Signal}
 use Rattle.dft_netlist.specs.declared.instance.Signal.TheVariants as signal
@@ -13,9 +13,9 @@ use Rattle.dft_netlist.specs.Orders.{Has, reads_of, IsOrderFrom, IsOrder, number
 use Rattle.dft_netlist.specs.Sound.{IsNetlist}
 use Rattle.dft_netlist.specs.ClockRoots.{ClockRoot, turn_of, turned_by, clock_of_inputs, clock_of_gate, clock_of_driver, clock_within, clock_root_of}
 use Rattle.dft_netlist.specs.ClockSteps.{shown_clock, IsClockWalk}
-use Rattle.dft_netlist.proofs.LiveLemmas.{le_or_lt}
+use Rattle.dft_netlist.proofs.LiveLemmas.{le_or_lt, past_free}
 use Rattle.dft_netlist.specs.ClockTables.{clock_among, clock_in, AreClocks}
-use Rattle.dft_netlist.proofs.RootTables.{has_below, past_free}
+use Rattle.dft_netlist.proofs.RootTables.{has_below}
 use Rattle.dft_netlist.proofs.ClockLemmas.{clock_walk}
 
 -- two walks find the same where they do at the nets of these sources
@@ -111,10 +111,6 @@ one_shown n rank o clocks net rest clock is r = record {
         ap shown_clock (get_or-set_other clocks net k clock None apart) ∙ r.done k was)
   ];
 }
-  where
-    has_all : (P : ℕ → Type 0) (ys : List ℕ) (k : ℕ) → AllByRecursion P ys → Has ys k → P k
-    has_all P [] k all mem = absurd mem
-    has_all P (y ∷ ys) k all mem = elim mem [ inl e ↦ subst P (sym e) all.0 | inr m ↦ has_all P ys k all.1 m ]
 
 -- what a pin is joined to shows the clock of its source
 pub shown_in : (clocks : List (Option declared.ClockRoot)) (i p : ℕ) (s : Signal) → clock_among clocks (source_of i p s) ≡ shown_clock (clock_in clocks s)

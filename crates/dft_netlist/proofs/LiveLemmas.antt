@@ -7,7 +7,7 @@ use Rattle.dft_netlist.specs.declared.port.Port.{Port}
 use Rattle.dft_netlist.specs.declared.net_driver.NetDriver.{NetDriver}
 use Rattle.dft_netlist.specs.declared.net_driver.NetDriver.TheVariants.{Input, Pin, Join, Nothing}
 use Rattle.dft_netlist.specs.Netlist.{Netlist}
-use Rattle.dft_netlist.specs.Drivers.{Driven, all_driven}
+use Rattle.dft_netlist.specs.Drivers.{Driven, Free, driver, all_driven}
 use Rattle.dft_netlist.specs.Finding.{AreDrivers}
 use Rattle.dft_netlist.specs.Names.{bit_names}
 use Rattle.dft_netlist.specs.NetDrivers.{Drives, times_driven, driver_at, IsFirstMultiple}
@@ -153,3 +153,17 @@ notes_are n a b c d ea eb ec ed =
     let js = joins_drives 0 n.joins in
     ed ∙ ap (λ s. all_noted s js) (ec ∙ ap (λ s. all_noted s is) (eb ∙ ap (λ s. all_noted s ps) ea))
     ∙ sym (all_noted-append start ps (is ++ js) ∙ all_noted-append (all_noted start ps) is js)
+
+-- ---- a net past the end has no driver
+
+pub past_free : (n : Netlist) → IsNetlist n → (net : ℕ) → length n.nets ≤ net → driver n net ≡ Free
+past_free n s net past = by (first_by (all_drives n) net) (driver_same n (all_drives n) (all_driven n) net (all_entries n)) (elim (first_drives n (all_drives n) (all_driven n) net (all_entries n)) [ inl none ↦ inl none.0 | inr d ↦ inr d ])
+  where
+    no : (b : NetDriver) → (b ≡ Nothing → ⊥) → (b ≡ Nothing) ⊎ Drives n b net → ⊥
+    no b some h = elim h [ inl e ↦ some e | inr d ↦ (let lt = drive_live n s b net some d in let f : ⊥ = absurd (omega (arith, lt, past)) in f) ]
+
+    by : (b : NetDriver) → driver n net ≡ driver_at n b → (b ≡ Nothing) ⊎ Drives n b net → driver n net ≡ Free
+    by Nothing e h = e
+    by Input e h = absurd (no Input (λ q. cc) h)
+    by (Pin i p) e h = absurd (no (Pin i p) (λ q. cc) h)
+    by (Join j) e h = absurd (no (Join j) (λ q. cc) h)

@@ -3,7 +3,7 @@ use Rattle.std.proofs.Common.{◌≡◌, ℕ, zero, suc, Bool, true, false, cond
 use Rattle.std.specs.List.{filter_map, cons_option}
 use Rattle.std.specs.Option.{option_and_then}
 use Rattle.std.specs.Str.{bytes_eq}
-use Rattle.std.proofs.lemmas.Bool.{or_cases}
+use Rattle.std.proofs.lemmas.Bool.{or_cases, or_from}
 use Rattle.dft_cells.specs.WellFormed.{has_name}
 use Rattle.dft_netlist.specs.declared.named.Named.{Named}
 use Rattle.dft_netlist.specs.declared.named.Named.TheVariants.{Net, Vector, Instance}
@@ -169,3 +169,7 @@ only_free n q false is h = is
 pub own_free_look_up : (es : List Entry) (n : Netlist) (name : Option Text) → Knows es n → first_taken n (own_names name) ≡ None → IsFree es name
 own_free_look_up es n None k h = tt
 own_free_look_up es n (Some q) k h = free_look_up es n q (look_up es q) k (only_free n q (is_taken n q) refl h) refl
+
+-- where none of two lists has the name, none of the two together has it
+pub none_append : (xs ys : List Text) (q : Text) → has_name xs q ≡ false → has_name ys q ≡ false → has_name (xs ++ ys) q ≡ false
+none_append xs ys q first second = has-append xs ys q ∙ or_from (has_name xs q) (has_name ys q) first second

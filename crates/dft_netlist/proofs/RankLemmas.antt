@@ -1,19 +1,13 @@
 -- An order ranks the nets by their places.
 use Rattle.std.proofs.Common.{◌≡◌, ℕ, suc, ◌<◌, ◌≤◌, Bool, true, false, cond, List, [], ◌∷◌, length, refl, sym, ◌∙◌, ap, subst, arith, ◌⊎◌, inl, inr, ◌==◌}
-use Rattle.std.specs.List.{AllByRecursion}
 use Rattle.std.proofs.lemmas.Bool.{eqb-true, eq-eqb}
-use Rattle.dft_netlist.specs.declared.net_driver.NetDriver.{NetDriver}
-use Rattle.dft_netlist.specs.declared.net_driver.NetDriver.TheVariants.{Input, Pin, Join, Nothing}
+use Rattle.dft_netlist.proofs.StandLemmas.{has_all}
 use Rattle.dft_netlist.specs.Netlist.{Netlist}
-use Rattle.dft_netlist.specs.Drivers.{driver, all_driven, nets_read, AreBelow}
+use Rattle.dft_netlist.specs.Drivers.{nets_read, AreBelow}
 use Rattle.dft_netlist.specs.DesignLaws.{OrderRanks}
-use Rattle.dft_netlist.specs.NetDrivers.{driver_at, Drives}
-use Rattle.dft_netlist.specs.Notes.{all_drives}
 use Rattle.dft_netlist.specs.Orders.{Has, reads_of, IsOrderFrom}
 use Rattle.dft_netlist.specs.Sound.{IsNetlist}
-use Rattle.dft_netlist.proofs.DriveLemmas.{all_entries, first_by}
-use Rattle.dft_netlist.proofs.ClashLemmas.{driver_same, first_drives}
-use Rattle.dft_netlist.proofs.LiveLemmas.{drive_live, le_or_lt}
+use Rattle.dft_netlist.proofs.LiveLemmas.{le_or_lt, past_free}
 
 -- how many nets stand before this one
 abbrev place_in : List ℕ → (net : ℕ) → ℕ
@@ -43,10 +37,6 @@ not_before : (n : Netlist) (before xs : List ℕ) → IsOrderFrom n before xs �
 not_before n before [] o k has was = has
 not_before n before (x ∷ xs) o k has was = elim has [ inl e ↦ o.0 (subst (Has before) e was) | inr more ↦ not_before n (x ∷ before) xs o.3 k more (inr was) ]
 
-pub has_all : (P : ℕ → Type 0) (ys : List ℕ) (r : ℕ) → AllByRecursion P ys → Has ys r → P r
-has_all P [] r all mem = absurd mem
-has_all P (y ∷ ys) r all mem = elim mem [ inl e ↦ subst P (sym e) all.0 | inr m ↦ has_all P ys r all.1 m ]
-
 read_earlier : (n : Netlist) (before xs : List ℕ) → IsOrderFrom n before xs → (net r : ℕ) → Has xs net → Has (reads_of n net) r → Has before r ⊎ (Has xs r × (place_in xs r < place_in xs net))
 read_earlier n before [] o net r has reads = absurd has
 read_earlier n before (x ∷ xs) o net r has reads = elim has [
@@ -70,18 +60,9 @@ pub all_below : (rank : ℕ → ℕ) (k : ℕ) (xs : List ℕ) → ((r : ℕ) �
 all_below rank k [] h = tt
 all_below rank k (x ∷ xs) h = (h x (inl refl), all_below rank k xs (λ r m. h r (inr m)))
 
--- a net past the end has no driver
+-- a net past the end reads none
 past_reads : (n : Netlist) → IsNetlist n → (net : ℕ) → length n.nets ≤ net → reads_of n net ≡ []
-past_reads n s net past = by (first_by (all_drives n) net) (driver_same n (all_drives n) (all_driven n) net (all_entries n)) (elim (first_drives n (all_drives n) (all_driven n) net (all_entries n)) [ inl none ↦ inl none.0 | inr d ↦ inr d ])
-  where
-    no : (b : NetDriver) → (b ≡ Nothing → ⊥) → (b ≡ Nothing) ⊎ Drives n b net → ⊥
-    no b some h = elim h [ inl e ↦ some e | inr d ↦ (let lt = drive_live n s b net some d in let f : ⊥ = absurd (omega (arith, lt, past)) in f) ]
-
-    by : (b : NetDriver) → driver n net ≡ driver_at n b → (b ≡ Nothing) ⊎ Drives n b net → reads_of n net ≡ []
-    by Nothing e h = ap (nets_read n) e
-    by Input e h = ap (nets_read n) e
-    by (Pin i p) e h = absurd (no (Pin i p) (λ q. cc) h)
-    by (Join j) e h = absurd (no (Join j) (λ q. cc) h)
+past_reads n s net past = ap (nets_read n) (past_free n s net past)
 
 pub order_ranks : OrderRanks
 order_ranks = λ n order s o. (

@@ -1,29 +1,23 @@
 -- The root of a net is one step back from it, by the roots of the nets that its driver reads.
 use Rattle.std.proofs.Common.{◌≡◌, ℕ, zero, suc, ◌<◌, ◌≤◌, List, [], ◌∷◌, length, get_or, set, drop, refl, sym, ◌∙◌, ap, subst, arith, ◌⊎◌, inl, inr}
-use Rattle.std.specs.List.{AllByRecursion}
 use Rattle.std.proofs.lemmas.List.{length-set, get_or_past, get_or-set_same, get_or-set_other, at_drop_more}
 use Rattle.dft_cells.specs.declared.kind.Kind.{Kind}
 use Rattle.dft_cells.specs.declared.kind.Kind.TheVariants.{Buf}
+use Rattle.dft_netlist.proofs.StandLemmas.{has_all}
 use Rattle.dft_netlist.specs.declared.ids.NetId.{NetId}
 use Rattle.dft_netlist.specs.declared.instance.Signal.{Signal}
 use Rattle.dft_netlist.specs.declared.instance.Signal.TheVariants as signal
-use Rattle.dft_netlist.specs.declared.net_driver.NetDriver.{NetDriver}
-use Rattle.dft_netlist.specs.declared.net_driver.NetDriver.TheVariants.{Input as AnInput, Pin, Join, Nothing}
 use Rattle.dft_netlist.specs.declared.root.Root as declared
 use Rattle.dft_netlist.specs.declared.root.Root.TheVariants.{Other}
 use Rattle.dft_netlist.specs.Netlist.{Netlist}
-use Rattle.dft_netlist.specs.Drivers.{Source, Net, Tied, Loose, Driver, Input, Gate, Joined, Flop, Free, driver, all_driven, source_of, nets_of, nets_read, AreBelow, IsOrdered}
+use Rattle.dft_netlist.specs.Drivers.{Source, Net, Tied, Loose, Driver, Input, Gate, Joined, Flop, Free, driver, source_of, nets_of, nets_read, AreBelow, IsOrdered}
 use Rattle.dft_netlist.specs.Drivers as drivers
-use Rattle.dft_netlist.specs.NetDrivers.{driver_at, Drives}
-use Rattle.dft_netlist.specs.Notes.{all_drives}
 use Rattle.dft_netlist.specs.Orders.{Has, reads_of, IsOrderFrom, IsOrder, numbers_of}
 use Rattle.dft_netlist.specs.Roots.{shown_root}
 use Rattle.dft_netlist.specs.Sound.{IsNetlist}
 use Rattle.dft_netlist.specs.Traces.{Root, passed_by_buffer, passed_by_gate, root_of_passed, root_of_driver, root_within, root_of}
 use Rattle.dft_netlist.specs.WalkSteps.{IsWalk}
-use Rattle.dft_netlist.proofs.DriveLemmas.{all_entries, first_by}
-use Rattle.dft_netlist.proofs.ClashLemmas.{driver_same, first_drives}
-use Rattle.dft_netlist.proofs.LiveLemmas.{drive_live, le_or_lt}
+use Rattle.dft_netlist.proofs.LiveLemmas.{le_or_lt, past_free}
 use Rattle.dft_netlist.proofs.TraceLemmas.{is_walk}
 use Rattle.dft_netlist.specs.RootTables.{root_among, root_in, AreRoots}
 
@@ -69,20 +63,6 @@ pub one_step : (n : Netlist) (rank : ℕ → ℕ) → IsOrdered n rank → (net 
 one_step n rank o net =
     same_step n (root_within n (length n.nets)) (root_of n) (is_walk n (length n.nets)) (is_walk n (suc (length n.nets))) net (driver n net)
     (λ r has. steady n rank o (length n.nets) r (let below = has_below rank (rank net) (reads_of n net) (o.after net) r has in let within = o.within net in omega arith))
-
--- ---- a net past the end
-
-pub past_free : (n : Netlist) → IsNetlist n → (net : ℕ) → length n.nets ≤ net → driver n net ≡ Free
-past_free n s net past = by (first_by (all_drives n) net) (driver_same n (all_drives n) (all_driven n) net (all_entries n)) (elim (first_drives n (all_drives n) (all_driven n) net (all_entries n)) [ inl none ↦ inl none.0 | inr d ↦ inr d ])
-  where
-    no : (b : NetDriver) → (b ≡ Nothing → ⊥) → (b ≡ Nothing) ⊎ Drives n b net → ⊥
-    no b some h = elim h [ inl e ↦ some e | inr d ↦ (let lt = drive_live n s b net some d in let f : ⊥ = absurd (omega (arith, lt, past)) in f) ]
-
-    by : (b : NetDriver) → driver n net ≡ driver_at n b → (b ≡ Nothing) ⊎ Drives n b net → driver n net ≡ Free
-    by Nothing e h = e
-    by AnInput e h = absurd (no AnInput (λ q. cc) h)
-    by (Pin i p) e h = absurd (no (Pin i p) (λ q. cc) h)
-    by (Join j) e h = absurd (no (Join j) (λ q. cc) h)
 
 -- ---- the roots so far
 
@@ -138,10 +118,6 @@ one_rooted n rank o roots net rest root is r = record {
         ap shown_root (get_or-set_other roots net k root Other apart) ∙ r.done k was)
   ];
 }
-  where
-    has_all : (P : ℕ → Type 0) (ys : List ℕ) (k : ℕ) → AllByRecursion P ys → Has ys k → P k
-    has_all P [] k all mem = absurd mem
-    has_all P (y ∷ ys) k all mem = elim mem [ inl e ↦ subst P (sym e) all.0 | inr m ↦ has_all P ys k all.1 m ]
 
 -- what a pin is joined to has the root of its source
 pub shown_in : (roots : List declared.Root) (i p : ℕ) (s : Signal) → root_among roots (source_of i p s) ≡ shown_root (root_in roots s)

@@ -3,6 +3,7 @@ use Rattle.std.proofs.Common.{◌≡◌, ℕ, zero, suc, ◌+◌, ◌-◌, ◌<�
 use Rattle.std.specs.List.{AllByRecursion}
 use Rattle.std.proofs.lemmas.Option.{slice_get_within}
 use Rattle.std.proofs.lemmas.Bool.{cases_eq}
+use Rattle.std.proofs.lemmas.List.{length-replicate}
 use Rattle.dft_netlist.specs.declared.ids.NetId.{NetId}
 use Rattle.dft_netlist.specs.declared.progress.State.{State}
 use Rattle.dft_netlist.specs.declared.progress.State.TheVariants.{New, Walked, Placed}
@@ -11,16 +12,16 @@ use Rattle.dft_netlist.specs.Orders.{Has, reads_of, IsOrderFrom, IsOrder, number
 use Rattle.dft_netlist.specs.OrderSteps.{back_of, IsChain, IsUnderWay, IsBetween, MeetsAgain}
 use Rattle.dft_netlist.specs.Progress.{Stand, entered, left, top_of, first_open, is_placed, is_new, is_walked}
 use Rattle.dft_netlist.proofs.Places.{set_cases}
-use Rattle.dft_netlist.proofs.Weights.{count_met, count_placed, count_none, count_all, all_new, length_new}
+use Rattle.dft_netlist.proofs.Weights.{count_met, count_placed, count_none, count_all, all_new}
 use Rattle.dft_netlist.proofs.DriveLemmas.{get_set_same, get_set_other}
 
 back-push : (walk : List NetId) (net : NetId) → back_of (walk ++ net ∷ []) ≡ net.0 ∷ back_of walk
 back-push [] net = refl
 back-push (x ∷ walk) net = ap (λ xs. xs ++ x.0 ∷ []) (back-push walk net)
 
-pub numbers-push : (order : List NetId) (net : NetId) → numbers_of (order ++ net ∷ []) ≡ numbers_of order ++ net.0 ∷ []
-numbers-push [] net = refl
-numbers-push (x ∷ order) net = ap (λ xs. x.0 ∷ xs) (numbers-push order net)
+pub numbers_push : (order : List NetId) (net : NetId) → numbers_of (order ++ net ∷ []) ≡ numbers_of order ++ net.0 ∷ []
+numbers_push [] net = refl
+numbers_push (x ∷ order) net = ap (λ xs. x.0 ∷ xs) (numbers_push order net)
 
 pub has_left : (xs ys : List ℕ) (k : ℕ) → Has xs k → Has (xs ++ ys) k
 has_left [] ys k h = absurd h
@@ -190,14 +191,14 @@ leaves n start s net u top none = by (popped s.walk net top).same
         record {
           count = length-set s.states net.0 Placed ∙ u.count;
           counted = (let more = length-append s.order (net ∷ []) in let was = u.counted in let now = count_placed s.states net.0 is in omega arith);
-          ordered = rw (numbers-push s.order net) (order_push n [] (numbers_of s.order) net.0 u.ordered
+          ordered = rw (numbers_push s.order net) (order_push n [] (numbers_of s.order) net.0 u.ordered
               (λ h. elim h [ inl never ↦ never | inr has ↦ (let e : Some Walked ≡ Some Placed = sym is ∙ u.in_order net.0 has in cc) ])
               (omega arith) (all_placed s.states _ (λ k p. inr (u.placed k p)) (reads_of n net.0) none));
-          placed = λ k h. rw (numbers-push s.order net) (elim (cases_eq net.0 k) [
+          placed = λ k h. rw (numbers_push s.order net) (elim (cases_eq net.0 k) [
             | inl e ↦ subst (Has (numbers_of s.order ++ net.0 ∷ [])) e (has_push (numbers_of s.order) net.0)
             | inr ne ↦ has_left (numbers_of s.order) (net.0 ∷ []) k (u.placed k (sym (get_set_other s.states net.0 k Placed ne) ∙ h))
           ]);
-          in_order = λ k h. elim (has_push_cases (numbers_of s.order) net.0 k (subst (λ xs. Has xs k) (numbers-push s.order net) h)) [
+          in_order = λ k h. elim (has_push_cases (numbers_of s.order) net.0 k (subst (λ xs. Has xs k) (numbers_push s.order net) h)) [
             | inl was ↦ state_kept s.states Placed net.0 k Placed Walked is (λ e. cc) (u.in_order k was)
             | inr e ↦ ap (slice_get (slice_set s.states net.0 Placed)) e ∙ get_set_same s.states net.0 Walked Placed is
           ];
@@ -213,16 +214,16 @@ leaves n start s net u top none = by (popped s.walk net top).same
 
 -- ---- a net is met again
 
+pub has_all : (P : ℕ → Type 0) (ys : List ℕ) (r : ℕ) → AllByRecursion P ys → Has ys r → P r
+has_all P [] r all mem = absurd mem
+has_all P (y ∷ ys) r all mem = elim mem [ inl e ↦ subst P (sym e) all.0 | inr m ↦ has_all P ys r all.1 m ]
+
 orderable_from : (n : Netlist) (before xs : List ℕ) → ((k : ℕ) → Has before k → IsOrderable n k) → IsOrderFrom n before xs → (k : ℕ) → Has xs k → IsOrderable n k
 orderable_from n before [] h o k has = absurd has
 orderable_from n before (x ∷ xs) h o k has =
     let here : IsOrderable n x = Follows (λ r reads. h r (has_all (Has before) (reads_of n x) r o.2 reads)) in
     let more : (j : ℕ) → Has (x ∷ before) j → IsOrderable n j = λ j b. elim b [ inl e ↦ subst (IsOrderable n) (sym e) here | inr was ↦ h j was ] in
     elim has [ inl e ↦ subst (IsOrderable n) (sym e) here | inr later ↦ orderable_from n (x ∷ before) xs more o.3 k later ]
-  where
-    has_all : (P : ℕ → Type 0) (ys : List ℕ) (r : ℕ) → AllByRecursion P ys → Has ys r → P r
-    has_all P [] r all mem = absurd mem
-    has_all P (y ∷ ys) r all mem = elim mem [ inl e ↦ subst P (sym e) all.0 | inr m ↦ has_all P ys r all.1 m ]
 
 pub placed_orderable : (n : Netlist) (start : ℕ) (s : Stand) → IsUnderWay n start s → (k : ℕ) → slice_get s.states k ≡ Some Placed → IsOrderable n k
 placed_orderable n start s u k h = orderable_from n [] (numbers_of s.order) (λ j never. absurd never) u.ordered k (u.placed k h)
@@ -304,7 +305,7 @@ state_cases (Some New) k a b c = absurd (a refl)
 state_cases (Some Walked) k a b c = absurd (b refl)
 state_cases (Some Placed) k a b c = refl
 
-there : {X : Type 0} (xs : List X) (k : ℕ) → k < length xs → slice_get xs k ≡ None → ⊥
+pub there : {X : Type 0} (xs : List X) (k : ℕ) → k < length xs → slice_get xs k ≡ None → ⊥
 there [] k lt h = let f : ⊥ = absurd (omega arith) in f
 there (x ∷ xs) zero lt h = cc
 there (x ∷ xs) (suc k) lt h = there xs k (omega arith) h
@@ -395,7 +396,7 @@ skips n start s b old live = ends n start s b.way b.no_walk live (λ h. true≢f
 pub fresh : (n : Netlist) (count : ℕ) → count ≡ length n.nets → IsBetween n 0 (record { states = replicate count New; order = []; walk = [] })
 fresh n count is = record {
   way = record {
-    count = length_new count ∙ is;
+    count = length-replicate count New ∙ is;
     counted = sym (count_none count);
     ordered = tt;
     placed = λ k h. (let e : Placed ≡ New = all_new count k Placed h in absurd (let f : ⊥ = cc in f));

@@ -1,5 +1,5 @@
 -- How much of an order is to be made.
-use Rattle.std.proofs.Common.{◌≡◌, ℕ, zero, suc, ◌+◌, ◌<◌, List, [], ◌∷◌, Some, refl, ap, arith, slice_get, slice_set}
+use Rattle.std.proofs.Common.{◌≡◌, ℕ, zero, suc, ◌+◌, ◌<◌, List, [], ◌∷◌, Some, refl, arith, slice_get, slice_set}
 use Rattle.std.proofs.Common.{length, cond, replicate}
 use Rattle.dft_netlist.specs.Progress.{is_placed, placed_count}
 use Rattle.dft_netlist.specs.declared.progress.State.{State}
@@ -58,7 +58,3 @@ pub all_new : (count k : ℕ) (s : State) → slice_get (replicate count New) k 
 all_new zero k s h = absurd (let f : ⊥ = cc in f)
 all_new (suc count) zero s h = cc
 all_new (suc count) (suc k) s h = all_new count k s h
-
-pub length_new : (count : ℕ) → length (replicate count New) ≡ count
-length_new zero = refl
-length_new (suc count) = ap suc (length_new count)

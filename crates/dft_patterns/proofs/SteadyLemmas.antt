@@ -2,6 +2,7 @@
 use Rattle.std.proofs.Common.{cond, add-one, drop, drop-cons, ◌⊎◌, inl, inr, replicate, is_some, ◌≡◌, ◌≢◌, ℕ, zero, suc, ◌<◌, ◌≤◌, ◌+◌, Bool, true, false, true≢false, ◌||◌, ◌&&◌, List, [], ◌∷◌, length, get_or, slice_set, get_or-set_same, get_or-set_other, below_more, Option, Some, None, refl, sym, ap, ◌∙◌, arith}
 use Rattle.std.proofs.lemmas.Bool.{cases_lt, or_right}
 use Rattle.std.proofs.lemmas.List.{length-set, length-replicate, get_or_past}
+use Rattle.dft_base.proofs.ListLemmas.{none_marked}
 use Rattle.dft_base.proofs.SumLemmas.{and_false as and_with_false}
 use Rattle.dft_base.proofs.BitLemmas.{or_false, first_false}
 use Rattle.dft_patterns.specs.declared.act.Act.{Act}
@@ -57,11 +58,7 @@ flagged_each acts start now f k = flagged' acts start now k f (cases_lt k (lengt
 -- ---- all vectors
 
 pub none_yet : (count : ℕ) (vectors : List (List Act)) → AreFlagged count vectors vectors (replicate count false)
-none_yet count vectors = record { len = length-replicate count false; each = λ k. ap (λ t. t || pulses vectors k) (no_flag count k) } where
-  no_flag : (n k : ℕ) → get_or (replicate n false) k false ≡ false
-  no_flag zero k = refl
-  no_flag (suc n) zero = refl
-  no_flag (suc n) (suc k) = no_flag n k
+none_yet count vectors = record { len = length-replicate count false; each = λ k. ap (λ t. t || pulses vectors k) (none_marked count k) } where
 
 or_swap : (p s r : Bool) → ((p || s) || r) ≡ (s || (p || r))
 or_swap true true r = refl

@@ -48,6 +48,10 @@ placed d k cell is same less =
 
 -- ---- nothing is known at first
 
+pub either_unknown : (b : Bool) → (if b then Unknown else Unknown) ≡ Unknown
+either_unknown true = refl
+either_unknown false = refl
+
 pub none_known : (rows : List (List Tri)) (places : List Place) (resting : List Tri) (count : ℕ) (size : ℕ → ℕ) → length places ≡ count → resting ≡ replicate count Unknown → ((r : ℕ) → row_at rows r ≡ replicate (size r) Unknown) →
     values_in rows places resting ≡ replicate count Unknown
 none_known rows places resting count size sized none each =
@@ -59,10 +63,7 @@ none_known rows places resting count size sized none each =
     let p : Place = place_at places c in
     let here : value_at own c ≡ Unknown = same_all count c Unknown in
     read_at rows places own c full live ∙ ap (λ (t : Tri). value_in rows p t) here ∙ ap (λ (x : List Tri). if p.register == 0 then Unknown else value_at x p.index) (each p.register)
-    ∙ ap (λ (t : Tri). if p.register == 0 then Unknown else t) (same_all (size p.register) p.index Unknown) ∙ either (p.register == 0) ∙ sym here))) where
-      either : (b : Bool) → (if b then Unknown else Unknown) ≡ Unknown
-      either true = refl
-      either false = refl
+    ∙ ap (λ (t : Tri). if p.register == 0 then Unknown else t) (same_all (size p.register) p.index Unknown) ∙ either_unknown (p.register == 0) ∙ sym here)))
 
 -- ---- a value is written
 

@@ -7,7 +7,7 @@ use Rattle.dft_base.specs.declared.tri.Tri.{Tri}
 use Rattle.dft_base.specs.declared.tri.Tri.TheVariants.{Zero, One, Unknown}
 use Rattle.dft_netlist.specs.declared.ids.NetId.{NetId}
 use Rattle.dft_netlist.specs.Orders.{numbers_of}
-use Rattle.dft_netlist.proofs.StandLemmas.{numbers-push}
+use Rattle.dft_netlist.proofs.StandLemmas.{numbers_push}
 use Rattle.dft_patterns.specs.declared.act.Act.{Act}
 use Rattle.dft_patterns.specs.declared.act.Act.TheVariants.{Unset, Low, High, Pulse, ExpectLow, ExpectHigh, Ignore}
 use Rattle.dft_replay.specs.declared.comparing.Asked.{Asked}
@@ -125,7 +125,7 @@ listed_some nets acts i wanted asked net bit same less some here listed =
     compared_split (numbers_of nets) acts i (omega arith) less ∙ at_some i (get_or (numbers_of nets) i 0) (act_at acts i) (rest_from nets acts (suc i)) bit some
     ∙ (λ k. record { signal = i; net = here k; bit = bit } ∷ next_rest nets acts i k) in
     record {
-      nets_are = ap (λ (ns : List ℕ). ns ++ map (λ (c : Compared). c.net) (rest_from nets acts (i + 1))) (numbers-push wanted net)
+      nets_are = ap (λ (ns : List ℕ). ns ++ map (λ (c : Compared). c.net) (rest_from nets acts (i + 1))) (numbers_push wanted net)
           ∙ append_assoc (numbers_of wanted) (net.0 ∷ []) (map (λ (c : Compared). c.net) (rest_from nets acts (i + 1)))
           ∙ ap (λ (cs : List Compared). numbers_of wanted ++ map (λ (c : Compared). c.net) cs) (sym rest) ∙ listed.nets_are;
       asked_are = append_assoc asked (record { signal = i; printed = bit } ∷ []) (map asked_of (rest_from nets acts (i + 1)))

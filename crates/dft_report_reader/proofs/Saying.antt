@@ -12,7 +12,8 @@ use Rattle.std.proofs.lemmas.Str.Parse.{numerals_by_value, tells_by_index}
 use Rattle.std.proofs.lemmas.Bool.Decides.{nat_tests}
 use Rattle.std.proofs.lemmas.List.{append_assoc, get_or_append_left}
 use Rattle.std.proofs.lemmas.List.Sums.{list_all-from_AllPass}
-use Rattle.std.proofs.lemmas.Bool.{and_from}
+use Rattle.std.proofs.lemmas.Bool.{and_from, and_parts}
+use Rattle.dft_base.proofs.TextLemmas.{printed_byte}
 use Rattle.dft_base.specs.Lexing.{Text}
 use Rattle.dft_base.specs.Name.{IsName}
 use Rattle.dft_base.specs.declared.rule.Rule.{Rule}
@@ -37,13 +38,10 @@ name_fine name is = list_all-from_AllPass (λ b. nat_le 33 b) name (λ k d less.
 pub name_heard : (name : Text) → IsName name → is_name name ≡ true
 name_heard name is =
     and_from (nat_lt 0 (length name)) (is_printed_word name) (some (length name) is.some)
-    (list_all-from_AllPass is_printed name (λ k d less. printed (get_or name k d) (is.each k d less).0 (is.each k d less).1))
+    (list_all-from_AllPass is_printed name (λ k d less. printed_byte (get_or name k d) (is.each k d less).0 (is.each k d less).1))
   where
     some : (n : ℕ) → 0 < n → nat_lt 0 n ≡ true
     some n h = grind (arith, nat_tests)
-
-    printed : (b : ℕ) → 33 ≤ b → b ≤ 126 → is_printed b ≡ true
-    printed b h k = grind (arith, nat_tests)
 
 -- ---- lines
 
@@ -186,12 +184,7 @@ variables_heard (v ∷ u ∷ vs) each = all_heard (v ∷ u ∷ vs) each
 
 fine_append : (a b : Text) → IsFine a → IsFine b → IsFine (a ++ b)
 fine_append [] b h k = k
-fine_append (x ∷ a) b h k = let r = both_parts (nat_le 33 x) (list_all (λ b. nat_le 33 b) a) h in and_from (nat_le 33 x) (list_all (λ b. nat_le 33 b) (a ++ b)) r.0 (fine_append a b r.1 k)
-  where
-    both_parts : (p q : Bool) → (p && q) ≡ true → (p ≡ true) × (q ≡ true)
-    both_parts true true e = (refl, refl)
-    both_parts true false e = absurd cc
-    both_parts false q e = absurd cc
+fine_append (x ∷ a) b h k = let r = and_parts (nat_le 33 x) (list_all (λ b. nat_le 33 b) a) h in and_from (nat_le 33 x) (list_all (λ b. nat_le 33 b) (a ++ b)) r.0 (fine_append a b r.1 k)
 
 variable_fine : (v : Variable) → IsVariableReadable v → IsFine (variable_word v)
 variable_fine v is = fine_append (decimal v.channel) (46 ∷ decimal v.cycle) (number_fine v.channel is.0) (number_fine v.cycle is.1)

@@ -1,5 +1,5 @@
 -- Ports that a configuration names: inputs, and no reset is a clock.
-use Rattle.std.proofs.Common.{ℕ, zero, suc, ◌+◌, ◌≡◌, ◌||◌, Bool, true, false, cond, List, [], ◌∷◌, Option, None, Some, option_and_then, slice_get, refl, sym, ap, arith, ◌∙◌}
+use Rattle.std.proofs.Common.{ℕ, zero, suc, ◌+◌, ◌≡◌, ◌||◌, Bool, true, false, List, [], ◌∷◌, Option, None, Some, option_and_then, slice_get, refl, sym, ap, arith, ◌∙◌}
 use Rattle.std.specs.Prelude.{if◌then◌else◌}
 use Rattle.std.specs.List.{list_any}
 use Rattle.std.specs.Str.{bytes_eq}
@@ -8,11 +8,12 @@ use Rattle.std.proofs.lemmas.Option.{none-some, same_Some, get_or_from_slice_get
 use Rattle.std.proofs.lemmas.Map.Keys.{any_passes_from_place}
 use Rattle.dft_base.specs.Lexing.{Text}
 use Rattle.dft_base.proofs.BitLemmas.{true_false}
-use Rattle.dft_base.proofs.TextLemmas.{same_text, bytes_eq-self}
+use Rattle.dft_base.proofs.TextLemmas.{bytes_eq-self}
+use Rattle.dft_netlist.proofs.FindLemmas.{found_at}
 use Rattle.dft_netlist.specs.declared.ids.NetId.{NetId}
 use Rattle.dft_netlist.specs.Connections.{is_input, input_net}
 use Rattle.dft_netlist.specs.Drivers.{driver}
-use Rattle.dft_netlist.specs.Names.{find_net, find_net_from}
+use Rattle.dft_netlist.specs.Names.{find_net}
 use Rattle.dft_netlist.specs.Netlist.{Netlist}
 use Rattle.dft_config.specs.Config.{Config}
 use Rattle.dft_config.specs.Range.{IsInRange, has}
@@ -20,15 +21,6 @@ use Rattle.dft_rules.specs.Rules.{is_net}
 use Rattle.dft_rules.specs.ConfigPorts.{config_ports}
 
 -- ---- the net of a name
-
-by_first : (t : Bool) (from : ℕ) (x : Text) (nets : List Text) (q : Text) (k : NetId) → bytes_eq x q ≡ t → (find_net_from (suc from) nets q ≡ Some k → (j : ℕ) × (k.0 ≡ suc from + j) × (slice_get nets j ≡ Some q)) →
-    cond t (Some (record { 0 = from })) (find_net_from (suc from) nets q) ≡ Some k → (j : ℕ) × (k.0 ≡ from + j) × (slice_get (x ∷ nets) j ≡ Some q)
-by_first true from x nets q k is more h = (0, sym (ap (λ (i : NetId). i.0) (same_Some (record { 0 = from }) k h)) ∙ omega arith, ap Some (same_text x q is))
-by_first false from x nets q k is more h = let r = more h in (suc r.0, r.1 ∙ omega arith, r.2)
-
-found_at : (from : ℕ) (nets : List Text) (q : Text) (k : NetId) → find_net_from from nets q ≡ Some k → (j : ℕ) × (k.0 ≡ from + j) × (slice_get nets j ≡ Some q)
-found_at from [] q k h = absurd (none-some k h)
-found_at from (x ∷ nets) q k h = by_first (bytes_eq x q) from x nets q k refl (found_at (suc from) nets q k) h
 
 pub name_at : (n : Netlist) (q : Text) (net : ℕ) → find_net n q ≡ Some (record { 0 = net }) → slice_get n.nets net ≡ Some q
 name_at n q net h = let r = found_at 0 n.nets q (record { 0 = net }) h in let at : net ≡ r.0 = r.1 ∙ omega arith in ap (slice_get n.nets) at ∙ r.2

@@ -7,7 +7,7 @@ use Rattle.std.proofs.lemmas.Option.{none-some, same_Some}
 use Rattle.dft_base.specs.declared.tri.Tri.{Tri}
 use Rattle.dft_base.specs.declared.tri.Tri.TheVariants.{Zero, One, Unknown}
 use Rattle.dft_base.specs.Tri.{known, AboveTri}
-use Rattle.dft_base.proofs.BitLemmas.{true_false, and_second, and_first}
+use Rattle.dft_base.proofs.BitLemmas.{true_false, and_second, and_first, or_more}
 use Rattle.dft_cells.proofs.Completions.{above_self}
 use Rattle.dft_netlist.specs.declared.ids.NetId.{NetId}
 use Rattle.dft_netlist.specs.declared.ids.InstanceId.{InstanceId}
@@ -163,12 +163,9 @@ any_kept : (f chosen : Point → Bool) → ((point : Point) → chosen point ≡
 any_kept f chosen fails [] is = is
 any_kept f chosen fails (point ∷ points) is = by (chosen point) refl (any_kept f chosen fails points)
   where
-    front : (a b c : Bool) → (b ≡ true → c ≡ true) → (a || b) ≡ true → (a || c) ≡ true
-    front true b c below h = refl
-    front false b c below h = below h
 
     by : (c : Bool) → chosen point ≡ c → (list_any f points ≡ true → list_any f (filter chosen points) ≡ true) → list_any f (if c then point ∷ filter chosen points else filter chosen points) ≡ true
-    by true it below = front (f point) (list_any f points) (list_any f (filter chosen points)) below is
+    by true it below = or_more (f point) (list_any f points) (list_any f (filter chosen points)) below is
     by false it below = below (sym (ap (λ (b : Bool). b || list_any f points) (fails point it)) ∙ is)
 
 -- a point that passes, by its place

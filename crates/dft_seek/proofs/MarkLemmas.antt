@@ -4,6 +4,7 @@ use Rattle.std.specs.List.{list_any}
 use Rattle.std.proofs.lemmas.Bool.{eqb-true, or_parts}
 use Rattle.std.proofs.lemmas.Bool.Decides.{eqb_tells, leb_tells}
 use Rattle.std.proofs.lemmas.List.{length-set, get_or_past, drop_all, take_all, take_more}
+use Rattle.dft_netlist.proofs.StandLemmas.{numbers_push}
 use Rattle.dft_netlist.specs.declared.ids.NetId.{NetId}
 use Rattle.dft_netlist.specs.Orders.{numbers_of}
 use Rattle.dft_logic.specs.Circuit.{flag_at}
@@ -116,11 +117,7 @@ raises_join a b c xs ys p q one two = record {
 
 -- the numbers of one net more
 pub numbers_more : (nets : List NetId) (j : ℕ) (d : NetId) → j < length nets → numbers_of (take (j + 1) nets) ≡ numbers_of (take j nets) ++ (get_or nets j d).0 ∷ []
-numbers_more nets j d less = ap numbers_of (take_more nets j d less) ∙ map_one (take j nets) (get_or nets j d)
-  where
-    map_one : (xs : List NetId) (x : NetId) → numbers_of (xs ++ x ∷ []) ≡ numbers_of xs ++ x.0 ∷ []
-    map_one [] x = refl
-    map_one (y ∷ ys) x = ap (λ (ns : List ℕ). y.0 ∷ ns) (map_one ys x)
+numbers_more nets j d less = ap numbers_of (take_more nets j d less) ∙ numbers_push (take j nets) (get_or nets j d)
 
 pub raises_more : (nets : List NetId) (j : ℕ) (d : NetId) (a b c : List Bool) (p q : Bool) → j < length nets → Raises a b (numbers_of (take j nets)) p → Raises b c ((get_or nets j d).0 ∷ []) q → Raises a c (numbers_of (take (j + 1) nets)) (p || q)
 raises_more nets j d a b c p q less one two =

@@ -3,6 +3,7 @@ use Rattle.std.proofs.Common.{ℕ, suc, ◌≡◌, ◌==◌, Bool, true, false, 
 use Rattle.std.specs.Prelude.{if◌then◌else◌}
 use Rattle.std.proofs.lemmas.Bool.{eq-eqb, or_left, or_right}
 use Rattle.std.proofs.lemmas.Option.{slice_get-map}
+use Rattle.dft_base.proofs.BitLemmas.{or_more}
 use Rattle.dft_base.specs.declared.tri.Tri.{Tri}
 use Rattle.dft_base.specs.Tri.{known}
 use Rattle.dft_cells.specs.declared.cell.Cell.{Cell}
@@ -72,11 +73,7 @@ among_here net nets = or_left (net == net) (is_among net nets) (eq-eqb net net r
 
 pub among_left : (net : ℕ) (xs ys : List ℕ) → is_among net xs ≡ true → is_among net (xs ++ ys) ≡ true
 among_left net [] ys is = absurd cc
-among_left net (x ∷ xs) ys is = step (x == net) (is_among net xs) (is_among net (xs ++ ys)) (among_left net xs ys) is
-  where
-    step : (a b c : Bool) → (b ≡ true → c ≡ true) → (a || b) ≡ true → (a || c) ≡ true
-    step true b c more is = refl
-    step false b c more is = more is
+among_left net (x ∷ xs) ys is = or_more (x == net) (is_among net xs) (is_among net (xs ++ ys)) (among_left net xs ys) is
 
 pub among_right : (net : ℕ) (xs ys : List ℕ) → is_among net ys ≡ true → is_among net (xs ++ ys) ≡ true
 among_right net [] ys is = is

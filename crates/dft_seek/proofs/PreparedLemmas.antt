@@ -1,14 +1,15 @@
 -- Each table of a planned design that is made ready is what its name says.
-use Rattle.std.proofs.Common.{ℕ, zero, suc, ◌≡◌, ◌<◌, ◌≤◌, ◌==◌, inl, inr, Bool, true, false, not, ◌&&◌, ◌||◌, List, [], ◌∷◌, length, filter, slice_get, Option, None, Some, refl, sym, subst, ap, arith, ◌∙◌, true≢false}
+use Rattle.std.proofs.Common.{ℕ, ◌≡◌, ◌<◌, ◌≤◌, ◌==◌, inl, inr, Bool, true, false, not, ◌&&◌, ◌||◌, List, [], ◌∷◌, length, filter, Option, None, Some, refl, sym, subst, ap, arith, ◌∙◌, true≢false}
 use Rattle.std.specs.Prelude.{if◌then◌else◌}
 use Rattle.std.specs.List.{AllByRecursion}
 use Rattle.std.proofs.lemmas.Bool.{eq-eqb, or_right}
 use Rattle.std.proofs.lemmas.Bool.Decides.{leb_tells}
 use Rattle.std.proofs.lemmas.List.{get_or_past}
 use Rattle.std.proofs.lemmas.Option.{slice_get_past}
+use Rattle.dft_base.proofs.BitLemmas.{and_assoc}
+use Rattle.dft_netlist.proofs.LiveLemmas.{past_free}
 use Rattle.dft_netlist.specs.declared.ids.NetId.{NetId}
 use Rattle.dft_netlist.specs.declared.ids.InstanceId.{InstanceId}
-use Rattle.dft_netlist.specs.declared.instance.Instance.{Instance}
 use Rattle.dft_cells.specs.declared.kind.Role.TheVariants as role
 use Rattle.dft_netlist.specs.Netlist.{Netlist}
 use Rattle.dft_netlist.specs.Connections.{is_input, signal_of}
@@ -23,7 +24,6 @@ use Rattle.dft_cells.specs.WellFormed.{IsWellFormed}
 use Rattle.dft_config.specs.Config.{Config}
 use Rattle.dft_config.specs.Range.{IsInRange}
 use Rattle.dft_rules.specs.Refusals.{refusal}
-use Rattle.dft_netlist.proofs.RootTables.{past_free}
 use Rattle.dft_rules.specs.ConfigPorts.{config_ports}
 use Rattle.dft_expect.specs.Capturing.{CanCapture}
 use Rattle.dft_expect.proofs.ScannedCells.{IsModelled}
@@ -133,10 +133,6 @@ input_means n ports net (drivers.Lockup i) = by (domain_at n ports (pin_of role.
     by None = refl
     by (Some clock) = refl
 input_means n ports net drivers.Free = refl
-
-and_assoc : (a b c : Bool) → ((a && b) && c) ≡ (a && (b && c))
-and_assoc true b c = refl
-and_assoc false b c = refl
 
 -- the test by which ports are chosen
 pub drivable_same : (s : Search) (clocks resets : List Bool) (x : Circuit) (net : ℕ) → IsCircuitOf s.design (ports_by clocks) x → ((k : ℕ) → flag_at clocks k ≡ (config_ports s.design s.config).is_clock k) →

@@ -5,17 +5,17 @@ use Rattle.std.specs.List.{list_any}
 use Rattle.std.specs.Str.{bytes_eq}
 use Rattle.std.proofs.lemmas.Bool.{eqb-true, or_right, false_from_ne_true}
 use Rattle.std.proofs.lemmas.Bool.Decides.{leb_tells}
-use Rattle.std.proofs.lemmas.Slice.Eq.{bytes_eq-Decides}
 use Rattle.std.proofs.lemmas.Option.{none-some, same_Some, slice_get_past}
 use Rattle.dft_base.specs.Lexing.{Text}
-use Rattle.dft_base.proofs.TextLemmas.{same_text, bytes_eq-self}
+use Rattle.dft_base.proofs.TextLemmas.{bytes_eq-self}
 use Rattle.dft_cells.specs.FlipFlops.{is_flip_flop}
 use Rattle.dft_cells.specs.declared.kind.Role.TheVariants as role
+use Rattle.dft_netlist.proofs.FindLemmas.{found_at}
 use Rattle.dft_netlist.specs.declared.ids.NetId.{NetId}
 use Rattle.dft_netlist.specs.declared.ids.InstanceId.{InstanceId}
 use Rattle.dft_netlist.specs.Netlist.{Netlist}
 use Rattle.dft_netlist.specs.Connections.{input_net, is_input}
-use Rattle.dft_netlist.specs.Names.{find_net, find_net_from}
+use Rattle.dft_netlist.specs.Names.{find_net}
 use Rattle.dft_netlist.specs.Drivers.{Source, Driver, driver, kind_at, kind_of, pins_of}
 use Rattle.dft_netlist.specs.Drivers as drivers
 use Rattle.dft_netlist.specs.Logic.{Cell, Force, Ports, Scan, Input, Clock, Flop, Free, domain_at, domain_of, flip_flop, flop_meaning, force_of, forcing, lockup_meaning, meaning_of, modelled, modelled_of, or_loose, pin_of, scan_of}
@@ -40,15 +40,6 @@ use Rattle.dft_seek.proofs.MarkLemmas.{either_up}
 
 -- ---- a clock is no reset
 
-name_there : (from : ℕ) (nets : List Text) (name : Text) (k : NetId) → find_net_from from nets name ≡ Some k → (i : ℕ) × ((k.0 ≡ from + i) × (slice_get nets i ≡ Some name))
-name_there from [] name k is = absurd (none-some k is)
-name_there from (x ∷ nets) name k is = by (bytes_eq x name) refl (name_there (suc from) nets name k) is
-  where
-    by : (b : Bool) → bytes_eq x name ≡ b → (find_net_from (suc from) nets name ≡ Some k → (i : ℕ) × ((k.0 ≡ suc from + i) × (slice_get nets i ≡ Some name))) →
-        (if b then Some (record { 0 = from }) else find_net_from (suc from) nets name) ≡ Some k → (i : ℕ) × ((k.0 ≡ from + i) × (slice_get (x ∷ nets) i ≡ Some name))
-    by true same below h = (0, (sym (ap (λ (n : NetId). n.0) (same_Some (record { 0 = from }) k h)) ∙ (let e : from ≡ from + 0 = omega arith in e), ap (λ (t : Text). Some t) (same_text x name same)))
-    by false other below h = (let found = below h in (suc found.0, (found.1.0 ∙ (let e : suc from + found.0 ≡ from + suc found.0 = omega arith in e), found.1.1)))
-
 found_named : (n : Netlist) (o : Option NetId) (k : NetId) → option_and_then (λ net. if is_input (driver n net.0) then Some net else None) o ≡ Some k → o ≡ Some k
 found_named n None k is = absurd (none-some k is)
 found_named n (Some net) k is = by (is_input (driver n net.0)) is
@@ -61,7 +52,7 @@ found_named n (Some net) k is = by (is_input (driver n net.0)) is
 pub net_named : (n : Netlist) (net : ℕ) (name : Text) (o : Option NetId) → input_net n name ≡ o → is_net net o ≡ true → slice_get n.nets net ≡ Some name
 net_named n net name None is found = absurd (true≢false (sym found))
 net_named n net name (Some k) is found =
-    let there = name_there 0 n.nets name k (found_named n (find_net n name) k is) in
+    let there = found_at 0 n.nets name k (found_named n (find_net n name) k is) in
     ap (slice_get n.nets) (sym (eqb-true k.0 net found) ∙ there.1.0 ∙ (let e : 0 + there.0 ≡ there.0 = omega arith in e)) ∙ there.1.1
 
 -- one of the names that stands for a net

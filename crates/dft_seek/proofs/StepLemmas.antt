@@ -9,9 +9,6 @@ use Rattle.dft_netlist.specs.Drivers as drivers
 use Rattle.dft_netlist.specs.Logic.{Cell, Meaning, Ports, Input, Clock, Gate, Joined, Flop, Lockup, Free, domain_at, flip_flop, flop_meaning, lockup_meaning, meaning_of, or_loose, pin_of}
 use Rattle.dft_netlist.specs.ClockRoots.{ClockRoot}
 use Rattle.dft_cells.specs.declared.kind.Role.TheVariants as role
-use Rattle.dft_netlist.specs.declared.ids.NetId.{NetId}
-use Rattle.dft_netlist.specs.Orders.{numbers_of}
-use Rattle.dft_netlist.proofs.StandLemmas.{numbers-push}
 use Rattle.dft_logic.specs.declared.circuit.Op.{Op}
 use Rattle.dft_logic.specs.declared.circuit.Op.TheVariants as op
 use Rattle.dft_logic.specs.declared.circuit.Operand.{Operand}
@@ -84,10 +81,6 @@ steps_walked s ports o shown pins passed net d are passes means shows = op_same 
     by drivers.Free none = none_shown shown pins passed none
 
 -- ---- the nets of operands
-
--- the number of one net more, by a name that code can say
-pub numbers_push : (xs : List NetId) (x : NetId) → numbers_of (xs ++ x ∷ []) ≡ numbers_of xs ++ x.0 ∷ []
-numbers_push xs x = numbers-push xs x
 
 pub operands_more : (inputs : List Operand) (k : ℕ) (d : Operand) (old new all : List ℕ) → k < length inputs → new ≡ old ++ nets_of (source_at (get_or inputs k d) ∷ []) → old ++ nets_of (map source_at (drop k inputs)) ≡ all →
     new ++ nets_of (map source_at (drop (k + 1) inputs)) ≡ all

@@ -62,7 +62,7 @@ pub(crate) fn shown_cells(
 }
 
 // Adds the net of an operand, if it is one.
-#[tactic(auto, using(crate::proofs::StepLemmas::numbers_push))]
+#[tactic(auto, using(dft_netlist::proofs::StandLemmas::numbers_push))]
 fn add_operand(nets: &mut Vec<NetId>, input: &Operand) -> Result<(), AllocError>
     ensures { OnOk result (numbers_of nets.new.items ≡ numbers_of nets.old.items ++ nets_of (source_at input.now ∷ [])) }
 {
@@ -87,7 +87,7 @@ fn operand_nets(alloc: Global, inputs: &[Operand]) -> Result<Vec<NetId>, AllocEr
 }
 
 // Adds the net of a pin, if it is joined to one.
-#[tactic(auto, using(crate::proofs::StepLemmas::numbers_push))]
+#[tactic(auto, using(dft_netlist::proofs::StandLemmas::numbers_push))]
 fn add_pin(nets: &mut Vec<NetId>, pin: Option<Signal>) -> Result<(), AllocError>
     ensures { OnOk result (numbers_of nets.new.items ≡ numbers_of nets.old.items ++ pins_spec.pin_nets pin) }
 {

@@ -3,7 +3,7 @@ use Rattle.std.proofs.Common.{◌≡◌, ◌≢◌, ℕ, zero, suc, ◌<◌, ◌
 use Rattle.std.specs.List.{list_any}
 use Rattle.std.specs.Str.{bytes_eq}
 use Rattle.std.proofs.Math.Seq.{get_or-append_seam}
-use Rattle.std.proofs.lemmas.Bool.{cases_lt}
+use Rattle.std.proofs.lemmas.Bool.{cases_lt, or_parts}
 use Rattle.std.proofs.lemmas.List.{get_or_append_left}
 use Rattle.std.proofs.lemmas.Slice.Eq.{bytes_eq-Decides}
 use Rattle.dft_base.specs.Lexing.{Text}
@@ -32,14 +32,10 @@ pairs_at R xs x h a i j d less inside (inr far) =
 pairs_more : {X : Type 0} (R : X → X → Type 0) (xs : List X) (x : X) → AllPairs R xs → All (λ y. R y x) xs → AllPairs R (xs ++ x ∷ [])
 pairs_more R xs x h a i j d less inside = let long = length-append xs (x ∷ []) in pairs_at R xs x h a i j d less (omega arith) (cases_lt j (length xs))
 
-no_right : (a b : Bool) → (a || b) ≡ false → b ≡ false
-no_right true b e = absurd (true≢false e)
-no_right false b e = e
-
 none_named : {X : Type 0} (p : X → Bool) (xs : List X) → list_any p xs ≡ false → All (λ x. p x ≡ false) xs
 none_named p [] e k d h = absurd (omega arith)
 none_named p (x ∷ xs) e zero d h = neither (p x) (list_any p xs) e
-none_named p (x ∷ xs) e (suc k) d h = none_named p xs (no_right (p x) (list_any p xs) e) k d (omega arith)
+none_named p (x ∷ xs) e (suc k) d h = none_named p xs ((or_parts (p x) (list_any p xs) e).1) k d (omega arith)
 
 not_some : (o : Option ℕ) → not (is_some o) ≡ true → o ≡ None
 not_some None e = refl

@@ -22,7 +22,7 @@ use Rattle.dft_netlist.specs.NetNumbers.{nets_from}
 use Rattle.dft_netlist.specs.Building.{taken_or, port_limit, port_of, own_names, empty_netlist, port_refusal, net_refusal, instance_refusal}
 use Rattle.dft_netlist.proofs.SoundLemmas.{with_net}
 use Rattle.dft_netlist.proofs.BitLemmas.{up_length}
-use Rattle.dft_netlist.proofs.NamesLemmas.{has-append}
+use Rattle.dft_netlist.proofs.NamesLemmas.{has-append, none_append}
 use Rattle.dft_netlist.proofs.RefusalLemmas.{room_by, limit_by}
 use Rattle.dft_netlist_text.specs.Modules.{HeaderPort, net_count}
 use Rattle.dft_netlist_text.specs.NetlistText.{Grown, final_signal, unless_refused, and_grown, add_declared, add_ports, add_net, add_nets, add_instance, add_instances, add_joins, built, nets_of_port, nets_of_ports, net_order, other_nets, names_of_others}
@@ -32,10 +32,6 @@ use Rattle.dft_verilog_draft.proofs.DeclareLemmas.{length-bit_names}
 use Rattle.dft_verilog.proofs.GrowLemmas.{add_port-Ok, add_ports-Ok, add_declared-Ok}
 
 -- ---- names that are new
-
--- none of two lists has the name, and so the two together
-neither : (xs ys : List Text) (word : Text) → has_name xs word ≡ false → has_name ys word ≡ false → has_name (xs ++ ys) word ≡ false
-neither xs ys word p q = has-append xs ys word ∙ or_from (has_name xs word) (has_name ys word) p q
 
 apart_parts : (xs ys : List Text) (word : Text) → has_name (xs ++ ys) word ≡ false → (has_name xs word ≡ false) × (has_name ys word ≡ false)
 apart_parts xs ys word h = or_parts (has_name xs word) (has_name ys word) (sym (has-append xs ys word) ∙ h)
@@ -106,11 +102,11 @@ Frees-more old new before words t free word h =
     let was = free word parts.0 in
     let nets = apart_parts old.nets (vectors old ++ owns old) word was in
     let rest = apart_parts (vectors old) (owns old) word nets.1 in
-    neither new.nets (vectors new ++ owns new) word
-    (ap (λ xs. has_name xs word) t.more_nets ∙ neither old.nets t.nets word nets.0 others.0)
-    (neither (vectors new) (owns new) word
-    (ap (λ xs. has_name xs word) t.more_vectors ∙ neither (vectors old) t.vector word rest.0 others.1)
-    (ap (λ xs. has_name xs word) t.more_owns ∙ neither (owns old) t.own word rest.1 others.2))
+    none_append new.nets (vectors new ++ owns new) word
+    (ap (λ xs. has_name xs word) t.more_nets ∙ none_append old.nets t.nets word nets.0 others.0)
+    (none_append (vectors new) (owns new) word
+    (ap (λ xs. has_name xs word) t.more_vectors ∙ none_append (vectors old) t.vector word rest.0 others.1)
+    (ap (λ xs. has_name xs word) t.more_owns ∙ none_append (owns old) t.own word rest.1 others.2))
 
 first_free : (n : Netlist) (before words : List Text) → Frees n before → AreNone before words → first_taken n words ≡ None
 first_free n before [] free none = refl

@@ -17,7 +17,7 @@ use Rattle.dft_base.specs.Name.{IsName}
 use Rattle.dft_base.specs.Words.{begins_word, continues_word, is_reserved, is_word, is_later_reserved, needs_escape}
 use Rattle.dft_base.proofs.LexingLemmas.{tokens_from-cut}
 use Rattle.dft_base.proofs.NumberLemmas.{minus_zero}
-use Rattle.dft_base.proofs.TextLemmas.{prefix_len-run, begins_goes_on}
+use Rattle.dft_base.proofs.TextLemmas.{prefix_len-run, begins_goes_on, printed_byte}
 use Rattle.dft_netlist_text.specs.declared.text.TokenKind.{TokenKind}
 use Rattle.dft_netlist_text.specs.declared.text.TokenKind.TheVariants as kind
 use Rattle.dft_netlist_text.specs.Lexemes.{Token, Lexeme, tokens, front, lexeme, token_of, blank_len, is_base_kind, word_kind, mark_kind, escaped, quote, is_space, is_printed, word_len}
@@ -221,9 +221,6 @@ all_pass p passes name n = list_all-from_AllPass p name (λ k d lt. let h = n.ea
 no_space : (b : ℕ) → 33 ≤ b → b ≤ 126 → not (is_space b) ≡ true
 no_space b low high = grind (arith, nat_tests)
 
-printed : (b : ℕ) → 33 ≤ b → b ≤ 126 → is_printed b ≡ true
-printed b low high = grind (arith, nat_tests)
-
 prefix_len-all : (p : ℕ → Bool) (xs : Text) → list_all p xs ≡ true → prefix_len p xs ≡ length xs
 prefix_len-all p [] all = refl
 prefix_len-all p (x ∷ xs) all =
@@ -236,7 +233,7 @@ unfolding escaped
 escaped-is name rest len n at is =
     let some = n.some in
     let few : eqb (length name) 0 ≡ false = grind (arith, nat_tests) in
-    let all : prefix_len is_printed name ≡ length name = prefix_len-all is_printed name (all_pass is_printed printed name n) in
+    let all : prefix_len is_printed name ≡ length name = prefix_len-all is_printed name (all_pass is_printed printed_byte name n) in
     let full : ltb (length name) (length name) ≡ false = grind (arith, nat_tests) in
     rw (at, is, few, take-append_seam name (32 ∷ rest), all, full) refl
 

@@ -1,8 +1,9 @@
 use Rattle.std.proofs.Common.{ℕ, [], ◌∷◌, ◌++◌, sym, ◌≡◌, ◌+◌, ◌/◌, ◌∙◌, List, length, ap, arith}
 use Rattle.std.proofs.lemmas.List.FromFn.{map-range_with_len_more}
 use Rattle.rand_pcg.specs.Pcg.{pcg32}
-use Rattle.dft_merge.specs.Fills.{bit_of_column, generator}
-use Rattle.dft_merge.proofs.WordLemmas.{words_count}
+use Rattle.dft_random.specs.Words.{generator}
+use Rattle.dft_random.proofs.WordLemmas.{words_count}
+use Rattle.dft_merge.specs.Fills.{bit_of_column}
 use Rattle.dft_merge.proofs.fills.seeded.Goals as goal
 
 pub bit_of_column-requires : goal.bit_of_column-requires
