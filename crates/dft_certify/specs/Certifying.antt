@@ -1,5 +1,5 @@
 -- What is tested of a report: that the sums printed for each unsolvable cube are sums of its care bits, and together a certificate.
-use Rattle.std.specs.Prelude.{ℕ, ◌+◌, ◌==◌, ◌&&◌, ◌≡◌, Bool, true, false, not, List, [], ◌∷◌, ◌++◌, length, find, count_by, Option, None, Some, is_some, option_and_then, unwrap_or, if◌then◌else◌}
+use Rattle.std.specs.Prelude.{ℕ, ◌+◌, ◌==◌, ◌&&◌, ◌≡◌, Bool, true, false, not, List, [], ◌∷◌, ◌++◌, length, map, find, count_by, Option, None, Some, is_some, option_and_then, unwrap_or, if◌then◌else◌}
 use Rattle.std.specs.List.{list_any, list_all, range_with_len}
 use Rattle.std.specs.Str.{bytes_eq}
 use Rattle.dft_base.specs.Lexing.{Text}
@@ -101,6 +101,9 @@ abbrev pub is_certificate : Netlist → CellRows → (columns : ℕ) → List Su
 is_certificate n row columns lines = odd_in (λ line. line.bit) lines && list_all (λ column. not (odd_in (has_column n row column) lines)) (range_with_len 0 columns)
 
 -- ---- cubes
+
+abbrev pub cube_names : List Cube → List Text
+cube_names cubes = map (λ (cube : Cube). cube.name) cubes
 
 abbrev pub cube_named : List Cube → (name : Text) → Option Cube
 cube_named cubes name = find (λ cube. bytes_eq cube.name name) cubes

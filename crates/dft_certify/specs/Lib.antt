@@ -1,4 +1,3 @@
 pub mod Certifying
-pub mod Naming
 pub mod Shown
 pub mod Laws

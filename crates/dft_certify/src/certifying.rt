@@ -4,25 +4,26 @@ ghost use Rattle.std.specs.Prelude.{◌≡◌, None, IfErr, IfOk, OnOk, option_c
 ghost use Rattle.dft_merge.specs.LoadPlan.{columns_by, rows_by};
 ghost use Rattle.dft_report.specs.declared.report.CubeLine.TheVariants.{Unsolvable};
 ghost use Rattle.dft_certify.specs.Certifying as spec;
-ghost use Rattle.dft_certify.specs.Certifying.{IsFault};
-ghost use Rattle.dft_certify.specs.Naming.{Finds};
+ghost use Rattle.dft_certify.specs.Certifying.{IsFault, cube_names};
+ghost use Rattle.dft_numbered.specs.Numbers.{Finds};
 
-use crate::cube_names::CubeNames;
 use crate::error::CertifyError;
+use crate::naming::cube_numbers;
 use crate::parity::is_certificate;
 use crate::sums::take_sums;
 use dft_base::Name;
 use dft_cubes::Cube;
 use dft_merge::Loads;
+use dft_numbered::Numbered;
 use dft_report::{CubeLine, CubeReport, Report, SumLine};
 use std::alloc::{AllocError, Global};
 
 // The cube of this name.
-fn cube_named<'a>(cubes: &'a [Cube], names: &CubeNames, name: &[u8]) -> Option<&'a Cube>
-    requires { Finds names.now cubes.now }
+fn cube_named<'a>(cubes: &'a [Cube], names: &Numbered<'_>, name: &[u8]) -> Option<&'a Cube>
+    requires { Finds names.now (cube_names cubes.now) }
     ensures { option_copied result ≡ spec.cube_named cubes.now name.now }
 {
-    cubes.get(names.get(name)?)
+    cubes.get(names.find(name)?)
 }
 
 // Tests the lines of an unsolvable cube, behind the one with this number.
@@ -30,12 +31,12 @@ fn certify_lines(
     alloc: Global,
     loads: &Loads<'_>,
     cubes: &[Cube],
-    names: &CubeNames,
+    names: &Numbered<'_>,
     number: u64,
     name: &Name,
     lines: &[SumLine],
 ) -> Result<(), CertifyError>
-    requires names { Finds names.now cubes.now }
+    requires names { Finds names.now (cube_names cubes.now) }
     ensures passed { OnOk result (spec.outcome_refusal loads.now.design loads.now.config.ring (rows_by loads.now) (columns_by loads.now) cubes.now number name.now (Unsolvable lines.now) ≡ None) }
     ensures refused { IfErr result (IsFault (spec.outcome_refusal loads.now.design loads.now.config.ring (rows_by loads.now) (columns_by loads.now) cubes.now number name.now (Unsolvable lines.now))) }
 {
@@ -57,11 +58,11 @@ fn certify_entry(
     alloc: Global,
     loads: &Loads<'_>,
     cubes: &[Cube],
-    names: &CubeNames,
+    names: &Numbered<'_>,
     number: u64,
     entry: &CubeReport,
 ) -> Result<(), CertifyError>
-    requires names { Finds names.now cubes.now }
+    requires names { Finds names.now (cube_names cubes.now) }
     ensures passed { OnOk result (spec.outcome_refusal loads.now.design loads.now.config.ring (rows_by loads.now) (columns_by loads.now) cubes.now number entry.now.name entry.now.outcome ≡ None) }
     ensures refused { IfErr result (IsFault (spec.outcome_refusal loads.now.design loads.now.config.ring (rows_by loads.now) (columns_by loads.now) cubes.now number entry.now.name entry.now.outcome)) }
 {
@@ -99,11 +100,11 @@ fn certify_entries(
     alloc: Global,
     loads: &Loads<'_>,
     cubes: &[Cube],
-    names: &CubeNames,
+    names: &Numbered<'_>,
     first: u64,
     entries: &[CubeReport],
 ) -> Result<(), CertifyError>
-    requires names { Finds names.now cubes.now }
+    requires names { Finds names.now (cube_names cubes.now) }
     ensures passed { OnOk result (spec.entries_refusal loads.now.design loads.now.config.ring (rows_by loads.now) (columns_by loads.now) cubes.now first entries.now ≡ None) }
     ensures refused { IfErr result (IsFault (spec.entries_refusal loads.now.design loads.now.config.ring (rows_by loads.now) (columns_by loads.now) cubes.now first entries.now)) }
 {
@@ -167,7 +168,7 @@ pub fn certify(
     ensures refused { IfErr result (IsFault (spec.certify_refusal loads.now.design loads.now.config.ring (rows_by loads.now) (columns_by loads.now) cubes.now report.now)) }
 {
     let first = first_line(report)?;
-    let names = CubeNames::of(alloc, cubes)?;
+    let names = cube_numbers(alloc, cubes)?;
     certify_entries(alloc, loads, cubes, &names, first, report.cubes.as_slice())?;
     Ok(unsolvable_in(report.cubes.as_slice())?)
 }

@@ -3,9 +3,9 @@
 
 mod cell_set;
 mod certifying;
-mod cube_names;
 mod error;
 mod laws;
+mod naming;
 mod parity;
 mod rows;
 mod sums;

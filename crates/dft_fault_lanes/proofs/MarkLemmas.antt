@@ -137,7 +137,7 @@ marks_both start middle new source sources first second =
         | inl one ↦ second.kept k (first.all k live one)
         | inr more ↦ second.all k (omega arith) more
       ];
-    } where
+    }
 
 -- ---- compared bits
 

@@ -2,7 +2,6 @@
 use Rattle.std.proofs.Common.{ℕ, zero, suc, ◌+◌, ◌<◌, ◌≤◌, ◌≡◌, inl, inr, Bool, true, false, not, cond, List, [], ◌∷◌, ◌++◌, length, drop, get_or, map, find, Option, None, Some, is_some, option_and_then, slice_get, refl, sym, ap, subst, arith, ◌∙◌}
 use Rattle.std.specs.List.{cons_option}
 use Rattle.std.specs.Option.{option_or}
-use Rattle.std.specs.Str.{bytes_eq}
 use Rattle.std.proofs.lemmas.List.{get_or_append_left, get_or_at}
 use Rattle.std.proofs.lemmas.Bool.{cases_lt}
 use Rattle.dft_base.proofs.ListLemmas.{length_push, drop_over}
@@ -17,7 +16,9 @@ use Rattle.dft_modules.specs.Modules.{Module}
 use Rattle.dft_hier.specs.declared.error.HierError.{HierError}
 use Rattle.dft_hier.specs.declared.error.HierError.TheVariants as told
 use Rattle.dft_hier.specs.Hierarchy.{sub_of, subs_of, all_subs, find_module}
-use Rattle.dft_hier.specs.Numbers.{Entry, Finds, first_from, look_up, port_names, number_of, numbers_of_subs, children_of, children_among}
+use Rattle.dft_numbered.proofs.NamedLemmas.{named_at, named_within}
+use Rattle.dft_numbered.specs.Numbers.{Entry, Finds, look_up}
+use Rattle.dft_hier.specs.Numbers.{port_names, number_of, numbers_of_subs, children_of, children_among}
 use Rattle.dft_hier.specs.Fitting.{ArePortsFound, TellsMisfit}
 use Rattle.dft_hier.specs.Refusals.{fits, fits_port, ports_of, first_misfit, first_unknown}
 use Rattle.dft_hier.proofs.NumberLemmas.{drop_next, module_there, number_within, some_first}
@@ -32,38 +33,17 @@ find_here {X = X} p xs k x less is passes = ap (find p) (drop_next xs k x less i
 
 -- ---- ports by their names
 
-port_from : (all : List Port) (place : ℕ) (ports : List Port) (name : Text) → ((k : ℕ) → slice_get all (place + k) ≡ slice_get ports k) → option_and_then (slice_get all) (first_from place (port_names ports) name) ≡ find (λ (p : Port). bytes_eq p.name name) ports
-port_from all place [] name same = refl
-port_from all place (p ∷ ports) name same =
-    by (bytes_eq p.name name) (port_from all (suc place) ports name (λ k. (let next : suc place + k ≡ place + suc k = omega arith in ap (slice_get all) next ∙ same (suc k))))
-  where
-    by : (t : Bool) → option_and_then (slice_get all) (first_from (suc place) (port_names ports) name) ≡ find (λ (p : Port). bytes_eq p.name name) ports →
-        option_and_then (slice_get all) (cond t (Some place) (first_from (suc place) (port_names ports) name)) ≡ cond t (Some p) (find (λ (p : Port). bytes_eq p.name name) ports)
-    by true later = (let here : place ≡ place + 0 = omega arith in ap (slice_get all) here ∙ same 0)
-    by false later = later
-
-pub port_at : (ports : List Port) (name : Text) → option_and_then (slice_get ports) (first_from 0 (port_names ports) name) ≡ find (λ (p : Port). bytes_eq p.name name) ports
-port_at ports name = port_from ports 0 ports name (λ k. (let same : 0 + k ≡ k = omega arith in ap (slice_get ports) same))
-
-port_within : (number : ℕ) (ports : List Port) (name : Text) (k : ℕ) → first_from number (port_names ports) name ≡ Some k → k < number + length ports
-port_within number [] name k is = absurd (let f : ⊥ = cc in f)
-port_within number (p ∷ ports) name k is = by (bytes_eq p.name name) is (port_within (suc number) ports name k)
-  where
-    by : (t : Bool) → cond t (Some number) (first_from (suc number) (port_names ports) name) ≡ Some k → (first_from (suc number) (port_names ports) name ≡ Some k → k < suc number + length ports) → k < number + suc (length ports)
-    by true is more = let e : number ≡ k = cc in omega arith
-    by false is more = let r = more is in omega arith
-
 pub port_live : (entries : List Entry) (ports : List Port) (name : Text) (k : ℕ) → Finds entries (port_names ports) → look_up entries name ≡ Some k → k < length ports
-port_live entries ports name k finds is = let r = port_within 0 ports name k (sym (finds name) ∙ is) in omega arith
+port_live entries ports name k finds is = named_within (λ (p : Port). p.name) ports name k (sym (finds name) ∙ is)
 
 pub fits_some : (entries : List Entry) (ports : List Port) (c : Connection) (k : ℕ) (p : Port) → Finds entries (port_names ports) → look_up entries c.port ≡ Some k → p ≡ get_or ports k p → fits_port (Some p) c.signals ≡ fits ports c
 fits_some entries ports c k p finds is at =
     let live = port_live entries ports c.port k finds is in
     let there : slice_get ports k ≡ Some p = slice_get-get_or ports k p live ∙ ap (λ (x : Port). Some x) (sym at) in
-    ap (λ (o : Option Port). fits_port o c.signals) (sym there ∙ ap (option_and_then (slice_get ports)) (sym is ∙ finds c.port) ∙ port_at ports c.port)
+    ap (λ (o : Option Port). fits_port o c.signals) (sym there ∙ ap (option_and_then (slice_get ports)) (sym is ∙ finds c.port) ∙ named_at (λ (p : Port). p.name) ports c.port)
 
 pub fits_none : (entries : List Entry) (ports : List Port) (c : Connection) → Finds entries (port_names ports) → look_up entries c.port ≡ None → fits ports c ≡ false
-fits_none entries ports c finds is = ap (λ (o : Option Port). fits_port o c.signals) (sym (port_at ports c.port) ∙ ap (option_and_then (slice_get ports)) (sym (finds c.port) ∙ is))
+fits_none entries ports c finds is = ap (λ (o : Option Port). fits_port o c.signals) (sym (named_at (λ (p : Port). p.name) ports c.port) ∙ ap (option_and_then (slice_get ports)) (sym (finds c.port) ∙ is))
 
 -- ---- the ports of all modules
 

@@ -19,7 +19,6 @@ pub record IsOwn (path : Path) (from : ℕ) (s : Spot) : Type 0 where
   pub least : from ≤ s.at
 
 module _ (find : Finding) (ms : List Module) (under : (path : Path) (m : Module) (k : ℕ) (s : Spot) → slice_get (find path m) k ≡ Some s → IsUnder path s) where
-
   pub items_cases : (path : Path) (cell place : ℕ) (items : List Item) (k : ℕ) (s : Spot) → slice_get (item_spots find ms path cell place items) k ≡ Some s → IsOwn path cell s ⊎ IsThrough path place s
   items_cases path cell place [] k s at = absurd (let f : ⊥ = cc in f)
   items_cases path cell place (item.Join j ∷ items) k s at = items_cases path cell place items k s at

@@ -129,7 +129,6 @@ size_same g items (suc depth) number (Grows each) among =
 -- ---- the whole
 
 module _ (library : List Cell) (ms : List Module) (weights : List Weight) (items : List Live) (sound : AreModules library ms) (known : first_unknown ms ≡ None) (apart : NoCircle (children_of ms)) (weighed : AreWeights ms (children_of ms) weights) (live : AreLive ms (children_of ms) weights items) where
-
   exact_nets : (k : ℕ) (m : Module) → slice_get ms k ≡ Some m → (get_or weights k no_weight).nets ≡ at_most (net_total ms m)
   exact_nets k m at = ap (λ (w : Weight). w.nets) (exact_weight ms weights (length ms) k m weighed (every_tall ms apart k (slice_get_within ms k m at)) at)
 

@@ -1,8 +1,6 @@
 -- Joins that are added one list after another.
-use Rattle.std.proofs.Common.{ℕ, zero, suc, ◌+◌, ◌<◌, ◌≤◌, ◌≡◌, ◌⊎◌, inl, inr, Bool, true, false, cond, List, [], ◌∷◌, ◌++◌, length, drop, get_or, map, find, None, Some, option_and_then, slice_get, OnOk, Result, Ok, Err, refl, sym, ap, subst, arith, ◌∙◌, append_assoc, append-nil}
+use Rattle.std.proofs.Common.{ℕ, zero, suc, ◌+◌, ◌<◌, ◌≤◌, ◌≡◌, ◌⊎◌, inl, inr, List, [], ◌∷◌, ◌++◌, length, drop, get_or, map, None, Some, option_and_then, slice_get, OnOk, Result, Ok, Err, refl, sym, ap, subst, arith, ◌∙◌, append_assoc, append-nil}
 use Rattle.std.specs.List.{All, AllByRecursion}
-use Rattle.std.specs.Str.{bytes_eq}
-use Rattle.std.proofs.lemmas.List.{get_or-map}
 use Rattle.std.proofs.lemmas.Option.{slice_get-get_or, slice_get_within, get_or_from_slice_get}
 use Rattle.std.proofs.lemmas.List.Elements.{All-get_or}
 use Rattle.dft_base.specs.Lexing.{Text}
@@ -17,8 +15,9 @@ use Rattle.dft_netlist.specs.Sound.{IsJoinOf}
 use Rattle.dft_modules.specs.declared.connections.Connection.{Connection}
 use Rattle.dft_hier.specs.Flat.{bit_joins, connection_joins, joined_to, signals_of, port_joins, moved, moved_net}
 use Rattle.dft_hier.specs.Moving.{AreJoinsOf, with_joins, connection_names}
-use Rattle.dft_hier.specs.Numbers.{Entry, Finds, first_from, look_up, noted}
-use Rattle.dft_hier.proofs.NumberLemmas.{FindsSoFar, noted_next, noted_all, drop_next}
+use Rattle.dft_numbered.proofs.NamedLemmas.{named_at, named_within}
+use Rattle.dft_numbered.specs.Numbers.{Entry, Finds, look_up}
+use Rattle.dft_hier.proofs.NumberLemmas.{drop_next}
 
 -- joins that are left, which with those so far give the whole
 pub record JoinsLeft (now : Netlist) (rest : List Join) (whole : Netlist) : Type 0 where
@@ -46,51 +45,17 @@ joins_done now whole h = sym (ap (λ (js : List Join). record now { joins = js }
 
 -- ---- the connection of a port
 
-names_count : (connections : List Connection) → length (connection_names connections) ≡ length connections
-names_count [] = refl
-names_count (c ∷ connections) = ap suc (names_count connections)
-
-pub connection_next : (connections : List Connection) (c : Connection) (own : Text) (k : ℕ) (old new : List Entry) → k < length connections → c ≡ get_or connections k c → own ≡ c.port → new ≡ noted old own k → FindsSoFar old k (connection_names connections) → FindsSoFar new (k + 1) (connection_names connections)
-connection_next connections c own k old new less is named more h =
-    let size = names_count connections in
-    let at : get_or (connection_names connections) k own ≡ c.port = get_or-map (λ (x : Connection). x.port) connections k c own less ∙ ap (λ (x : Connection). x.port) (sym is) in
-    noted_next (connection_names connections) own own k old new (omega arith) (named ∙ sym at) more h
-
-pub connection_last : (connections : List Connection) (entries : List Entry) (k : ℕ) → length connections ≤ k → FindsSoFar entries k (connection_names connections) → Finds entries (connection_names connections)
-connection_last connections entries k past h = let size = names_count connections in noted_all entries (connection_names connections) k (omega arith) h
-
-connection_from : (all : List Connection) (place : ℕ) (connections : List Connection) (name : Text) → ((k : ℕ) → slice_get all (place + k) ≡ slice_get connections k) → option_and_then (slice_get all) (first_from place (connection_names connections) name) ≡ find (λ (c : Connection). bytes_eq c.port name) connections
-connection_from all place [] name same = refl
-connection_from all place (c ∷ connections) name same =
-    by (bytes_eq c.port name) (connection_from all (suc place) connections name (λ k. (let next : suc place + k ≡ place + suc k = omega arith in ap (slice_get all) next ∙ same (suc k))))
-  where
-    by : (t : Bool) → option_and_then (slice_get all) (first_from (suc place) (connection_names connections) name) ≡ find (λ (x : Connection). bytes_eq x.port name) connections →
-        option_and_then (slice_get all) (cond t (Some place) (first_from (suc place) (connection_names connections) name)) ≡ cond t (Some c) (find (λ (x : Connection). bytes_eq x.port name) connections)
-    by true later = (let here : place ≡ place + 0 = omega arith in ap (slice_get all) here ∙ same 0)
-    by false later = later
-
-connection_at : (connections : List Connection) (name : Text) → option_and_then (slice_get connections) (first_from 0 (connection_names connections) name) ≡ find (λ (c : Connection). bytes_eq c.port name) connections
-connection_at connections name = connection_from connections 0 connections name (λ k. (let same : 0 + k ≡ k = omega arith in ap (slice_get connections) same))
-
-connection_within : (number : ℕ) (connections : List Connection) (name : Text) (k : ℕ) → first_from number (connection_names connections) name ≡ Some k → k < number + length connections
-connection_within number [] name k is = absurd (let f : ⊥ = cc in f)
-connection_within number (c ∷ connections) name k is = by (bytes_eq c.port name) is (connection_within (suc number) connections name k)
-  where
-    by : (t : Bool) → cond t (Some number) (first_from (suc number) (connection_names connections) name) ≡ Some k → (first_from (suc number) (connection_names connections) name ≡ Some k → k < suc number + length connections) → k < number + suc (length connections)
-    by true is more = let e : number ≡ k = cc in omega arith
-    by false is more = let r = more is in omega arith
-
 pub connection_live : (entries : List Entry) (connections : List Connection) (name : Text) (k : ℕ) → Finds entries (connection_names connections) → look_up entries name ≡ Some k → k < length connections
-connection_live entries connections name k finds is = let r = connection_within 0 connections name k (sym (finds name) ∙ is) in omega arith
+connection_live entries connections name k finds is = named_within (λ (c : Connection). c.port) connections name k (sym (finds name) ∙ is)
 
 pub joined_some : (entries : List Entry) (connections : List Connection) (name : Text) (k : ℕ) (c : Connection) → Finds entries (connection_names connections) → look_up entries name ≡ Some k → c ≡ get_or connections k c → joined_to connections name ≡ c.signals
 joined_some entries connections name k c finds is at =
     let live = connection_live entries connections name k finds is in
     let there : slice_get connections k ≡ Some c = slice_get-get_or connections k c live ∙ ap (λ (x : Connection). Some x) (sym at) in
-    ap signals_of (sym (connection_at connections name) ∙ ap (option_and_then (slice_get connections)) (sym (finds name) ∙ is) ∙ there)
+    ap signals_of (sym (named_at (λ (c : Connection). c.port) connections name) ∙ ap (option_and_then (slice_get connections)) (sym (finds name) ∙ is) ∙ there)
 
 pub joined_none : (entries : List Entry) (connections : List Connection) (name : Text) → Finds entries (connection_names connections) → look_up entries name ≡ None → joined_to connections name ≡ []
-joined_none entries connections name finds is = ap signals_of (sym (connection_at connections name) ∙ ap (option_and_then (slice_get connections)) (sym (finds name) ∙ is))
+joined_none entries connections name finds is = ap signals_of (sym (named_at (λ (c : Connection). c.port) connections name) ∙ ap (option_and_then (slice_get connections)) (sym (finds name) ∙ is))
 
 -- ---- the joins of a port's bits
 

@@ -76,7 +76,6 @@ size_same g items (suc depth) number (Grows each) among =
 -- ---- the whole
 
 module _ (ms : List Module) (weights : List Weight) (items : List Live) (known : first_unknown ms ≡ None) (apart : NoCircle (children_of ms)) (weighed : AreWeights ms (children_of ms) weights) (live : AreLive ms (children_of ms) weights items) where
-
   -- a module without weight gives no net
   gives_none : GivesNone (nets_in (length ms) ms) ms weights
   gives_none k m at none prefix =

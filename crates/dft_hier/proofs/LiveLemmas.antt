@@ -1,6 +1,7 @@
 -- The items of modules that give something: what is left out gives nothing.
 use Rattle.std.proofs.Common.{ℕ, zero, suc, ◌+◌, ◌≡◌, Bool, true, false, ◌||◌, cond, nat_lt, List, [], ◌∷◌, ◌++◌, length, drop, get_or, map, Option, None, Some, is_some, slice_get, refl, sym, ap, subst, arith, ◌∙◌, length-append, append_assoc, append-nil, true≢false}
 use Rattle.std.specs.List.{list_any, cons_option}
+use Rattle.std.proofs.lemmas.List.{length-map}
 use Rattle.dft_base.specs.Lexing.{Text}
 use Rattle.dft_base.proofs.BitLemmas.{or_assoc, or_false}
 use Rattle.dft_modules.specs.declared.module.SubInstance.{SubInstance}
@@ -107,16 +108,12 @@ exact_weight ms weights zero k m h tall at = elim tall [ ]
 exact_weight ms weights (suc depth) k m h (Grows each) at =
     let are = children_of_at ms k m at in
     let sum = length-append (map (λ name. [] ++ name) m.nets) (subs_nets (nets_in depth ms) ms [] (subs_of m.items)) in
-    let names = names_count m.nets in
+    let names = length-map m.nets (λ (name : Text). [] ++ name) in
     let count : length m.nets + length (subs_nets (nets_in depth ms) ms [] (subs_of m.items)) ≡ length (map (λ name. [] ++ name) m.nets ++ subs_nets (nets_in depth ms) ms [] (subs_of m.items)) = omega arith in
     h.each k m at ∙ ap (λ (xs : List ℕ). weight_by m xs weights) are
     ∙ with_subs depth ms weights (subs_of m.items) (alone m) (length m.nets) (nat_lt 0 (length m.nets) || list_any is_cell m.items) refl
     (λ j x below there. exact_weight ms weights depth j x h (each j (subst (λ (xs : List ℕ). StandsIn xs j) (sym are) below)) there)
     ∙ ap (λ (n : ℕ). record { nets = at_most n; lives = (nat_lt 0 (length m.nets) || list_any is_cell m.items) || subs_live (lives_in depth ms) ms (subs_of m.items) }) count
-  where
-    names_count : (names : List Text) → length (map (λ name. [] ++ name) names) ≡ length names
-    names_count [] = refl
-    names_count (n ∷ names) = ap suc (names_count names)
 
 -- ---- instances with nets in them
 

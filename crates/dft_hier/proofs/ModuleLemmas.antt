@@ -13,7 +13,8 @@ use Rattle.dft_base.proofs.ListLemmas.{drop_at}
 use Rattle.dft_modules.specs.declared.module.SubInstance.{SubInstance}
 use Rattle.dft_modules.specs.Modules.{Module}
 use Rattle.dft_hier.specs.Hierarchy.{subs_of, find_module, has_instance_of, tops, HaveOwnNames}
-use Rattle.dft_hier.specs.Numbers.{first_from, module_names, number_of, numbers_of_subs, children_of}
+use Rattle.dft_numbered.specs.Numbers.{first_from}
+use Rattle.dft_hier.specs.Numbers.{module_names, number_of, numbers_of_subs, children_of}
 use Rattle.dft_hier.specs.Reach.{Graph, StandsIn, Leads, Child, Deeper, NoCircle, IsFirstOnCircle}
 use Rattle.dft_hier.specs.Refusals.{IsBelow, Within as BelowWithin, Deeper as BelowDeeper, NoneInItself, IsFirstInItself}
 use Rattle.dft_hier.specs.TopNumbers.{is_instantiated, top_numbers, IsTop}
@@ -76,7 +77,6 @@ has_child : (ms : List Module) (subs : List SubInstance) (name : Text) (k : ℕ)
 has_child ms [] name k has is = absurd (true≢false (sym has))
 has_child ms (s ∷ subs) name k has is = by (bytes_eq s.of name) refl has (has_child ms subs name k)
   where
-
     by : (t : Bool) → bytes_eq s.of name ≡ t → (t || list_any (λ (s : SubInstance). bytes_eq s.of name) subs) ≡ true → (list_any (λ (s : SubInstance). bytes_eq s.of name) subs ≡ true → number_of ms name ≡ Some k → StandsIn (numbers_of_subs ms subs) k) → StandsIn (cons_option (number_of ms s.of) (numbers_of_subs ms subs)) k
     by true here has more =
         let same : number_of ms s.of ≡ Some k = ap (number_of ms) (same_text s.of name here) ∙ is in

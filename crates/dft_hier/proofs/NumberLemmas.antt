@@ -1,86 +1,25 @@
 -- Names with numbers, and the modules of instances by their numbers.
-use Rattle.std.proofs.Common.{ℕ, zero, suc, ◌+◌, ◌<◌, ◌≤◌, ◌≡◌, Bool, true, false, not, cond, List, [], ◌∷◌, ◌++◌, map, drop, get_or, length, find, Option, None, Some, is_some, option_and_then, slice_get, refl, sym, ap, subst, arith, ◌∙◌, append-nil, append_assoc}
+use Rattle.std.proofs.Common.{ℕ, suc, ◌+◌, ◌<◌, ◌≤◌, ◌≡◌, Bool, true, false, not, cond, List, [], ◌∷◌, ◌++◌, drop, get_or, length, find, Option, None, Some, is_some, option_and_then, slice_get, refl, sym, ap, subst, ◌∙◌, append-nil, append_assoc}
 use Rattle.std.specs.List.{AllByRecursion, cons_option, filter_map}
 use Rattle.std.specs.Option.{option_or}
-use Rattle.std.specs.Map.{lookup}
 use Rattle.std.specs.Str.{bytes_eq}
 use Rattle.std.proofs.Math.Path.{fun_ext}
-use Rattle.std.proofs.lemmas.List.{drop_more, get_or-map}
+use Rattle.std.proofs.lemmas.List.{drop_more}
 use Rattle.std.proofs.lemmas.List.Elements.{filter_map-append, All-from_recursion}
 use Rattle.std.proofs.lemmas.List.Folds.{find-append}
 use Rattle.dft_base.specs.Lexing.{Text}
-use Rattle.dft_base.proofs.TextLemmas.{bytes_eq-comm, same_text}
 use Rattle.dft_base.proofs.ListLemmas.{drop_over}
-use Rattle.dft_netlist.specs.declared.port.Port.{Port}
 use Rattle.dft_modules.specs.declared.module.SubInstance.{SubInstance}
 use Rattle.dft_modules.specs.declared.module.Item.{Item}
 use Rattle.dft_modules.specs.Modules.{Module}
 use Rattle.dft_hier.specs.declared.error.HierError.{HierError}
 use Rattle.dft_hier.specs.declared.error.HierError.TheVariants as told
 use Rattle.dft_hier.specs.Hierarchy.{sub_of, subs_of, all_subs, find_module}
-use Rattle.dft_hier.specs.Numbers.{Entry, Finds, TellsLost, children_among, children_of, first_from, first_lost, found_subs, look_up, module_names, noted, noted_by, number_of, numbers_of_subs, port_names}
+use Rattle.dft_numbered.proofs.NamedLemmas.{named_at, named_within}
+use Rattle.dft_numbered.specs.Numbers.{Entry, Finds, first_from, look_up}
+use Rattle.dft_hier.specs.Numbers.{TellsLost, children_among, children_of, first_lost, found_subs, module_names, number_of, numbers_of_subs}
 use Rattle.dft_hier.specs.Reach.{AreBelow, AreWithin}
 use Rattle.dft_hier.specs.Refusals.{first_unknown}
-
--- a look-up among keys that show their bytes
-pub look_up-map : {K : Type 0} (shown : K → Text) (name : Text) (es : List (K × ℕ)) → lookup (λ k. bytes_eq name (shown k)) es ≡ look_up (map (λ e. (shown e.0, e.1)) es) name
-look_up-map shown name [] = refl
-look_up-map shown name (e ∷ es) = rw (bytes_eq-comm name (shown e.0), look_up-map shown name es) refl
-
--- ---- one name more
-
-look_up-push : (entries : List Entry) (e : Entry) (name : Text) → look_up (entries ++ e ∷ []) name ≡ option_or (look_up entries name) (cond (bytes_eq e.0 name) (Some e.1) None)
-look_up-push [] e name = refl
-look_up-push (x ∷ entries) e name = by (bytes_eq x.0 name) (look_up-push entries e name)
-  where
-    by : (t : Bool) → look_up (entries ++ e ∷ []) name ≡ option_or (look_up entries name) (cond (bytes_eq e.0 name) (Some e.1) None) →
-        cond t (Some x.1) (look_up (entries ++ e ∷ []) name) ≡ option_or (cond t (Some x.1) (look_up entries name)) (cond (bytes_eq e.0 name) (Some e.1) None)
-    by true same = refl
-    by false same = same
-
--- what is noted of a name, and what the names behind it give, is what was noted and what it and they give
-pushed : (now : Option ℕ) (t : Bool) (number : ℕ) (rest : Option ℕ) → option_or (option_or now (cond t (Some number) None)) rest ≡ option_or now (cond t (Some number) rest)
-pushed None true number rest = refl
-pushed None false number rest = refl
-pushed (Some p) t number rest = refl
-
-stays : (now : Option ℕ) (t : Bool) (number : ℕ) (rest : Option ℕ) → (t ≡ true → now ≡ None → ⊥) → option_or now rest ≡ option_or now (cond t (Some number) rest)
-stays None true number rest there = absurd (there refl refl)
-stays None false number rest there = refl
-stays (Some p) t number rest there = refl
-
-noted_case : (o : Option ℕ) (entries : List Entry) (own name : Text) (number : ℕ) (rest : Option ℕ) → look_up entries own ≡ o → option_or (look_up (noted_by o entries own number) name) rest ≡ option_or (look_up entries name) (cond (bytes_eq own name) (Some number) rest)
-noted_case None entries own name number rest is = ap (λ (o : Option ℕ). option_or o rest) (look_up-push entries (own, number) name) ∙ pushed (look_up entries name) (bytes_eq own name) number rest
-noted_case (Some first) entries own name number rest is =
-    stays (look_up entries name) (bytes_eq own name) number rest
-    (λ same none. (let f : Some first ≡ None = sym is ∙ ap (look_up entries) (same_text own name same) ∙ none in let g : ⊥ = cc in g))
-
--- these names, and those from a number on, give what all give
-abbrev pub FindsSoFar : (entries : List Entry) → (number : ℕ) → (names : List Text) → Type 0
-FindsSoFar entries number names = (name : Text) → option_or (look_up entries name) (first_from number (drop number names) name) ≡ first_from 0 names name
-
-pub noted_next : (names : List Text) (own d : Text) (number : ℕ) (old new : List Entry) → number < length names → own ≡ get_or names number d → new ≡ noted old own number → FindsSoFar old number names → FindsSoFar new (number + 1) names
-noted_next names own d number old new less is more before name =
-    let rest : List Text = drop (number + 1) names in
-    let cut : drop number names ≡ own ∷ rest = drop_more names number d less ∙ ap (λ (c : Text). c ∷ rest) (sym is) in
-    let next : number + 1 ≡ suc number = omega arith in
-    ap (λ (entries : List Entry). option_or (look_up entries name) (first_from (number + 1) rest name)) more
-    ∙ ap (λ (k : ℕ). option_or (look_up (noted old own number) name) (first_from k rest name)) next
-    ∙ noted_case (look_up old own) old own name number (first_from (suc number) rest name) refl
-    ∙ ap (λ (l : List Text). option_or (look_up old name) (first_from number l name)) (sym cut) ∙ before name
-
-or_none : (o : Option ℕ) → option_or o None ≡ o
-or_none None = refl
-or_none (Some p) = refl
-
-drop_none : (names : List Text) (number : ℕ) → length names ≤ number → drop number names ≡ []
-drop_none [] zero past = refl
-drop_none [] (suc number) past = refl
-drop_none (n ∷ names) zero past = absurd (omega (arith, past))
-drop_none (n ∷ names) (suc number) past = drop_none names number (omega (arith, past))
-
-pub noted_all : (entries : List Entry) (names : List Text) (number : ℕ) → length names ≤ number → FindsSoFar entries number names → Finds entries names
-noted_all entries names number past before name = sym (or_none (look_up entries name)) ∙ ap (λ (l : List Text). option_or (look_up entries name) (first_from number l name)) (sym (drop_none names number past)) ∙ before name
 
 -- ---- the modules of instances
 
@@ -153,37 +92,12 @@ some_first number (m ∷ ms) name = by (bytes_eq m.name name) (some_first (suc n
     by true same = refl
     by false same = same
 
-named_from : (all : List Module) (place : ℕ) (ms : List Module) (name : Text) → ((k : ℕ) → slice_get all (place + k) ≡ slice_get ms k) → option_and_then (slice_get all) (first_from place (module_names ms) name) ≡ find_module ms name
-named_from all place [] name same = refl
-named_from all place (m ∷ ms) name same =
-    by (bytes_eq m.name name) (named_from all (suc place) ms name (λ k. (let next : suc place + k ≡ place + suc k = omega arith in ap (slice_get all) next ∙ same (suc k))))
-  where
-    by : (t : Bool) → option_and_then (slice_get all) (first_from (suc place) (module_names ms) name) ≡ find_module ms name →
-        option_and_then (slice_get all) (cond t (Some place) (first_from (suc place) (module_names ms) name)) ≡ cond t (Some m) (find_module ms name)
-    by true later = (let here : place ≡ place + 0 = omega arith in ap (slice_get all) here ∙ same 0)
-    by false later = later
-
 -- the module of a number is the module of the name
-pub named_at : (ms : List Module) (name : Text) → option_and_then (slice_get ms) (number_of ms name) ≡ find_module ms name
-named_at ms name = named_from ms 0 ms name (λ k. (let same : 0 + k ≡ k = omega arith in ap (slice_get ms) same))
-
 pub module_there : (ms : List Module) (name : Text) (k : ℕ) → number_of ms name ≡ Some k → slice_get ms k ≡ find_module ms name
-module_there ms name k is = ap (option_and_then (slice_get ms)) (sym is) ∙ named_at ms name
-
-first_within : (number : ℕ) (names : List Text) (name : Text) (k : ℕ) → first_from number names name ≡ Some k → k < number + length names
-first_within number [] name k is = absurd (let f : ⊥ = cc in f)
-first_within number (n ∷ names) name k is = by (bytes_eq n name) is (first_within (suc number) names name k)
-  where
-    by : (t : Bool) → cond t (Some number) (first_from (suc number) names name) ≡ Some k → (first_from (suc number) names name ≡ Some k → k < suc number + length names) → k < number + suc (length names)
-    by true is more = let e : number ≡ k = cc in omega arith
-    by false is more = let r = more is in omega arith
-
-names_count : (ms : List Module) → length (module_names ms) ≡ length ms
-names_count [] = refl
-names_count (m ∷ ms) = ap suc (names_count ms)
+module_there ms name k is = ap (option_and_then (slice_get ms)) (sym is) ∙ named_at (λ (m : Module). m.name) ms name
 
 pub number_within : (ms : List Module) (name : Text) (k : ℕ) → number_of ms name ≡ Some k → k < length ms
-number_within ms name k is = let a = first_within 0 (module_names ms) name k is in let b = names_count ms in omega arith
+number_within ms name k is = named_within (λ (m : Module). m.name) ms name k is
 
 numbers_below : (ms : List Module) (subs : List SubInstance) → AllByRecursion (λ (k : ℕ). k < length ms) (numbers_of_subs ms subs)
 numbers_below ms [] = tt
@@ -248,27 +162,3 @@ all_found ms k all past h = sym (h.so_far ∙ ap (λ (xs : List Module). all ++ 
 
 pub all_known : (ms : List Module) (k : ℕ) (all : List (List ℕ)) → length ms ≤ k → AllSoFar ms k all → first_unknown ms ≡ None
 all_known ms k all past h = h.lost ∙ ap (λ (xs : List Module). find (λ (s : SubInstance). not (is_some (find_module ms s.of))) (all_subs xs)) (drop_over ms k past)
-
--- ---- names of modules by their numbers
-
-pub name_next : (ms : List Module) (m : Module) (own : Text) (k : ℕ) (old new : List Entry) → k < length ms → m ≡ get_or ms k m → own ≡ m.name → new ≡ noted old own k → FindsSoFar old k (module_names ms) → FindsSoFar new (k + 1) (module_names ms)
-name_next ms m own k old new less is named more h =
-    let size = names_count ms in
-    let at : get_or (module_names ms) k own ≡ m.name = get_or-map (λ (x : Module). x.name) ms k m own less ∙ ap (λ (x : Module). x.name) (sym is) in
-    noted_next (module_names ms) own own k old new (omega arith) (named ∙ sym at) more h
-
-pub name_last : (ms : List Module) (entries : List Entry) (k : ℕ) → length ms ≤ k → FindsSoFar entries k (module_names ms) → Finds entries (module_names ms)
-name_last ms entries k past h = let size = names_count ms in noted_all entries (module_names ms) k (omega arith) h
-
-ports_count : (ports : List Port) → length (port_names ports) ≡ length ports
-ports_count [] = refl
-ports_count (p ∷ ports) = ap suc (ports_count ports)
-
-pub port_next : (ports : List Port) (p : Port) (own : Text) (k : ℕ) (old new : List Entry) → k < length ports → p ≡ get_or ports k p → own ≡ p.name → new ≡ noted old own k → FindsSoFar old k (port_names ports) → FindsSoFar new (k + 1) (port_names ports)
-port_next ports p own k old new less is named more h =
-    let size = ports_count ports in
-    let at : get_or (port_names ports) k own ≡ p.name = get_or-map (λ (x : Port). x.name) ports k p own less ∙ ap (λ (x : Port). x.name) (sym is) in
-    noted_next (port_names ports) own own k old new (omega arith) (named ∙ sym at) more h
-
-pub port_last : (ports : List Port) (entries : List Entry) (k : ℕ) → length ports ≤ k → FindsSoFar entries k (port_names ports) → Finds entries (port_names ports)
-port_last ports entries k past h = let size = ports_count ports in noted_all entries (port_names ports) k (omega arith) h

@@ -4,7 +4,8 @@ use Rattle.dft_hier.specs.declared.error.HierError.{HierError}
 use Rattle.dft_hier.specs.declared.error.HierError.TheVariants as told
 use Rattle.dft_modules.specs.declared.connections.Connection.{Connection}
 use Rattle.dft_modules.specs.Modules.{Module}
-use Rattle.dft_hier.specs.Numbers.{Entry, Finds, port_names}
+use Rattle.dft_numbered.specs.Numbers.{Entry, Finds}
+use Rattle.dft_hier.specs.Numbers.{port_names}
 
 -- the ports of each module are found by their names
 pub record ArePortsFound (ms : List Module) (ports : List (List Entry)) : Type 0 where

@@ -1,7 +1,6 @@
 pub mod Hierarchy
 pub mod Flat
 pub mod Numbers
-pub mod NumberedShown
 pub mod Reach
 pub mod Searches
 pub mod SearchShown

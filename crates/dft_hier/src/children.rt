@@ -2,12 +2,13 @@
 
 ghost use Rattle.std.specs.Prelude.{◌≡◌, ◌++◌, ◌∷◌, [], None, option_copied, IfOk, IfErr, OnOk, OnErr};
 ghost use Rattle.dft_hier.specs.Hierarchy.{sub_of, subs_of};
-ghost use Rattle.dft_hier.specs.Numbers.{Finds, TellsLost, children_of, first_lost, found_subs, module_names};
+ghost use Rattle.dft_numbered.specs.Numbers.{Finds};
+ghost use Rattle.dft_hier.specs.Numbers.{TellsLost, children_of, first_lost, found_subs, module_names};
 ghost use Rattle.dft_hier.specs.Refusals.{first_unknown};
 
 use crate::error::HierError;
-use crate::numbered::Numbered;
 use dft_modules::{Item, Module, SubInstance};
+use dft_numbered::Numbered;
 use std::alloc::{AllocError, Global};
 use std::marker::Model;
 

@@ -4,15 +4,16 @@ ghost use Rattle.std.specs.Prelude.{◌≡◌, ◌<◌, ℕ, [], ◌∷◌, None
 ghost use Rattle.std.specs.List.{list_any};
 ghost use Rattle.dft_hier.specs.Fitting.{ArePortsFound, TellsMisfit};
 ghost use Rattle.dft_hier.specs.Hierarchy.{all_subs, find_module, subs_of};
-ghost use Rattle.dft_hier.specs.Numbers.{Finds, children_of, number_of, port_names};
+ghost use Rattle.dft_numbered.specs.Numbers.{Finds};
+ghost use Rattle.dft_hier.specs.Numbers.{children_of, number_of, port_names};
 ghost use Rattle.dft_hier.specs.Refusals as spec;
 ghost use Rattle.dft_hier.specs.Refusals.{first_misfit, first_unknown, fits};
 
 use crate::children::{Children, sub_in};
 use crate::error::HierError;
-use crate::numbered::Numbered;
 use dft_modules::{Connection, Module, SubInstance};
 use dft_netlist::{Dir, Port, Signal};
+use dft_numbered::Numbered;
 use std::alloc::{AllocError, Global};
 
 /// The ports of a module by their names.

@@ -6,16 +6,16 @@ ghost use Rattle.dft_hier.specs.Flat as spec;
 ghost use Rattle.dft_hier.specs.Flat.{add_instances, bit_joins, connection_joins, moved_instance, moved_join, port_joins};
 ghost use Rattle.dft_hier.specs.Growing.{Grows, IsPrefix};
 ghost use Rattle.dft_hier.specs.Moving.{AreBitsWritable, AreJoinsOf, AreWritable, IsInstanceIn, IsWritable, connection_names, with_joins};
-ghost use Rattle.dft_hier.specs.Numbers.{Finds};
+ghost use Rattle.dft_numbered.specs.Numbers.{Finds};
 ghost use Rattle.dft_netlist.specs.Sound.{IsJoinOf};
 
 use crate::flat_nets::prefixed;
-use crate::numbered::Numbered;
 use dft_base::Name;
 use dft_modules::Connection;
 use dft_netlist::{
     DesignBuilder, Dir, Instance, Join, NetId, NetlistError, PinSignals, Port, Signal,
 };
+use dft_numbered::Numbered;
 use std::alloc::{AllocError, Global};
 
 // A net of a module whose first net has this number.

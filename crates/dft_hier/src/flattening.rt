@@ -22,7 +22,6 @@ use crate::error::HierError;
 use crate::fitting::{all_ports, check_all};
 use crate::flat_items::add_items;
 use crate::flat_nets::{Hierarchy, add_nets_below};
-use crate::numbered::Numbered;
 use crate::reach::first_in_itself;
 use crate::tops::top;
 use crate::weights::{all_live_items, net_count, weights};
@@ -30,6 +29,7 @@ use dft_base::Name;
 use dft_cells::Library;
 use dft_modules::Module;
 use dft_netlist::{Design, DesignBuilder, NetlistError, Port};
+use dft_numbered::Numbered;
 use std::alloc::{AllocError, Global};
 
 // The modules in an order, each behind the modules below it. Refused with `H3` for the first module that stands below itself.

@@ -11,7 +11,6 @@ mod flat_joins;
 mod flat_nets;
 mod flattening;
 mod laws;
-mod numbered;
 mod reach;
 mod tops;
 mod weights;

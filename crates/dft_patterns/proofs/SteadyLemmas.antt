@@ -58,7 +58,7 @@ flagged_each acts start now f k = flagged' acts start now k f (cases_lt k (lengt
 -- ---- all vectors
 
 pub none_yet : (count : ℕ) (vectors : List (List Act)) → AreFlagged count vectors vectors (replicate count false)
-none_yet count vectors = record { len = length-replicate count false; each = λ k. ap (λ t. t || pulses vectors k) (none_marked count k) } where
+none_yet count vectors = record { len = length-replicate count false; each = λ k. ap (λ t. t || pulses vectors k) (none_marked count k) }
 
 or_swap : (p s r : Bool) → ((p || s) || r) ≡ (s || (p || r))
 or_swap true true r = refl

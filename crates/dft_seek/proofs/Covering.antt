@@ -163,7 +163,6 @@ any_kept : (f chosen : Point → Bool) → ((point : Point) → chosen point ≡
 any_kept f chosen fails [] is = is
 any_kept f chosen fails (point ∷ points) is = by (chosen point) refl (any_kept f chosen fails points)
   where
-
     by : (c : Bool) → chosen point ≡ c → (list_any f points ≡ true → list_any f (filter chosen points) ≡ true) → list_any f (if c then point ∷ filter chosen points else filter chosen points) ≡ true
     by true it below = or_more (f point) (list_any f points) (list_any f (filter chosen points)) below is
     by false it below = below (sym (ap (λ (b : Bool). b || list_any f points) (fails point it)) ∙ is)

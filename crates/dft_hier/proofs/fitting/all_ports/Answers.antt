@@ -1,5 +1,5 @@
 use Rattle.std.proofs.Common.{◌≡◌, ◌++◌, ◌∷◌, [], List, cond, is_ok, sym, ap, ◌∙◌}
-use Rattle.dft_hier.specs.Numbers.{Entry}
+use Rattle.dft_numbered.specs.Numbers.{Entry}
 use Rattle.dft_hier.proofs.FitLemmas.{ports_next, ports_all}
 use Rattle.dft_hier.proofs.fitting.all_ports.Goals as goal
 

@@ -4,7 +4,8 @@ use Rattle.std.proofs.lemmas.Option.{slice_get-get_or}
 use Rattle.std.proofs.lemmas.Result.{err_from_is_err_and}
 use Rattle.dft_modules.specs.Modules.{Module}
 use Rattle.dft_hier.specs.Hierarchy.{sub_of}
-use Rattle.dft_hier.specs.Numbers.{Entry, Finds, port_names}
+use Rattle.dft_numbered.specs.Numbers.{Entry, Finds}
+use Rattle.dft_hier.specs.Numbers.{port_names}
 use Rattle.dft_hier.proofs.NumberLemmas.{number_within}
 use Rattle.dft_hier.proofs.FitLemmas.{next_child, checked_next, checked_over, misfit_here, checked_all, found_child}
 use Rattle.dft_hier.proofs.fitting.check_module.Goals.{in-Some+in_ok-check_sub, in_default}

@@ -1,5 +1,5 @@
 use Rattle.std.proofs.Common.{◌<◌, ◌≡◌, length, get_or, Some, sym, ap, ◌∙◌, rules}
-use Rattle.dft_hier.specs.Numbers.{look_up}
+use Rattle.dft_numbered.specs.Numbers.{look_up}
 use Rattle.dft_hier.specs.Refusals.{fits_port}
 use Rattle.dft_hier.proofs.FitLemmas.{port_live, fits_some, fits_none}
 use Rattle.dft_hier.proofs.fitting.fits_module.Goals as goal

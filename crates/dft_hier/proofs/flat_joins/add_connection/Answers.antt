@@ -3,7 +3,7 @@ use Rattle.dft_netlist.specs.declared.instance.Join.{Join}
 use Rattle.dft_netlist.specs.declared.instance.Signal.{Signal}
 use Rattle.dft_hier.specs.Flat.{joined_to, moved, moved_net, port_joins}
 use Rattle.dft_hier.specs.Moving.{AreJoinsOf, AreWritable}
-use Rattle.dft_hier.specs.Numbers.{look_up}
+use Rattle.dft_numbered.specs.Numbers.{look_up}
 use Rattle.dft_hier.proofs.JoinLemmas.{connection_live, joined_some, joined_none, connected, unconnected}
 use Rattle.dft_hier.proofs.flat_joins.add_connection.Goals as goal
 

@@ -1,9 +1,10 @@
-use Rattle.dft_hier.proofs.JoinLemmas.{connection_next, connection_last}
+use Rattle.dft_modules.specs.declared.connections.Connection.{Connection}
+use Rattle.dft_numbered.proofs.NamedLemmas.{named_next, named_all}
 use Rattle.dft_hier.proofs.flat_joins.connection_numbers.Goals as goal
 
 pub loop-number-preserved : goal.loop-number-preserved
 loop-number-preserved c =
-    connection_next c.args.connections.now c.index-connections-number.result c.as_slice.result.now c.loop-number.number c.loop-number.numbers c.put.new.self c.loop-number-test.true c.index-connections-number.is c.as_slice.ensures.bytes c.in_ok-put.ensures c.loop-number.invariant
+    named_next (λ (x : Connection). x.port) c.args.connections.now c.index-connections-number.result c.as_slice.result.now c.loop-number.number c.loop-number.numbers c.put.new.self c.loop-number-test.true c.index-connections-number.is c.as_slice.ensures.bytes c.in_ok-put.ensures c.loop-number.invariant
 
 pub returns : goal.returns
-returns c = connection_last c.args.connections.now c.loop-number.numbers c.loop-number.number c.loop-number-test.false c.loop-number.invariant
+returns c = named_all (λ (x : Connection). x.port) c.args.connections.now c.loop-number.numbers c.loop-number.number c.loop-number-test.false c.loop-number.invariant

@@ -1,7 +1,7 @@
 //! Names with numbers, which are found by their bytes.
 
 ghost use Rattle.std.specs.Prelude.{◌≡◌, ◌++◌, ◌∷◌, [], None, OnOk};
-ghost use Rattle.dft_hier.specs.Numbers.{look_up, noted};
+ghost use Rattle.dft_numbered.specs.Numbers.{look_up, noted};
 
 use indexmap::IndexMap;
 use std::alloc::{AllocError, Global};
@@ -24,11 +24,11 @@ impl Drop for Numbered<'_> {
 
 impl<'a> Model for Numbered<'a> {
     ghost use Rattle.std.specs.Prelude.{List};
-    ghost use Rattle.dft_hier.specs.Numbers.{Entry};
+    ghost use Rattle.dft_numbered.specs.Numbers.{Entry};
 
     ghost Value = { List Entry };
 
-    ghost use Rattle.dft_hier.specs.NumberedShown.{entries_in};
+    ghost use Rattle.dft_numbered.specs.NumberedShown.{entries_in};
 
     ghost view = { entries_in };
 }

@@ -3,9 +3,9 @@ use Rattle.std.proofs.lemmas.List.{map-append}
 use Rattle.std.specs.Cow.{cow_slice_items}
 use Rattle.std.specs.Str.{bytes_eq}
 use Rattle.indexmap.proofs.CallerLemmas.{insert_entry-new}
-use Rattle.dft_hier.specs.Numbers.{Entry, look_up}
-use Rattle.dft_hier.proofs.NumberLemmas.{look_up-map}
-use Rattle.dft_hier.proofs.numbered.Numbered.add.Goals as goal
+use Rattle.dft_numbered.specs.Numbers.{Entry, look_up}
+use Rattle.dft_numbered.proofs.NumberLemmas.{look_up-map}
+use Rattle.dft_numbered.proofs.numbered.Numbered.add.Goals as goal
 
 pub returns : goal.returns
 returns c =

@@ -1,0 +1,6 @@
+//! Names with numbers, which are found by their bytes.
+#![tactic(auto)]
+
+mod numbered;
+
+pub use numbered::Numbered;
