@@ -137,13 +137,13 @@ agrees [] [] = true
 agrees (o ∷ os) (v ∷ vs) = (bytes_eq o.name v.0 && (not o.required || is_some v.1)) && agrees os vs
 agrees _ _ = false
 
-pub at_most_one : (q : Option Text) → length (list_of q) ≤ 1
-at_most_one None = omega arith
-at_most_one (Some v) = omega arith
+pub list_few : (q : Option Text) → length (list_of q) ≤ 1
+list_few None = omega arith
+list_few (Some v) = omega arith
 
 each_once : (gs : List Given) (options : List Valued) → AllByRecursion (IsGiven gs) options → AllByRecursion (λ option. length (values_of option.0 gs) ≤ 1) options
 each_once gs [] all = tt
-each_once gs (o ∷ options) all = (subst (λ (l : List Text). length l ≤ 1) (sym all.0) (at_most_one o.1), each_once gs options all.1)
+each_once gs (o ∷ options) all = (subst (λ (l : List Text). length l ≤ 1) (sym all.0) (list_few o.1), each_once gs options all.1)
 
 some_wanted : (r : Bool) (q : Option Text) → (not r || is_some q) ≡ true → r ≡ true → 1 ≤ length (list_of q)
 some_wanted true None e required = absurd (true≢false (sym e))

@@ -1,6 +1,6 @@
 -- What is marked for cells has what they read, and what is marked for compared bits has their nets.
 use Rattle.std.proofs.Common.{ℕ, Bool, true, false, ◌≡◌, ◌<◌, ◌≤◌, ◌+◌, ◌++◌, ◌⊎◌, inl, inr, List, [], ◌∷◌, length, refl, sym, ap, subst, arith, ◌∙◌, get_or, Option, None, Some}
-use Rattle.std.specs.Prelude.{◌||◌, nat_le, if◌then◌else◌}
+use Rattle.std.specs.Prelude.{nat_le, if◌then◌else◌}
 use Rattle.std.proofs.lemmas.List.{get_or_past}
 use Rattle.std.proofs.lemmas.Bool.{cases_Bool, cases_eq, or_left, or_right}
 use Rattle.std.proofs.lemmas.Bool.Decides.{eqb_tells, leb_tells}

@@ -1,5 +1,5 @@
 -- The round of a vector in a lane, from what is settled and taken in it.
-use Rattle.std.proofs.Common.{ℕ, Bool, true, false, ◌&&◌, ◌≡◌, ◌<◌, inl, inr, List, [], length, refl, sym, ap, subst, ◌∙◌, Option}
+use Rattle.std.proofs.Common.{ℕ, Bool, true, false, ◌≡◌, ◌<◌, inl, inr, List, [], length, refl, sym, ap, subst, ◌∙◌, Option}
 use Rattle.std.specs.Prelude.{if◌then◌else◌}
 use Rattle.dft_base.proofs.BitLemmas.{with_true}
 use Rattle.dft_base.specs.declared.tri.Tri.{Tri}

@@ -1,5 +1,5 @@
 -- Modules and ports by numbers: which of a list the first of a name is, and which modules a module has instances of.
-use Rattle.std.specs.Prelude.{ℕ, ◌≡◌, not, List, [], ◌∷◌, ◌++◌, map, find, Option, Some, is_some, option_map, if◌then◌else◌}
+use Rattle.std.specs.Prelude.{ℕ, ◌≡◌, not, List, map, find, Option, Some, is_some, option_map}
 use Rattle.std.specs.List.{filter_map}
 use Rattle.dft_base.specs.Lexing.{Text}
 use Rattle.dft_netlist.specs.declared.port.Port.{Port}

@@ -1,5 +1,5 @@
 -- The signals that a text declares have names that differ.
-use Rattle.std.proofs.Common.{◌≡◌, ◌≢◌, ℕ, zero, suc, ◌<◌, ◌≤◌, ◌+◌, Bool, true, false, not, true≢false, ◌||◌, List, [], ◌∷◌, ◌++◌, length, get_or, length-append, AllPairs, All, Option, Some, None, is_some, Ok, inl, inr, ◌⊎◌, refl, sym, ap, subst₂, ◌∙◌, arith}
+use Rattle.std.proofs.Common.{◌≡◌, ◌≢◌, ℕ, zero, suc, ◌<◌, ◌≤◌, ◌+◌, Bool, true, false, not, true≢false, List, [], ◌∷◌, ◌++◌, length, get_or, length-append, AllPairs, All, Option, Some, None, is_some, Ok, inl, inr, ◌⊎◌, refl, sym, ap, subst₂, ◌∙◌, arith}
 use Rattle.std.specs.List.{list_any}
 use Rattle.std.specs.Str.{bytes_eq}
 use Rattle.std.proofs.Math.Seq.{get_or-append_seam}

@@ -7,7 +7,7 @@ use Rattle.std.specs.Str.{bytes_eq}
 use Rattle.dft_base.proofs.TextLemmas.{bytes_eq-self, same_text}
 use Rattle.dft_base.proofs.BitLemmas.{not_true}
 use Rattle.dft_base.proofs.NumberLemmas.{eqb_turned}
-use Rattle.dft_command_line.proofs.Taken.{at_most_one}
+use Rattle.dft_command_line.proofs.Taken.{list_few}
 use Rattle.dft_command_line.specs.Words.{Given, IsOneOf, Valued, is_value, is_value_word, list_of, values_of, words_of}
 use Rattle.dft_explain.specs.Faults.{Text, is_among}
 use Rattle.dft_explain.specs.Options.{behind, or_else, value_behind, value_of}
@@ -198,7 +198,7 @@ some_known names name (g ∷ given) all = go (bytes_eq g.name name) refl (some_k
 
 few_of : (options : List Valued) (name : Text) (given : List Given) → AllByRecursion (λ option. values_of option.0 given ≡ list_of option.1) options → IsOneOf (map (λ option. option.0) options) name → length (values_of name given) ≤ 1
 few_of [] name given each one = absurd one
-few_of (o ∷ options) name given each (inl i) = subst (λ (l : Text). length (values_of l given) ≤ 1) (sym i) (subst (λ (l : List Text). length l ≤ 1) (sym each.0) (at_most_one o.1))
+few_of (o ∷ options) name given each (inl i) = subst (λ (l : Text). length (values_of l given) ≤ 1) (sym i) (subst (λ (l : List Text). length l ≤ 1) (sym each.0) (list_few o.1))
 few_of (o ∷ options) name given each (inr one) = few_of options name given each.1 one
 
 pub few_given : (options : List Valued) (given : List Given) → AllByRecursion (λ g. IsOneOf (map (λ option. option.0) options) g.name) given → AllByRecursion (λ option. values_of option.0 given ≡ list_of option.1) options → Few given
