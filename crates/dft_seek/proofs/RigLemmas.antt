@@ -53,7 +53,7 @@ pub net_named : (n : Netlist) (net : ℕ) (name : Text) (o : Option NetId) → i
 net_named n net name None is found = absurd (true≢false (sym found))
 net_named n net name (Some k) is found =
     let there = found_at 0 n.nets name k (found_named n (find_net n name) k is) in
-    ap (slice_get n.nets) (sym (eqb-true k.0 net found) ∙ there.1.0 ∙ (let e : 0 + there.0 ≡ there.0 = omega arith in e)) ∙ there.1.1
+    ap (slice_get n.nets) (sym (eqb-true k.0 net found) ∙ there.1 ∙ (let e : 0 + there.0 ≡ there.0 = omega arith in e)) ∙ there.2
 
 -- one of the names that stands for a net
 name_among : (n : Netlist) (net : ℕ) (names : List Text) → list_any (λ name. is_net net (input_net n name)) names ≡ true → (k : ℕ) × ((k < length names) × ((d : Text) → slice_get n.nets net ≡ Some (get_or names k d)))
