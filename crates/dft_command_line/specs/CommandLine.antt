@@ -1,5 +1,5 @@
 -- What `clap` is told of the command line, and what it is not told.
-use Rattle.std.specs.Prelude.{ℕ, Bool, true, false, not, ◌==◌, ◌&&◌, ◌^◌, List, [], ◌∷◌, codes, fold, length, map, nat_le, nat_lt, if◌then◌else◌, Some, Option, None, option_map, option_and_then}
+use Rattle.std.specs.Prelude.{ℕ, Bool, true, false, not, ◌==◌, ◌&&◌, ◌^◌, List, [], ◌∷◌, ◌++◌, codes, fold, length, map, nat_le, nat_lt, if◌then◌else◌, Some, Option, None, option_map, option_and_then}
 use Rattle.std.specs.Char.{is_ascii_digit}
 use Rattle.std.specs.List.{list_all}
 use Rattle.std.specs.Str.{bytes_eq}
@@ -74,8 +74,11 @@ seek_form = record {
       ∷ optional (codes "library") ∷ [];
 }
 
+abbrev pub first_forms : List Form
+first_forms = replay_form ∷ scan_form ∷ compile_form ∷ certify_form ∷ []
+
 abbrev pub forms : List Form
-forms = replay_form ∷ scan_form ∷ compile_form ∷ certify_form ∷ generate_form ∷ grade_form ∷ configure_form ∷ seek_form ∷ []
+forms = first_forms ++ generate_form ∷ grade_form ∷ configure_form ∷ seek_form ∷ []
 
 -- ---- what `clap` is told
 
@@ -99,8 +102,12 @@ plain_app = on_top (λ s. record s {
   subcommand_required = true;
 }) (new_app (codes "dft"))
 
+-- the commands with further ones
+abbrev pub with_forms : App → List Form → App
+with_forms = fold (λ app form. with_subcommand app (form_shape form))
+
 abbrev pub dft_app : App
-dft_app = fold (λ app form. with_subcommand app (form_shape form)) plain_app forms
+dft_app = with_forms plain_app forms
 
 -- ---- what it is not told
 

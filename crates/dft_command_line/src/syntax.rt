@@ -1,9 +1,9 @@
 //! The words as `clap` reads them.
 
 ghost use Rattle.std.specs.Prelude.{◌≡◌, IfOk, false, true, map, string_bytes};
-ghost use Rattle.clap.specs.Words.{FailsBy, app_of, fault_of, new_app, rule_of, subcommand_of, subcommand_rows_of};
+ghost use Rattle.clap.specs.Words.{FailsBy, app_of, fault_of, new_app, rule_of, subcommand_of, subcommand_rows_of, with_subcommand};
 ghost use Rattle.clap.specs.declared.builder.command.Command.TheViews.{out-Command as fields_of};
-ghost use Rattle.dft_command_line.specs.CommandLine.{dft_app, option_rule, plain_app, with_options};
+ghost use Rattle.dft_command_line.specs.CommandLine.{dft_app, first_forms, option_rule, plain_app, with_forms, with_options};
 
 use clap::{Arg, ArgMatches, Command, Error};
 use std::alloc::{AllocError, Global};
@@ -13,60 +13,103 @@ pub(crate) fn matches<'a>(alloc: Global, words: &'a [String]) -> Result<ArgMatch
     ensures kinds { FailsBy (fault_of dft_app (map string_bytes words.entry.now)) result }
     ensures found { IfOk result (λ m. subcommand_rows_of m ≡ subcommand_of dft_app (map string_bytes words.entry.now)) }
 {
-    let dft = plain(alloc)
-        .subcommand(form(alloc, "replay", &["netlist", "patterns"], &["library"])?)?
-        .subcommand(form(
-            alloc,
-            "scan",
-            &["netlist", "config", "out", "report"],
-            &["library"],
-        )?)?
-        .subcommand(form(
-            alloc,
-            "compile",
-            &[
-                "netlist",
-                "config",
-                "cubes",
-                "out-netlist",
-                "out-patterns",
-                "out-report",
-            ],
-            &["library"],
-        )?)?
-        .subcommand(form(
-            alloc,
-            "certify",
-            &["netlist", "config", "cubes", "report"],
-            &["library"],
-        )?)?
-        .subcommand(form(alloc, "generate", &["seed", "size"], &[])?)?
-        .subcommand(form(
-            alloc,
-            "grade",
-            &["netlist", "patterns", "out"],
-            &["library"],
-        )?)?
-        .subcommand(form(
-            alloc,
-            "configure",
-            &["netlist", "channels", "out"],
-            &["chains", "length", "outputs", "masks", "library"],
-        )?)?
-        .subcommand(form(
-            alloc,
-            "seek",
-            &[
-                "netlist",
-                "config",
-                "clock",
-                "limit",
-                "out-cubes",
-                "out-report",
-            ],
-            &["library"],
-        )?)?;
+    let dft = commands(alloc)?;
     dft.try_get_matches_from(words)
+}
+
+// All commands.
+fn commands<'a>(alloc: Global) -> Result<Command<'a>, AllocError>
+    ensures { IfOk result (λ c. app_of c ≡ dft_app) }
+{
+    let dft = first_commands(alloc)?;
+    let dft = with_form(alloc, dft, "generate", &["seed", "size"], &[])?;
+    let dft = with_form(
+        alloc,
+        dft,
+        "grade",
+        &["netlist", "patterns", "out"],
+        &["library"],
+    )?;
+    let dft = with_form(
+        alloc,
+        dft,
+        "configure",
+        &["netlist", "channels", "out"],
+        &["chains", "length", "outputs", "masks", "library"],
+    )?;
+    let dft = with_form(
+        alloc,
+        dft,
+        "seek",
+        &[
+            "netlist",
+            "config",
+            "clock",
+            "limit",
+            "out-cubes",
+            "out-report",
+        ],
+        &["library"],
+    )?;
+    Ok(dft)
+}
+
+// The commands `replay`, `scan`, `compile` and `certify`: few in a function, since an owned value that is alive over many ways out is
+// dear to prove.
+fn first_commands<'a>(alloc: Global) -> Result<Command<'a>, AllocError>
+    ensures { IfOk result (λ c. app_of c ≡ with_forms plain_app first_forms) }
+{
+    let dft = with_form(
+        alloc,
+        plain(alloc),
+        "replay",
+        &["netlist", "patterns"],
+        &["library"],
+    )?;
+    let dft = with_form(
+        alloc,
+        dft,
+        "scan",
+        &["netlist", "config", "out", "report"],
+        &["library"],
+    )?;
+    let dft = with_form(
+        alloc,
+        dft,
+        "compile",
+        &[
+            "netlist",
+            "config",
+            "cubes",
+            "out-netlist",
+            "out-patterns",
+            "out-report",
+        ],
+        &["library"],
+    )?;
+    let dft = with_form(
+        alloc,
+        dft,
+        "certify",
+        &["netlist", "config", "cubes", "report"],
+        &["library"],
+    )?;
+    Ok(dft)
+}
+
+// The commands with one more, of this name, with options that are needed, and others that may be left out.
+fn with_form<'a>(
+    alloc: Global,
+    dft: Command<'a>,
+    name: &'a str,
+    needed: &[&'a str],
+    optional: &[&'a str],
+) -> Result<Command<'a>, AllocError>
+    ensures { IfOk result (λ c. app_of c ≡ with_subcommand (app_of dft.entry) (with_options false (with_options true (new_app name.entry.now) (map (λ n. n.now) needed.now)) (map (λ n. n.now) optional.now)).top) }
+{
+    let form = form(alloc, name, needed, optional)?;
+    let dft = dft.subcommand(form)?;
+    Ok(dft)
 }
 
 // The words are those behind the program's name, the first is a command, and there is no help.
