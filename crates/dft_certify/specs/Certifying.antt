@@ -102,6 +102,7 @@ is_certificate n row columns lines = odd_in (λ line. line.bit) lines && list_al
 
 -- ---- cubes
 
+-- the names of cubes, in order
 abbrev pub cube_names : List Cube → List Text
 cube_names cubes = map (λ (cube : Cube). cube.name) cubes
 

@@ -1,4 +1,4 @@
--- Modules and ports by numbers: which of a list the first of a name is, and which modules a module has instances of.
+-- Modules and ports by numbers: the number of the first module of a name, and which modules a module has instances of.
 use Rattle.std.specs.Prelude.{ℕ, ◌≡◌, not, List, map, find, Option, Some, is_some, option_map}
 use Rattle.std.specs.List.{filter_map}
 use Rattle.dft_base.specs.Lexing.{Text}
