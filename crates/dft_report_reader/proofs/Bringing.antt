@@ -1,5 +1,5 @@
 -- The parts of a written report bring a reading on.
-use Rattle.std.proofs.Common.{ℕ, suc, ◌+◌, ◌-◌, ◌≤◌, ◌≡◌, ◌&&◌, Bool, true, false, List, [], ◌∷◌, ◌++◌, length, flat_map, codes, Option, None, Some, refl, sym, ap, ap₂, subst, arith, ◌∙◌}
+use Rattle.std.proofs.Common.{ℕ, suc, ◌+◌, ◌-◌, ◌≤◌, ◌^◌, ◌≡◌, ◌&&◌, Bool, true, false, List, [], ◌∷◌, ◌++◌, length, flat_map, codes, Option, None, Some, refl, sym, ap, ap₂, subst, arith, ◌∙◌}
 use Rattle.std.specs.Prelude.{if◌then◌else◌, is_some, nat_le}
 use Rattle.std.specs.Fmt.{decimal}
 use Rattle.std.proofs.lemmas.Bool.Decides.{nat_tests}
@@ -66,7 +66,7 @@ one_chain header done size a b =
     brings_text (chained header done) (chained header (done ++ size ∷ [])) _ (codes "chain") (decimal (length done) ∷ codes "length" ∷ decimal size ∷ []) refl refl (number_fine (length done) a, (refl, (number_fine size b, tt)))
     (ap (with_said (chained header done)) (says_chain (length done) size a b) ∙ ap (λ (t : Bool). if t then Some (chained header (done ++ size ∷ [])) else None) (same_number (length done)))
 
-pub chains_bring : (header : Header) (done more : List ℕ) → IsSmall (length done + length more) → Each IsSmall more → Brings (chained header done) (chain_lines (length done) more) (chained header (done ++ more))
+pub chains_bring : (header : Header) (done more : List ℕ) → length done + length more ≤ 2 ^ 32 → Each IsSmall more → Brings (chained header done) (chain_lines (length done) more) (chained header (done ++ more))
 chains_bring header done [] small each = subst (λ (chains : List ℕ). Brings (chained header done) [] (chained header chains)) (sym (append-nil done)) (brings_none (chained header done))
 chains_bring header done (size ∷ more) small each =
     let count : length (done ++ size ∷ []) ≡ length done + 1 = length-append done (size ∷ []) in

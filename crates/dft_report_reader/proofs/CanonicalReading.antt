@@ -54,12 +54,12 @@ text_of stage header chains scanned unscanned cubes owing = (before_cubes stage 
 so_far : Reading → Text
 so_far r = text_of r.stage r.header r.chains r.scanned r.unscanned r.cubes r.owing
 
-abbrev IsOwed : Option Owing → Type 0
+abbrev pub IsOwed : Option Owing → Type 0
 IsOwed None = Unit {0}
 IsOwed (Some o) = 1 ≤ o.owed
 
 -- lines of a kind stand only where that kind has begun
-record IsStaged (r : Reading) : Type 0 where
+pub record IsStaged (r : Reading) : Type 0 where
   pub chains : r.stage < 2 → r.chains ≡ []
   pub scanned : r.stage < 3 → r.scanned ≡ []
   pub unscanned : r.stage < 4 → r.unscanned ≡ []
@@ -437,15 +437,19 @@ line_is line (word ∷ words) (Some said) r s is f g e =
     let text : line ++ 10 ∷ [] ≡ line_said said = ap (λ (x : Text). x ++ 10 ∷ []) back ∙ joined_behind word words (10 ∷ []) ∙ ap₂ (λ (x : Text) (xs : List Text). x ++ behind xs (10 ∷ [])) t.0 t.1 in
     subst (λ (x : Text). Adds r x s) (sym text) (adds_said said r s is e)
 
+-- a line leaves lines of a kind where that kind has begun
+pub line_staged : (line : Text) (r s : Reading) → IsStaged r → with_said r (said_of (words_of line)) ≡ Some s → IsStaged s
+line_staged line r s is e = (line_is line (words_of line) (said_of (words_of line)) r s is refl refl e).staged
+
 -- lines with the end of each
 abbrev ended_lines : List Text → Text
 ended_lines [] = []
 ended_lines (line ∷ lines) = (line ++ 10 ∷ []) ++ ended_lines lines
 
-abbrev IsOk : Result Reading ReadError → Reading → Type 0
+abbrev pub IsOk : Result Reading ReadError → Reading → Type 0
 IsOk o s = o ≡ Ok s
 
-same_ok : (a b : Reading) → IsOk (Ok a) b → a ≡ b
+pub same_ok : (a b : Reading) → IsOk (Ok a) b → a ≡ b
 same_ok a b e = cc
 
 lines_add : (lines : List Text) (r s : Reading) (k : ℕ) → IsStaged r → read_lines r k lines ≡ Ok s → Adds r (ended_lines lines) s
@@ -472,10 +476,10 @@ is_empty (b ∷ text) e = absurd (no (length text) e)
     no : (n : ℕ) → nat_le (suc n) 0 ≡ true → ⊥
     no n e = grind (arith, nat_tests, e)
 
-nothing_staged : IsStaged nothing_read
+pub nothing_staged : IsStaged nothing_read
 nothing_staged = record { chains = λ less. refl; scanned = λ less. refl; unscanned = λ less. refl; cubes = λ less. refl; owing = λ less. refl; owed = tt }
 
-behind_end : {A E : Type 0} (t : Bool) (x y : A) (error : E) → (if t then Ok x else Err error) ≡ Ok y → (t ≡ true) × (x ≡ y)
+pub behind_end : {A E : Type 0} (t : Bool) (x y : A) (error : E) → (if t then Ok x else Err error) ≡ Ok y → (t ≡ true) × (x ≡ y)
 behind_end true x y error e = (refl, cc)
 behind_end false x y error e = absurd cc
 

@@ -9,3 +9,4 @@ pub mod Whole
 mod CanonicalNumbers
 mod CanonicalWords
 mod CanonicalReading
+mod ReadableReading

@@ -1,5 +1,5 @@
 -- The written form of a report is read as that report.
-use Rattle.std.specs.Prelude.{ℕ, ◌<◌, ◌^◌, ◌≡◌, List, [], ◌∷◌, length, Option, None, Some, Ok}
+use Rattle.std.specs.Prelude.{ℕ, ◌<◌, ◌≤◌, ◌^◌, ◌≡◌, List, [], ◌∷◌, length, Option, None, Some, Ok}
 use Rattle.dft_base.specs.Lexing.{Text}
 use Rattle.dft_base.specs.Name.{IsName}
 use Rattle.dft_report.specs.declared.report.Load.{Load}
@@ -59,7 +59,8 @@ HasLoad (Some load) cubes = Unit {0}
 -- names are names, numbers are below 2^32, and cubes stand where there is a load
 pub record IsReadable (r : Report) : Type 0 where
   pub header : IsHeaderReadable r.header
-  pub count : IsSmall (length r.chains)
+  -- chains are numbered from 0
+  pub count : length r.chains ≤ 2 ^ 32
   pub chains : Each IsSmall r.chains
   pub scanned : Each IsScannedReadable r.scanned
   pub unscanned : Each IsUnscannedReadable r.unscanned
@@ -73,3 +74,7 @@ WrittenIsRead = (r : Report) → IsReadable r → report_of (written r) ≡ Ok r
 -- And no other text is read as it.
 abbrev pub ReadIsWritten : Type 0
 ReadIsWritten = (text : Text) (r : Report) → report_of text ≡ Ok r → text ≡ written r
+
+-- What is read can be read: so a text is refused by K1 exactly where it is not the written form of such a report.
+abbrev pub ReadIsReadable : Type 0
+ReadIsReadable = (text : Text) (r : Report) → report_of text ≡ Ok r → IsReadable r
