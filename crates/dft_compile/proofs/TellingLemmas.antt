@@ -50,7 +50,7 @@ use Rattle.dft_encode.proofs.PlacingLemmas.{place_count}
 use Rattle.dft_rules.proofs.Passed.{domain_is_named}
 use Rattle.dft_stitch.proofs.ChainLimits.{limits}
 use Rattle.dft_stitch.specs.Plans.{falling_head}
-use Rattle.dft_compile.specs.Named.{AreCubesNamed}
+use Rattle.dft_encode.specs.Named.{AreCubesNamed}
 use Rattle.dft_compile.specs.Reports.{compile_report}
 use Rattle.dft_compile.specs.Texts.{report_text}
 

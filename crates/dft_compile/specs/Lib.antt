@@ -5,6 +5,5 @@ pub mod Refusals
 pub mod Compilation
 pub mod Prepared
 pub mod PreparedShown
-pub mod Named
 pub mod Working
 pub mod Laws

@@ -10,7 +10,6 @@ ghost use Rattle.dft_compile.specs.Compilation.{IsCompileOf};
 ghost use Rattle.dft_compile.specs.Refusals.{IsLate};
 
 use crate::error::CompileError;
-use crate::names::cubes_are_named;
 use crate::prepared::Prepared;
 use crate::texts::CompileTexts;
 use crate::work::Work;
@@ -37,7 +36,6 @@ pub fn compile(
     let loads = prepared.loads();
     loads.design().soundness();
     loads.soundness();
-    cubes_are_named(cubes);
     let mut merger = Merger::new(alloc, loads)?;
     let placed = place_all(alloc, &mut merger, cubes)?;
     let merged = merger.close();

@@ -6,7 +6,6 @@ mod counting;
 mod error;
 mod laws;
 mod lengths;
-mod names;
 mod prepared;
 mod reporting;
 mod texts;

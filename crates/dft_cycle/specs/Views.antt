@@ -12,7 +12,7 @@ use Rattle.dft_cycle.specs.declared.phases.Room.{Room}
 use Rattle.dft_abstract.specs.Cycle.{next_value, changes, IsClosed}
 use Rattle.dft_abstract.specs.Cycle as Cycle
 use Rattle.dft_logic.specs.Values.{value_at}
-pub use Rattle.dft_logic.specs.Ranks.{rank_from, rank_of}
+pub use Rattle.dft_logic.specs.Ranks.{rank_of}
 pub use Rattle.dft_logic.specs.Circuit.{taken_at, next_at}
 use Rattle.dft_logic.specs.Tables.{list_at}
 use Rattle.dft_netlist.specs.Orders.{Has}

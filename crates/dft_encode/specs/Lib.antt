@@ -3,3 +3,4 @@ pub mod Counts
 pub mod Encoding
 pub mod Finding
 pub mod Laws
+pub mod Named

@@ -6,7 +6,7 @@ use Rattle.dft_netlist.specs.Runs.{Now, Turn, AreLow}
 use Rattle.dft_patterns.specs.Patterns.{Patterns}
 use Rattle.dft_replay.specs.Rows.{rows_of}
 use Rattle.dft_replay.specs.Laws.{vectors_of, IsRunOf}
-pub use Rattle.dft_runs.specs.Choices.{SameFree, SameEdges, SameChoice, SameChoices, AreOrders}
+use Rattle.dft_runs.specs.Choices.{SameChoices, AreOrders}
 
 -- Every choice is that of a run, on a design with an order.
 abbrev pub EveryChoiceRuns : Type 0

@@ -15,9 +15,8 @@ status_number ReadFault = 4
 status_number WriteFault = 5
 status_number OutOfMemory = 6
 
--- The exit status is the number of the status that a run of these words answers, and the run promises what every run does.
-pub record IsStatusOfRun (words : List (List ℕ)) (before after : Seen) (status : ℕ) : Type 0 where
-  pub answer : Answer
+-- The exit status is the number of the status that this run of these words answers, and the run promises what every run does.
+pub record IsStatusOfRun (words : List (List ℕ)) (before after : Seen) (answer : Answer) (status : ℕ) : Type 0 where
   pub number : status ≡ status_number answer.status
   pub ends : Ends words before after answer
   pub kept : KeepsFiles words before.held after.held before.write_faults after.write_faults answer
@@ -32,3 +31,10 @@ pub record IsStatusOfRun (words : List (List ℕ)) (before after : Seen) (status
   pub seeks : SeeksTold words before.held after.held answer
   pub generates : GeneratesJob words before.put_faults after.put_faults answer
   pub completes : CompletesTold words before after answer
+
+-- the exit status is that of a run of these words over some files and some output
+pub record IsStatusOfWords (words : List (List ℕ)) (status : ℕ) : Type 0 where
+  pub before : Seen
+  pub after : Seen
+  pub answer : Answer
+  pub run : IsStatusOfRun words before after answer status

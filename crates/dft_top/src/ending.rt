@@ -1,12 +1,14 @@
 //! From an answer to an exit status.
 
-ghost use Rattle.std.specs.Prelude.{◌≡◌, ◌≤◌, map, string_bytes};
+ghost use Rattle.std.specs.Prelude.{◌≡◌, ◌≤◌, None, map, string_bytes};
 ghost use Rattle.std.specs.Process.{exit_status};
-ghost use Rattle.dft_top.specs.Ends.{IsStatusOfRun, status_number};
+ghost use Rattle.dft_explain.specs.Asked.{asked_by};
+ghost use Rattle.dft_top.specs.Ends.{IsStatusOfRun, IsStatusOfWords, status_number};
 ghost use Rattle.dft_top.specs.Run.{seen};
 
 use crate::telling::{page_of_output, page_of_run, page_without_words};
 use crate::{Status, run};
+use dft_answers::Answer;
 use dft_explain::{Page, asked, help};
 use dft_files::{Files, HostFiles, OutSink, Sink};
 use std::alloc::{AllocError, Global};
@@ -30,20 +32,22 @@ fn number_of(status: Status) -> u8
     }
 }
 
-/// Runs a command, and gives the number of the status that the run answers: 0 Done, 1 NotPassed, 2 Usage, 3 Refused,
-/// 4 ReadFault, 5 WriteFault, 6 OutOfMemory. What `run` promises holds of it.
+/// Runs a command, and gives the number of the status that the run answers, with the answer: 0 Done, 1 NotPassed, 2 Usage,
+/// 3 Refused, 4 ReadFault, 5 WriteFault, 6 OutOfMemory. What `run` promises holds of it.
 pub fn status_of_run<F: Files, O: Sink>(
     alloc: Global,
     words: &[String],
     files: &mut F,
     out: &mut O,
-) -> u8
-    ensures { IsStatusOfRun (map string_bytes words.entry.now)
+) -> (u8, Answer)
+    ensures status { IsStatusOfRun (map string_bytes words.entry.now)
         (seen (F.held files.old) (F.failed files.old) (F.read_faults files.old) (F.write_faults files.old) (O.told out.old) (O.faults out.old))
         (seen (F.held files.new) (F.failed files.new) (F.read_faults files.new) (F.write_faults files.new) (O.told out.new) (O.faults out.new))
-        result }
+        result.1 result.0 }
+    ensures small { result.0 ≤ 6 }
 {
-    number_of(run(alloc, words, files, out).status)
+    let answer = run(alloc, words, files, out);
+    (number_of(answer.status), answer)
 }
 
 /// The run of these words over the files and the output of a host: its exit status, and what a person is told of it where
@@ -52,13 +56,14 @@ pub fn told_run<R: AllocGlobal + Print + std::rt::Files>(
     rt: &R,
     words: &[String],
 ) -> (u8, Result<Page, AllocError>)
-    ensures { result.0 ≤ 6 }
+    ensures status { IsStatusOfWords (map string_bytes words.now) result.0 }
+    ensures small { result.0 ≤ 6 }
 {
     let mut files = HostFiles::new(rt, rt.alloc());
     let mut out = OutSink::new(rt);
-    let answer = run(rt.alloc(), words, &mut files, &mut out);
+    let (status, answer) = status_of_run(rt.alloc(), words, &mut files, &mut out);
     let page = page_of_run(rt, words, &answer, &files, &out);
-    (number_of(answer.status), page)
+    (status, page)
 }
 
 // Prints a text, and gives the exit status: 5 where it cannot be printed, which a person is told.
@@ -124,7 +129,8 @@ pub fn end<R: AllocGlobal + Env + Print + Eprint + std::rt::Files>(rt: &R) -> Ex
 
 // Answers words that ask, or runs them.
 fn end_of_words<R: AllocGlobal + Print + Eprint + std::rt::Files>(rt: &R, words: &[String]) -> u8
-    ensures { result ≤ 6 }
+    ensures status { asked_by (map string_bytes words.now) ≡ None → IsStatusOfWords (map string_bytes words.now) result }
+    ensures small { result ≤ 6 }
 {
     match asked(words) {
         Some(request) => print_text(rt, words, help(request)),

@@ -37,7 +37,7 @@ returns-clause-compile c =
     let known = c.soundness-2.ensures in
     let sound = rw c.design.ensures at c.soundness.ensures.netlist in
     let apart = subst (λ (p : Plan). StandApart p.chains) known.planned known.rows.apart in
-    let told = told_of l.design l.config c.args.cubes.now known.range sound known.passed known.fits apart c.cubes_are_named.ensures c.requires.cubes c.requires.cells in
+    let told = told_of l.design l.config c.args.cubes.now known.range sound known.passed known.fits apart c.in_ok-placed.ensures.named c.requires.cubes c.requires.cells in
     let p = placed_by l c.args.cubes.now c.in_ok-merger.merger c.in_ok-placed.placed.items c.deref.result.now c.place_all.new.merger.patterns known.planned known.equations c.in_ok-merger.ensures c.deref.ensures.value c.in_ok-placed.ensures.placed in
     subst (λ (q : Planned). IfOk c.texts.result (IsCompileOf q.design q.config c.args.cubes.now)) c.loads-loads.ensures
     (IfOk-weaker c.texts.result (AreTextsOf l.design l.config c.args.cubes.now l.rows c.deref.result.now c.place_all.new.merger.patterns) (IsCompileOf l.design l.config c.args.cubes.now)
