@@ -12,6 +12,7 @@ pub mod Framed
 pub mod Fresh
 pub mod Front
 pub mod JobLaws
+mod LightRows
 pub mod Judged
 pub mod Lengths
 pub mod Mentions

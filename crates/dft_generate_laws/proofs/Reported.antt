@@ -1,12 +1,13 @@
 -- The report of a generated job is no longer than a report may be.
 use Rattle.std.proofs.Common.{◌≡◌, inl, inr, ℕ, zero, suc, ◌+◌, ◌*◌, ◌/◌, ◌%◌, ◌<◌, ◌≤◌, Bool, true, false, ltb, List, [], ◌∷◌, ◌++◌, length, map, flat_map, get_or, slice_get, take, Option, None, Some, codes, decimal, unwrap_or, option_and_then, refl, sym, ap, ◌∙◌, subst, arith, length-append}
 use Rattle.std.specs.Prelude.{option_map, slice_index_or}
-use Rattle.std.specs.List.{cons_option, enumerate_from, filter_map, range_with_len, slice_index}
+use Rattle.std.specs.List.{All, cons_option, enumerate_from, filter_map, range_with_len, slice_index}
 use Rattle.std.proofs.Math.Nat.{mod-lt, suc-mul}
 use Rattle.std.proofs.lemmas.Bool.Decides.{nat_tests}
 use Rattle.std.proofs.lemmas.Fmt.{length-decimal-le}
 use Rattle.std.proofs.lemmas.Grind.{flat_map-append}
 use Rattle.std.proofs.lemmas.List.{get_or_past}
+use Rattle.std.proofs.lemmas.List.Elements.{All-map}
 use Rattle.std.proofs.lemmas.List.FromFn.{length-map-range_with_len}
 use Rattle.std.proofs.lemmas.Option.{none-some, same_Some}
 use Rattle.dft_base.specs.Lexing.{Text}
@@ -16,15 +17,15 @@ use Rattle.dft_netlist.specs.declared.ids.InstanceId.{InstanceId}
 use Rattle.dft_netlist.specs.declared.instance.Instance.{Instance}
 use Rattle.dft_netlist.specs.Names.{instance_name}
 use Rattle.dft_netlist.specs.Netlist.{Netlist}
-use Rattle.dft_config.specs.declared.config.RingConfig.{RingConfig}
-use Rattle.dft_config.specs.Loads.{load_equation}
-use Rattle.dft_equations.specs.LoadRows.{LoadRows, AreLoadEquations, rows_of, row_of}
+use Rattle.dft_config.specs.Loads.{channel_of, cycle_of, load_equation}
+use Rattle.dft_equations.specs.LoadRows.{LoadRows, AreLoadEquations, equation_row, rows_of, row_of}
 use Rattle.dft_rules.specs.declared.judged.Judged.{Judged}
 use Rattle.dft_rules.specs.declared.judged.Judged.TheVariants.{Scanned, Unscanned}
 use Rattle.dft_rules.specs.Rules.{judgements}
 use Rattle.dft_stitch.specs.declared.places.CellPlace.{CellPlace}
 use Rattle.dft_stitch.specs.Chains.{cells_of, clock_of, domain_in, is_falling, plan_of}
 use Rattle.dft_stitch.specs.Plans.{Plan, falling_head}
+use Rattle.dft_stitch.proofs.ChainLimits.{chains_short as chains_within}
 use Rattle.dft_cubes.specs.declared.cube.Cube.{Cube}
 use Rattle.dft_cubes.specs.declared.cube.Merged.{Merged}
 use Rattle.dft_merge.specs.declared.placed.Placed.{Placed}
@@ -59,7 +60,8 @@ use Rattle.dft_generate_laws.proofs.Checks.{scanned_here}
 use Rattle.dft_generate_laws.proofs.Framed.{plan_small}
 use Rattle.dft_generate_laws.proofs.Places.{instance_of}
 use Rattle.dft_generate_laws.proofs.Plans.{few_cells}
-use Rattle.dft_generate_laws.proofs.Vectors.{cycles_few}
+use Rattle.dft_generate_laws.proofs.LightRows.{ones, row_light}
+use Rattle.dft_generate_laws.proofs.Vectors.{cycles_most}
 use Rattle.dft_generate_laws.proofs.Lengths.{one}
 
 -- ---- lines
@@ -101,7 +103,7 @@ IsShortName o = (name : Text) → o ≡ Some name → length name ≤ 6
 named_short : (letter cell : ℕ) → cell < 100000 → IsShortName (Some (numbered letter cell))
 named_short letter cell lt name is = let d = five cell lt in subst (λ (t : Text). length t ≤ 6) (same_Some _ name is) (omega (arith, d))
 
-instance_short : (size : ℕ) (words : List ℕ) (i : ℕ) → size ≤ 16240 → IsShortName (option_and_then instance_name (slice_get (design size words).instances i))
+instance_short : (size : ℕ) (words : List ℕ) (i : ℕ) → size ≤ 20000 → IsShortName (option_and_then instance_name (slice_get (design size words).instances i))
 instance_short size words i few name is = by (slice_get (design size words).instances i) refl is
   where
     by : (o : Option Instance) → slice_get (design size words).instances i ≡ o → option_and_then instance_name o ≡ Some name → length name ≤ 6
@@ -123,12 +125,12 @@ domain_short (Some (suc (suc d))) name is = absurd (none-some name is)
 
 -- ---- chains and flip-flops
 
-chain_short : (chain size : ℕ) → chain < 16 → size ≤ 16240 → length (chain_line chain size) ≤ 22
+chain_short : (chain size : ℕ) → chain < 16 → size ≤ 20000 → length (chain_line chain size) ≤ 22
 unfolding chain_line
 chain_short chain size lt few =
     omega (arith, two chain (omega (arith, lt)), five size (omega (arith, few)), length-append (decimal chain) (codes " length " ++ (decimal size ++ codes "\n")), length-append (decimal size) (codes "\n"))
 
-chains_short : (chains : List (List InstanceId)) (from : ℕ) → from + length chains ≤ 16 → sum_of (λ (cells : List InstanceId). length cells * 1) chains ≤ 16240 → length (chain_lines from (map length chains)) ≤ length chains * 22
+chains_short : (chains : List (List InstanceId)) (from : ℕ) → from + length chains ≤ 16 → sum_of (λ (cells : List InstanceId). length cells * 1) chains ≤ 20000 → length (chain_lines from (map length chains)) ≤ length chains * 22
 chains_short [] from count few = omega arith
 chains_short (cells ∷ chains) from count few =
     omega (
@@ -143,7 +145,7 @@ edge_short : (falling : Bool) → length (edge_text falling) ≤ 8
 edge_short false = omega arith
 edge_short true = omega arith
 
-scanned_short : (chain place : ℕ) (falling : Bool) (name domain : Option Text) (l : ScannedLine) → chain < 16 → place < 16240 → IsShortName name → ((t : Text) → domain ≡ Some t → length t ≤ 4) → scanned_as chain place falling name domain ≡ Some l →
+scanned_short : (chain place : ℕ) (falling : Bool) (name domain : Option Text) (l : ScannedLine) → chain < 16 → place < 20000 → IsShortName name → ((t : Text) → domain ≡ Some t → length t ≤ 4) → scanned_as chain place falling name domain ≡ Some l →
     length (scanned_line l) ≤ 49
 unfolding scanned_line place_text
 scanned_short chain place falling (Some name) (Some domain) l low few n d is =
@@ -180,15 +182,15 @@ unscanned_short name (Some (Unscanned rule)) l le is =
 unscanned_short name (Some (Scanned domain falling)) l le is = absurd (none-some l is)
 unscanned_short name None l le is = absurd (none-some l is)
 
-module _ (size : ℕ) (words : List ℕ) (few : size ≤ 16240) (verdicts : List (Option Judged)) where
-  scanned_most : (chains : List (List InstanceId)) (from : ℕ) → from + length chains ≤ 16 → sum_of (λ (cells : List InstanceId). length cells * 1) chains ≤ 16240
+module _ (size : ℕ) (words : List ℕ) (few : size ≤ 20000) (verdicts : List (Option Judged)) where
+  scanned_most : (chains : List (List InstanceId)) (from : ℕ) → from + length chains ≤ 16 → sum_of (λ (cells : List InstanceId). length cells * 1) chains ≤ 20000
       → length (flat_map scanned_line (flat_map (λ (at : ℕ × List InstanceId). scanned_in (design size words) configuration verdicts at.0 at.1) (enumerate_from from chains))) ≤ sum_of (λ (cells : List InstanceId). length cells * 1) chains * 49
   scanned_most [] from count cells = omega arith
   scanned_most (chain ∷ chains) from count cells =
       let n : Netlist = design size words in
       let here : List ScannedLine = scanned_in n configuration verdicts from chain in
       let rest : List ScannedLine = flat_map (λ (at : ℕ × List InstanceId). scanned_in n configuration verdicts at.0 at.1) (enumerate_from (from + 1) chains) in
-      let a = lines_from (λ (place : ℕ) (cell : InstanceId). scanned_as from place (is_falling (clock_of verdicts cell)) (name_of n cell.0) (domain_name configuration verdicts cell)) scanned_line 49 16240
+      let a = lines_from (λ (place : ℕ) (cell : InstanceId). scanned_as from place (is_falling (clock_of verdicts cell)) (name_of n cell.0) (domain_name configuration verdicts cell)) scanned_line 49 20000
       (λ place cell l lt is. scanned_short from place (is_falling (clock_of verdicts cell)) (name_of n cell.0) (domain_name configuration verdicts cell) l (omega (arith, count)) lt (instance_short size words cell.0 few) (domain_short (domain_in (clock_of verdicts cell))) is)
       chain 0 (omega (arith, cells)) in
       let b = scanned_most chains (from + 1) (omega (arith, count)) (omega (arith, cells)) in
@@ -210,32 +212,48 @@ module _ (size : ℕ) (words : List ℕ) (few : size ≤ 16240) (verdicts : List
 
 -- ---- sums
 
-variable_short : (column : ℕ) (is_in : Bool) (v : Variable) → column < 2062 → variable_of configuration.ring column is_in ≡ Some v → length (variable_text v) ≤ 7
+variable_short : (column : ℕ) (is_in : Bool) (v : Variable) → column < 2532 → variable_of configuration.ring column is_in ≡ Some v → length (variable_text v) ≤ 7
 variable_short column true v lt is =
     let low = mod-lt column {m = 2} (omega arith) in
     subst (λ (w : Variable). length (variable_text w) ≤ 7) (same_Some _ v is)
     (omega (arith, one (column % 2) (omega (arith, low)), four (column / 2) (omega (arith, lt)), length-append (decimal (column % 2)) (codes "." ++ decimal (column / 2))))
 variable_short column false v lt is = absurd (none-some v is)
 
-variables_short : (variables : List Variable) → length (flat_map variable_text variables) ≤ 14434 → length (variables_text variables) ≤ 14434
+-- a row of at most so many columns, of which at most so many are in it
+record IsNarrow (row : List Bool) : Type 0 where
+  size : length row ≤ 2532
+  few : ones row ≤ 1484
+
+variables_short : (variables : List Variable) → length (flat_map variable_text variables) ≤ 10388 → length (variables_text variables) ≤ 10388
 variables_short [] le = omega arith
 variables_short (v ∷ variables) le = le
 
-row_short : (row : List Bool) → length row ≤ 2062 → length (variables_text (variables_of configuration.ring row)) ≤ 14434
-row_short row le =
-    let all = lines_from (variable_of configuration.ring) variable_text 7 2062 variable_short row 0 (omega (arith, le)) in
-    variables_short (variables_of configuration.ring row) (omega (arith, all, le))
+-- the variables that are in a row, by its columns from one on
+variables_from : (row : List Bool) (from : ℕ) → from + length row ≤ 2532 → length (flat_map variable_text (filter_map (λ (at : ℕ × Bool). variable_of configuration.ring at.0 at.1) (enumerate_from from row))) ≤ ones row * 7
+variables_from [] from le = omega arith
+variables_from (true ∷ row) from le =
+    let rest : List Variable = filter_map (λ (at : ℕ × Bool). variable_of configuration.ring at.0 at.1) (enumerate_from (from + 1) row) in
+    let here = variable_short from true (record { channel = channel_of configuration.ring from; cycle = cycle_of configuration.ring from }) (omega (arith, le)) refl in
+    let more = variables_from row (from + 1) (omega (arith, le)) in
+    omega (arith, here, more, length-append (variable_text (record { channel = channel_of configuration.ring from; cycle = cycle_of configuration.ring from })) (flat_map variable_text rest))
+variables_from (false ∷ row) from le = let more = variables_from row (from + 1) (omega (arith, le)) in omega (arith, more)
+
+row_short : (row : List Bool) → IsNarrow row → length (variables_text (variables_of configuration.ring row)) ≤ 10388
+row_short row narrow =
+    let few = narrow.few in
+    let all = variables_from row 0 (let size = narrow.size in omega (arith, size)) in
+    variables_short (variables_of configuration.ring row) (omega (arith, all, few))
 
 bit_short : (bit : Bool) → length (bit_text bit) ≡ 2
 bit_short true = refl
 bit_short false = refl
 
-sum_short : (row : List Bool) (bit : Bool) (o : Option Text) (sum : SumLine) → length row ≤ 2062 → IsShortName o → option_map (sum_as configuration.ring row bit) o ≡ Some sum → length (sum_line sum) ≤ 14447
+sum_short : (row : List Bool) (bit : Bool) (o : Option Text) (sum : SumLine) → IsNarrow row → IsShortName o → option_map (sum_as configuration.ring row bit) o ≡ Some sum → length (sum_line sum) ≤ 10401
 unfolding sum_line
 sum_short row bit None sum le short is = absurd (none-some sum is)
 sum_short row bit (Some name) sum le short is =
     let all : Text = variables_text (variables_of configuration.ring row) in
-    subst (λ (x : SumLine). length (sum_line x) ≤ 14447) (same_Some _ sum is)
+    subst (λ (x : SumLine). length (sum_line x) ≤ 10401) (same_Some _ sum is)
     (omega (arith, short name refl, bit_short bit, row_short row le, length-append name (bit_text bit ++ (all ++ codes "\n")), length-append (bit_text bit) (all ++ codes "\n"), length-append all (codes "\n")))
 
 -- ---- cubes
@@ -249,49 +267,49 @@ abbrev AreShort : List Cube → Type 0
 AreShort [] = Unit {0}
 AreShort (cube ∷ cubes) = IsShort cube × AreShort cubes
 
-unsolvable_short : (sums : List SumLine) → length sums ≤ 4 → length (flat_map sum_line sums) ≤ 57788 → length (unsolvable_text sums) ≤ 57803
+unsolvable_short : (sums : List SumLine) → length sums ≤ 4 → length (flat_map sum_line sums) ≤ 41604 → length (unsolvable_text sums) ≤ 41619
 unfolding unsolvable_text
 unsolvable_short sums few le = omega (arith, le, one (length sums) (omega (arith, few)), length-append (decimal (length sums)) (codes "\n" ++ flat_map sum_line sums))
 
-encoded_short : (p : ℕ) → p < 10000 → length (outcome_text (line.Encoded p)) ≤ 57803
+encoded_short : (p : ℕ) → p < 10000 → length (outcome_text (line.Encoded p)) ≤ 41619
 encoded_short p lt = omega (arith, four p lt, length-append (decimal p) (codes "\n"))
 
-skipped_short : (o : Option Text) (outcome : CubeLine) → IsShortName o → option_map line.Skipped o ≡ Some outcome → length (outcome_text outcome) ≤ 57803
+skipped_short : (o : Option Text) (outcome : CubeLine) → IsShortName o → option_map line.Skipped o ≡ Some outcome → length (outcome_text outcome) ≤ 41619
 skipped_short None outcome short is = absurd (none-some outcome is)
-skipped_short (Some cell) outcome short is = subst (λ (x : CubeLine). length (outcome_text x) ≤ 57803) (same_Some _ outcome is) (omega (arith, short cell refl, length-append cell (codes "\n")))
+skipped_short (Some cell) outcome short is = subst (λ (x : CubeLine). length (outcome_text x) ≤ 41619) (same_Some _ outcome is) (omega (arith, short cell refl, length-append cell (codes "\n")))
 
-named_lines : (name : Text) (o : Option CubeLine) (r : CubeReport) → length name ≤ 5 → ((outcome : CubeLine) → o ≡ Some outcome → length (outcome_text outcome) ≤ 57803) → option_map (named_outcome name) o ≡ Some r → length (cube_lines r) ≤ 57813
+named_lines : (name : Text) (o : Option CubeLine) (r : CubeReport) → length name ≤ 5 → ((outcome : CubeLine) → o ≡ Some outcome → length (outcome_text outcome) ≤ 41619) → option_map (named_outcome name) o ≡ Some r → length (cube_lines r) ≤ 41629
 unfolding cube_lines
 named_lines name None r le all is = absurd (none-some r is)
-named_lines name (Some outcome) r le all is = subst (λ (x : CubeReport). length (cube_lines x) ≤ 57813) (same_Some _ r is) (omega (arith, le, all outcome refl, length-append name (outcome_text outcome)))
+named_lines name (Some outcome) r le all is = subst (λ (x : CubeReport). length (cube_lines x) ≤ 41629) (same_Some _ r is) (omega (arith, le, all outcome refl, length-append name (outcome_text outcome)))
 
-module _ (size : ℕ) (words : List ℕ) (few : size ≤ 16240) (row : CellRows) (columns window : ℕ) (narrow : (cell : InstanceId) → length (unwrap_or (row cell) []) ≤ 2062) where
-  given_short : (o : Option (InstanceId × Bool)) (sum : SumLine) → option_and_then (outcomes.sum_line (design size words) configuration.ring row) o ≡ Some sum → length (sum_line sum) ≤ 14447
+module _ (size : ℕ) (words : List ℕ) (few : size ≤ 20000) (row : CellRows) (columns window : ℕ) (narrow : (cell : InstanceId) → IsNarrow (unwrap_or (row cell) [])) where
+  given_short : (o : Option (InstanceId × Bool)) (sum : SumLine) → option_and_then (outcomes.sum_line (design size words) configuration.ring row) o ≡ Some sum → length (sum_line sum) ≤ 10401
   given_short None sum is = absurd (none-some sum is)
   given_short (Some given) sum is = sum_short (unwrap_or (row given.0) []) given.1 (cell_name (design size words) given.0) sum (narrow given.0) (instance_short size words given.0.0 few) is
 
   outcome_short : (old new : List Merged) (cube : Cube) (placed : Placed) (outcome : CubeLine) → IsShort cube → length old < 10000 → Places columns row window old cube placed new → outcome_of (design size words) configuration.ring row cube placed ≡ Some outcome
-      → length (outcome_text outcome) ≤ 57803
+      → length (outcome_text outcome) ≤ 41619
   outcome_short old new cube (word.Into p) outcome short low places is =
-      let below = pattern_small columns row window old new cube p places in subst (λ (x : CubeLine). length (outcome_text x) ≤ 57803) (same_Some _ outcome is) (encoded_short p (omega (arith, below, low)))
+      let below = pattern_small columns row window old new cube p places in subst (λ (x : CubeLine). length (outcome_text x) ≤ 41619) (same_Some _ outcome is) (encoded_short p (omega (arith, below, low)))
   outcome_short old new cube (word.Unsolvable ids) outcome short low places is =
       let n : Netlist = design size words in
       let some = certificate_short columns row cube.cells ids places.1 in
       let cells = short.cells in
       let fewer = filter_shorter (sum_at n configuration.ring row cube.cells) ids in
-      let lines = lines_of (sum_at n configuration.ring row cube.cells) sum_line 14447 (λ position sum told. given_short (slice_get cube.cells position) sum told) ids in
-      subst (λ (x : CubeLine). length (outcome_text x) ≤ 57803) (same_Some _ outcome is)
+      let lines = lines_of (sum_at n configuration.ring row cube.cells) sum_line 10401 (λ position sum told. given_short (slice_get cube.cells position) sum told) ids in
+      subst (λ (x : CubeLine). length (outcome_text x) ≤ 41619) (same_Some _ outcome is)
       (unsolvable_short (sums_of n configuration.ring row cube.cells ids) (omega (arith, fewer, some, cells)) (omega (arith, lines, some, cells)))
   outcome_short old new cube (word.Skipped cell) outcome short low places is = skipped_short (cell_name (design size words) cell) outcome (instance_short size words cell.0 few) is
 
   cubes_most : (old new : List Merged) (cubes : List Cube) (placed : List Placed) → AreShort cubes → length old + length cubes < 10000 → PlacesAll columns row window old cubes placed new
-      → length (flat_map cube_lines (cube_reports (design size words) configuration.ring row cubes placed)) ≤ length cubes * 57813
+      → length (flat_map cube_lines (cube_reports (design size words) configuration.ring row cubes placed)) ≤ length cubes * 41629
   cubes_most old new [] placed short low places = omega arith
   cubes_most old new (cube ∷ cubes) [] short low places = omega arith
   cubes_most old new (cube ∷ cubes) (place ∷ placed) short low places =
       let n : Netlist = design size words in
       let more = place_count columns row window old places.0 cube place places.1.0 in
-      one_line cube_lines 57813 (length cubes) (cube_report n configuration.ring row cube place) (cube_reports n configuration.ring row cubes placed)
+      one_line cube_lines 41629 (length cubes) (cube_report n configuration.ring row cube place) (cube_reports n configuration.ring row cubes placed)
       (λ r is. named_lines cube.name (outcome_of n configuration.ring row cube place) r short.0.name (λ outcome told. outcome_short old places.0 cube place outcome short.0 (omega (arith, low)) places.1.0 told) is)
       (cubes_most places.0 new cubes placed short.1 (omega (arith, low, more)) places.1.1)
 
@@ -313,31 +331,40 @@ cubes_short size words (suc count) from le = (record { name = (let d = four from
 
 -- ---- load equations
 
--- the load equation of a place has no more variables than a load, or there is none
-equation_short : (ring : RingConfig) (lengths : List ℕ) (late : ℕ → Bool) (cycles : ℕ) (rows : LoadRows) (chain place : ℕ) → AreLoadEquations ring lengths late cycles rows → length (row_of rows chain place) ≤ cycles * ring.channels
-equation_short ring lengths late cycles rows chain place are = by (ltb chain (length lengths)) refl (ltb place (slice_index lengths chain)) refl
+-- the load equation of a place is narrow, or there is none
+no_row : IsNarrow []
+no_row = record { size = omega arith; few = omega arith }
+
+equation_narrow : (cycles : ℕ) (late : Bool) (chain place : ℕ) → place < cycles → cycles ≤ 1266 → IsNarrow (equation_row configuration.ring cycles late chain place)
+equation_narrow cycles late chain place within few =
+    record {
+      size = (let same = length-map-range_with_len (load_equation configuration.ring cycles late chain place) 0 (cycles * configuration.ring.channels) in omega (arith, same, few));
+      few = row_light cycles late chain place within few;
+    }
+
+equation_short : (lengths : List ℕ) (late : ℕ → Bool) (cycles : ℕ) (rows : LoadRows) (chain place : ℕ) → AreLoadEquations configuration.ring lengths late cycles rows → All (λ l. l ≤ cycles) lengths → cycles ≤ 1266 → IsNarrow (row_of rows chain place)
+equation_short lengths late cycles rows chain place are short few = by (ltb chain (length lengths)) refl (ltb place (slice_index lengths chain)) refl
   where
-    by : (s : Bool) → ltb chain (length lengths) ≡ s → (t : Bool) → ltb place (slice_index lengths chain) ≡ t → length (row_of rows chain place) ≤ cycles * ring.channels
+    by : (s : Bool) → ltb chain (length lengths) ≡ s → (t : Bool) → ltb place (slice_index lengths chain) ≡ t → IsNarrow (row_of rows chain place)
     by true a true b =
         let c : chain < length lengths = grind (arith, nat_tests) in
         let p : place < slice_index lengths chain = grind (arith, nat_tests) in
-        let same = ap length ((are.each chain c).each place p) in
-        omega (arith, same, length-map-range_with_len (load_equation ring cycles (late chain) chain place) 0 (cycles * ring.channels))
+        let most = short chain 0 c in
+        subst IsNarrow (sym ((are.each chain c).each place p)) (equation_narrow cycles (late chain) chain place (omega (arith, p, most)) few)
     by true a false b =
         let c : chain < length lengths = grind (arith, nat_tests) in
         let p : slice_index lengths chain ≤ place = grind (arith, nat_tests) in
         let count = (are.each chain c).count in
-        let none = ap length (get_or_past (rows_of rows chain) place [] (omega (arith, count, p))) in
-        omega (arith, none)
+        subst IsNarrow (sym (get_or_past (rows_of rows chain) place [] (omega (arith, count, p)))) no_row
     by false a t b =
         let c : length lengths ≤ chain = grind (arith, nat_tests) in
         let count = are.chains in
-        let none = ap (λ (xs : List (List Bool)). length (get_or xs place [])) (get_or_past rows.chains chain [] (omega (arith, count, c))) in
-        omega (arith, none)
+        subst (λ (xs : List (List Bool)). IsNarrow (get_or xs place [])) (sym (get_or_past rows.chains chain [] (omega (arith, count, c)))) no_row
 
-cell_short : (ring : RingConfig) (lengths : List ℕ) (late : ℕ → Bool) (cycles : ℕ) (rows : LoadRows) → AreLoadEquations ring lengths late cycles rows → (o : Option CellPlace) → length (unwrap_or (option_map (λ (at : CellPlace). row_of rows at.chain at.place) o) []) ≤ cycles * ring.channels
-cell_short ring lengths late cycles rows are None = omega arith
-cell_short ring lengths late cycles rows are (Some at) = equation_short ring lengths late cycles rows at.chain at.place are
+cell_short : (lengths : List ℕ) (late : ℕ → Bool) (cycles : ℕ) (rows : LoadRows) → AreLoadEquations configuration.ring lengths late cycles rows → All (λ l. l ≤ cycles) lengths → cycles ≤ 1266 → (o : Option CellPlace)
+    → IsNarrow (unwrap_or (option_map (λ (at : CellPlace). row_of rows at.chain at.place) o) [])
+cell_short lengths late cycles rows are short few None = no_row
+cell_short lengths late cycles rows are short few (Some at) = equation_short lengths late cycles rows at.chain at.place are short few
 
 -- ---- the report
 
@@ -372,8 +399,9 @@ written_is r =
     )
 
 pub reports_fit : ReportsFit
-reports_fit size words is few placing =
+reports_fit size words is placing =
     let low = is.low in
+    let few = is.high in
     let n : Netlist = design size words in
     let plan : Plan = plan_of n configuration in
     let verdicts : List (Option Judged) = judgements n configuration in
@@ -383,8 +411,9 @@ reports_fit size words is few placing =
     let chains = small.chains in
     let cells = small.cells in
     let scanned = scanned_here size words is.high (omega (arith, low)) in
-    let cycles = cycles_few (length (cells_of n configuration)) (omega (arith, few_cells verdicts, scanned, few)) in
-    let narrow : (cell : InstanceId) → length (unwrap_or (row cell) []) ≤ 2062 = λ cell. (let le = cell_short configuration.ring (map (λ cells. length cells) plan.chains) (falling_head plan) plan.cycles placing.rows placing.equations (place_from 0 plan.chains cell) in omega (arith, le, cycles)) in
+    let cycles = cycles_most (length (cells_of n configuration)) (omega (arith, few_cells verdicts, scanned, few)) in
+    let lengths = All-map (λ (l : ℕ). l ≤ plan.cycles) (λ (cells : List InstanceId). length cells) plan.chains (chains_within n configuration) in
+    let narrow : (cell : InstanceId) → IsNarrow (unwrap_or (row cell) []) = λ cell. cell_short (map (λ cells. length cells) plan.chains) (falling_head plan) plan.cycles placing.rows placing.equations lengths cycles (place_from 0 plan.chains cell) in
     let count = length-map-range_with_len (cube_in size words) 0 (size / 4) in
     let cubes = cubes_most size words few row placing.rows.columns configuration.window narrow [] placing.merged (cubes_in size words) placing.placed (cubes_short size words (size / 4) 0 (omega (arith, few))) (omega (arith, count, few)) placing.is in
     omega (

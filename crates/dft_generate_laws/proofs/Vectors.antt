@@ -37,15 +37,18 @@ all_count n row window old new (c ∷ cubes) (p ∷ placed) is =
     omega (arith, one, rest)
 
 -- the cycles of a load
-part_few : (cells : ℕ) → cells ≤ 16240 → part_length cells 16 0 ≤ 1015
-part_few cells few = by (ltb 0 (cells % 16)) refl
+part_few : (cells most : ℕ) → cells ≤ most * 16 → part_length cells 16 0 ≤ most
+part_few cells most few = by (ltb 0 (cells % 16)) refl
   where
-    by : (t : Bool) → ltb 0 (cells % 16) ≡ t → cells / 16 + cond t 1 0 ≤ 1015
+    by : (t : Bool) → ltb 0 (cells % 16) ≡ t → cells / 16 + cond t 1 0 ≤ most
     by true is = let some : 0 < cells % 16 = grind (arith, nat_tests) in omega (arith, few, some)
     by false is = omega (arith, few)
 
 pub cycles_few : (cells : ℕ) → cells ≤ 16240 → cycles_of configuration cells ≤ 1031
-cycles_few cells few = max-le {a = 16 + part_length cells 16 0} {b = 8} {k = 1031} (let p = part_few cells few in omega (arith, p)) (omega arith)
+cycles_few cells few = max-le {a = 16 + part_length cells 16 0} {b = 8} {k = 1031} (let p = part_few cells 1015 (omega (arith, few)) in omega (arith, p)) (omega arith)
+
+pub cycles_most : (cells : ℕ) → cells ≤ 20000 → cycles_of configuration cells ≤ 1266
+cycles_most cells few = max-le {a = 16 + part_length cells 16 0} {b = 8} {k = 1266} (let p = part_few cells 1250 (omega (arith, few)) in omega (arith, p)) (omega arith)
 
 -- each pattern has one capture vector
 pub one_each : (cycles : ℕ) (merged : List Merged) → AreSingle merged → vectors_for cycles (captures_in merged) ≡ length merged * suc cycles

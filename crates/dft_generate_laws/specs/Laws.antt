@@ -74,10 +74,10 @@ PatternTextsFit =
     let cycles = (plan_of (design size words) configuration).cycles in
     let captures = captures_in placing.merged in written_length (signals_of (scanned Edt (design size words) configuration)) (vectors_in cycles captures) (notes_of cycles captures) ≤ MAX_TEXT
 
--- up to a size of 16,240, and however the cubes are placed, the report is no longer than a report may be
+-- of every size, and however the cubes are placed, the report is no longer than a report may be
 abbrev pub ReportsFit : Type 0
 ReportsFit =
-    (size : ℕ) (words : List ℕ) → IsSize size → size ≤ 16240 → (placing : Placing configuration (plan_of (design size words) configuration) (cubes_in size words)) →
+    (size : ℕ) (words : List ℕ) → IsSize size → (placing : Placing configuration (plan_of (design size words) configuration) (cubes_in size words)) →
     length (report_text (design size words) configuration placing.rows (cubes_in size words) placing.placed) ≤ MAX_BYTES
 
 -- the text of the scanned netlist is short: at most 1,600 bytes for each cell and 900,000 more

@@ -38,7 +38,7 @@ pub fn pattern_texts_fit()
     ensures { PatternTextsFit }
 {}
 
-/// The law that up to a size of 16,240, and however the cubes are placed, the report of them is no longer than a report may be.
+/// The law that however the cubes are placed, the report of them is no longer than a report may be.
 pub fn reports_fit()
     ensures { ReportsFit }
 {}

@@ -1,4 +1,4 @@
--- A generated job is refused only for its size: where its patterns have more vectors than are read, or its report has more bytes than it may; and not up to 16,240 cells.
+-- A generated job is refused only where its patterns have more vectors than are read; and not up to 16,240 cells.
 use Rattle.std.proofs.Common.{ℕ, ◌≡◌, ◌<◌, ◌≤◌, ◌⊎◌, ◌∙◌, inl, inr, nat_lt, true, pos, List, [], ◌∷◌, codes, length, refl, sym, ap, subst, arith, Option, None, Some, option_map, Result, Ok, Err}
 use Rattle.std.proofs.lemmas.Bool.{cases_lt}
 use Rattle.std.proofs.lemmas.Bool.Decides.{nat_tests}
@@ -85,7 +85,7 @@ use Rattle.dft_top.specs.declared.limits.TheConstants.{MAX_CONFIG_BYTES, MAX_CUB
 use Rattle.dft_top.specs.Checks.{ConfigGives, ConfigText, CubeText, CubesGive, DesignGives, IsReadied, LibraryGives, NetlistGives, NetlistText, PatternText, PatternsGive}
 use Rattle.dft_top.specs.Courses.{Reaches, Then}
 use Rattle.dft_top.specs.Outcomes.{IsCompiled, IsOutcomeOfCubes, IsOutcomeOfJob, IsOutcomeOfPlacing, IsOutcomeOn, IsReplayedOf, course_of_compile, generated, job_files, made_files, made_held, refusal_of, texts_held}
-use Rattle.dft_top.specs.Run.{IsForSize, MayBeRefused}
+use Rattle.dft_top.specs.Run.{MayBeRefused}
 use Rattle.dft_top.proofs.Lengths.{late_short}
 use Rattle.dft_top.proofs.ManyVectors.{replay_many}
 use Rattle.dft_top.proofs.PassingFiles.{replay_read}
@@ -326,16 +326,15 @@ vectors_told size words placing list are =
     let n : Netlist = design size words in
     vector_count n configuration placing.rows placing.merged list are ∙ ap (λ (merged : List Merged). vectors_in (plan_of n configuration).cycles (captures_in merged)) are.merged
 
--- that it is so only above a size of 16,240
+-- that its report is short, and that it has so many vectors only above a size of 16,240
 large : (size : ℕ) (words : List ℕ) → IsSize size → (placing : Placing configuration (plan_of (design size words) configuration) (cubes_in size words)) (list : List PatternData) →
     ArePatterns (design size words) configuration (plan_of (design size words) configuration) placing.rows placing.merged list → (refusal : Refusal) →
-    Why (length (set_of (design size words) configuration list).vectors) (length (compiled.report_text (design size words) configuration placing.rows (cubes_in size words) placing.placed)) refusal → (16240 < size) ⊎ (size ≤ 16240) → (16240 < size) × IsForSize refusal
-large size words is placing list are refusal (inl x) (inl more) = (more, inl x.1)
-large size words is placing list are refusal (inr x) (inl more) = (more, inr x.1)
+    Why (length (set_of (design size words) configuration list).vectors) (length (compiled.report_text (design size words) configuration placing.rows (cubes_in size words) placing.placed)) refusal → (16240 < size) ⊎ (size ≤ 16240) → (16240 < size) × (refusal.code ≡ P4)
+large size words is placing list are refusal (inl x) (inl more) = (more, x.1)
 large size words is placing list are refusal (inl x) (inr most) = let told = vectors_told size words placing list are in let fit = patterns_fit size words is most placing in let many = x.0 in absurd (omega (arith, told, fit, many))
-large size words is placing list are refusal (inr x) (inr most) = let fit = reports_fit size words is most placing in let long = x.0 in absurd (omega (arith, fit, long))
+large size words is placing list are refusal (inr x) c = let fit = reports_fit size words is placing in let long = x.0 in absurd (omega (arith, fit, long))
 
--- a job is refused for its size alone, and only if it has more than 16,240 cells
+-- a job is refused for its number of vectors alone, and only if it has more than 16,240 cells
 abbrev pub JobsFit : Type 0
 JobsFit = (numbers : JobNumbers) (o : Outcome) → IsSize numbers.size → IsOutcomeOfJob numbers o → (refusal : Refusal) → o ≡ Refused refusal → MayBeRefused numbers refusal
 

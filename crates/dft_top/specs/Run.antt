@@ -5,7 +5,7 @@ use Rattle.dft_files.specs.Put.{Adds, AddsPrefix}
 use Rattle.dft_answers.specs.declared.answer.Status.{Status}
 use Rattle.dft_answers.specs.declared.answer.Status.TheVariants.{Done, NotPassed, Usage, Refused, ReadFault, WriteFault, OutOfMemory}
 use Rattle.dft_answers.specs.declared.answer.Answer.{Answer}
-use Rattle.dft_answers.specs.declared.answer.Code.TheVariants.{K6, P4}
+use Rattle.dft_answers.specs.declared.answer.Code.TheVariants.{P4}
 use Rattle.dft_answers.specs.declared.answer.Refusal.{Refusal}
 use Rattle.dft_answers.specs.declared.outcome.Outcome.{Outcome}
 use Rattle.dft_answers.specs.declared.outcome.Outcome.TheVariants as outcome
@@ -196,13 +196,9 @@ ConfiguresTold words held held' answer = (files : ConfigureFiles) → IsConfigur
 abbrev pub SeeksTold : List (List ℕ) → (held held' : Option Held) → Answer → Type 0
 SeeksTold words held held' answer = (files : SeekFiles) → IsSeek words files → answer.status ≡ Done → ToldChange (Seeks files) held held'
 
--- a refusal for size: the patterns have more vectors than are read, or the report would have more bytes than it may
-abbrev pub IsForSize : Refusal → Type 0
-IsForSize refusal = (refusal.code ≡ P4) ⊎ (refusal.code ≡ K6)
-
--- a job of more than 16,240 cells may be refused, for its size alone
+-- a job of more than 16,240 cells may be refused, where its patterns have more vectors than are read
 abbrev pub MayBeRefused : JobNumbers → Refusal → Type 0
-MayBeRefused numbers refusal = (16240 < numbers.size) × IsForSize refusal
+MayBeRefused numbers refusal = (16240 < numbers.size) × (refusal.code ≡ P4)
 
 -- where the words are a generated job, its run is done; or it may be refused so, and is, with the refusal of the job; or its lines could not be put, or
 -- memory ran out
