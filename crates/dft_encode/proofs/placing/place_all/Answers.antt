@@ -1,5 +1,5 @@
 -- No cube, one more, and all.
-use Rattle.std.proofs.Common.{List, [], Some, refl, absurd, ap, arith, ◌∙◌, subst, sym}
+use Rattle.std.proofs.Common.{List, [], Some, refl, ap, arith, ◌∙◌, subst, sym}
 use Rattle.std.proofs.lemmas.Option.{slice_get-get_or}
 use Rattle.dft_base.specs.Name.{IsName}
 use Rattle.dft_base.proofs.ListLemmas.{each_more, each_all}
