@@ -15,9 +15,10 @@ pub or_assoc : (a b c : Bool) → ((a || b) || c) ≡ (a || (b || c))
 or_assoc true b c = refl
 or_assoc false b c = refl
 
-pub assoc_or : (a b c : Bool) → (a || (b || c)) ≡ ((a || b) || c)
-assoc_or true b c = refl
-assoc_or false b c = refl
+pub or_swap : (a b c : Bool) → (a || (b || c)) ≡ (b || (a || c))
+or_swap true true c = refl
+or_swap true false c = refl
+or_swap false b c = refl
 
 pub and_true : (a b : Bool) → b ≡ true → a ≡ (a && b)
 and_true true b e = sym e

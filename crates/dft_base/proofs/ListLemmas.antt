@@ -45,9 +45,18 @@ drop_over [] (suc i) h = refl
 drop_over (x ∷ xs) zero h = absurd (omega (arith, h))
 drop_over (x ∷ xs) (suc i) h = drop_over xs i (omega (arith, h))
 
-pub all_append : {A : Type 0} (P : A → Type 0) (xs ys : List A) → AllByRecursion P xs → AllByRecursion P ys → AllByRecursion P (xs ++ ys)
-all_append P [] ys h k = k
-all_append P (x ∷ xs) ys h k = (h.0, all_append P xs ys h.1 k)
+pub all_front : {A : Type 0} (P : A → Type 0) (xs ys : List A) → AllByRecursion P (xs ++ ys) → AllByRecursion P xs
+all_front P [] ys all = tt
+all_front P (x ∷ xs) ys all = (all.0, all_front P xs ys all.1)
+
+pub all_back : {A : Type 0} (P : A → Type 0) (xs ys : List A) → AllByRecursion P (xs ++ ys) → AllByRecursion P ys
+all_back P [] ys all = all
+all_back P (x ∷ xs) ys all = all_back P xs ys all.1
+
+pub all_get : {A : Type 0} (P : A → Type 0) (xs : List A) (k : ℕ) (x : A) → AllByRecursion P xs → slice_get xs k ≡ Some x → P x
+all_get P [] k x all at = absurd (cc)
+all_get P (y ∷ xs) zero x all at = subst P (same_Some y x at) all.0
+all_get P (y ∷ xs) (suc k) x all at = all_get P xs k x all.1 at
 
 pub each_more : {X : Type 0} (P : ℕ → X → Type 0) (xs : List X) (index : ℕ) (here : X) → ((k : ℕ) (x : X) → k < index → slice_get xs k ≡ Some x → P k x) → slice_get xs index ≡ Some here → P index here →
     (k : ℕ) (x : X) → k < index + 1 → slice_get xs k ≡ Some x → P k x

@@ -12,6 +12,7 @@ use Rattle.std.proofs.lemmas.Map.Text.{is_eq-slice_cmp}
 use Rattle.std.proofs.lemmas.Slice.Eq.{bytes_eq-Decides}
 use Rattle.dft_base.proofs.SumLemmas.{and_false}
 use Rattle.dft_base.proofs.TextLemmas.{bytes_eq-comm}
+use Rattle.dft_base.proofs.BitLemmas.{or_swap}
 use Rattle.dft_cells.specs.declared.cell.Pin.{Pin}
 use Rattle.dft_cells.specs.WellFormed.{has_name, all_differ, pin_name}
 
@@ -34,11 +35,6 @@ or_twice : (a b : Bool) → (a || b) ≡ (a || (a || b))
 or_twice true b = refl
 or_twice false b = refl
 
-or_turned : (a b c : Bool) → (a || (b || c)) ≡ (b || (a || c))
-or_turned true true c = refl
-or_turned true false c = refl
-or_turned false b c = refl
-
 or_end : (a b : Bool) → (a || b) ≡ (b || a)
 or_end true true = refl
 or_end true false = refl
@@ -54,7 +50,7 @@ inserted_by : (o : Ordering) (key x : Key) (xs rest : List Key) (name : List ℕ
     → seen (match_ordering o (key ∷ x ∷ xs) (x ∷ xs) (x ∷ rest)) name ≡ (bytes_eq key.items name || (bytes_eq x.items name || seen xs name))
 inserted_by Less key x xs rest name e h = refl
 inserted_by Equal key x xs rest name e h = rw (equal_items key.items x.items name e) (or_twice (bytes_eq key.items name) (seen xs name))
-inserted_by Greater key x xs rest name e h = rw h (or_turned (bytes_eq x.items name) (bytes_eq key.items name) (seen xs name))
+inserted_by Greater key x xs rest name e h = rw h (or_swap (bytes_eq x.items name) (bytes_eq key.items name) (seen xs name))
 
 inserted_seen : (keys : List Key) (key : Key) (name : List ℕ) → seen (insert_key key_order keys key) name ≡ (bytes_eq key.items name || seen keys name)
 inserted_seen [] key name = refl
@@ -67,7 +63,7 @@ there (x ∷ xs) key = rw (is_eq-slice_cmp key.items x.items, bytes_eq-comm key.
 
 named_pushed : (names : List (List ℕ)) (last name : List ℕ) → has_name (names ++ last ∷ []) name ≡ (bytes_eq last name || has_name names name)
 named_pushed [] last name = refl
-named_pushed (x ∷ names) last name = rw (named_pushed names last name) (or_turned (bytes_eq x name) (bytes_eq last name) (has_name names name))
+named_pushed (x ∷ names) last name = rw (named_pushed names last name) (or_swap (bytes_eq x name) (bytes_eq last name) (has_name names name))
 
 -- one name more
 pub seen_more : (keys : List Key) (key : Key) (names : List (List ℕ)) → AreSeen keys names → AreSeen (insert_key key_order keys key) (names ++ key.items ∷ [])

@@ -4,7 +4,7 @@ use Rattle.std.specs.Prelude.{◌&&◌, not, if◌then◌else◌}
 use Rattle.std.proofs.lemmas.Bool.{eq-eqb, eqb-true, or_parts, not-true, and_parts, and_from, not_from_false, or_from, or_left, or_right}
 use Rattle.std.proofs.lemmas.Option.{none-some, same_Some}
 use Rattle.dft_base.specs.Solutions.{xor}
-use Rattle.dft_base.proofs.BitLemmas.{same_bit, bit_same, or_false, assoc_or}
+use Rattle.dft_base.proofs.BitLemmas.{same_bit, bit_same, or_false, or_assoc}
 use Rattle.dft_netlist.specs.declared.ids.InstanceId.{InstanceId}
 use Rattle.dft_netlist.specs.Netlist.{Netlist}
 use Rattle.dft_config.specs.declared.config.RingConfig.{RingConfig}
@@ -64,7 +64,7 @@ care_at (g ∷ cells) cell bit (suc k) at = or_right ((g.0.0 == cell.0) && not (
 
 has_push : (cells : List InstanceId) (x cell : InstanceId) → has_cell (cells ++ x ∷ []) cell ≡ (has_cell cells cell || (x.0 == cell.0))
 has_push [] x cell = or_false (x.0 == cell.0)
-has_push (y ∷ cells) x cell = ap (λ (b : Bool). (y.0 == cell.0) || b) (has_push cells x cell) ∙ assoc_or (y.0 == cell.0) (has_cell cells cell) (x.0 == cell.0)
+has_push (y ∷ cells) x cell = ap (λ (b : Bool). (y.0 == cell.0) || b) (has_push cells x cell) ∙ sym (or_assoc (y.0 == cell.0) (has_cell cells cell) (x.0 == cell.0))
 
 -- ---- a line
 

@@ -1,13 +1,14 @@
 -- What a compilation reports can be read: its names are names, its numbers are below 2^32, and there is a load.
 use Rattle.std.proofs.Common.{◌≡◌, ℕ, zero, suc, ◌+◌, ◌%◌, ◌<◌, ◌≤◌, ◌^◌, inl, inr, Bool, true, false, cond, List, [], ◌∷◌, ◌++◌, length, map, Option, None, Some, option_and_then, slice_get, unwrap_or, Ok, refl, ap, subst, arith, ◌∙◌, div-le_self, length-append}
 use Rattle.std.specs.Prelude.{flat_map, option_map, slice_index_or}
-use Rattle.std.specs.List.{All, cons_option, enumerate_from, filter_map}
+use Rattle.std.specs.List.{All, cons_option, enumerate_from, filter_map, AllByRecursion}
 use Rattle.std.proofs.lemmas.List.{length-map}
 use Rattle.std.proofs.lemmas.List.Sums.{count_by-le-length}
 use Rattle.std.proofs.lemmas.Option.{none-some, same_Some, slice_get_within}
 use Rattle.dft_base.specs.Lexing.{Text}
 use Rattle.dft_base.specs.Name.{IsName}
 use Rattle.dft_base.specs.Solutions.{Equation, StatesCertificate, StatesFrom, equation_at, ids_to}
+use Rattle.dft_base.proofs.ListLemmas.{all_append}
 use Rattle.dft_netlist.specs.declared.ids.InstanceId.{InstanceId}
 use Rattle.dft_netlist.specs.declared.instance.Instance.{Instance}
 use Rattle.dft_netlist.specs.Names.{IsNameIfAny, instance_name}
@@ -39,7 +40,7 @@ use Rattle.dft_report.specs.declared.report.SumLine.{SumLine}
 use Rattle.dft_report.specs.declared.report.UnscannedLine.{UnscannedLine}
 use Rattle.dft_report.specs.declared.report.Variable.{Variable}
 use Rattle.dft_report_reader.specs.Reading.{report_of}
-use Rattle.dft_report_reader.specs.WrittenRead.{Each, IsCubeReadable, IsOutcomeReadable, IsReadable, IsScannedReadable, IsSmall, IsSumReadable, IsUnscannedReadable, IsVariableReadable}
+use Rattle.dft_report_reader.specs.WrittenRead.{IsCubeReadable, IsOutcomeReadable, IsReadable, IsScannedReadable, IsSmall, IsSumReadable, IsUnscannedReadable, IsVariableReadable}
 use Rattle.dft_report_reader.proofs.Whole.{written_is_read}
 use Rattle.dft_scan.specs.Reports.{domain_name, name_of, scanned_as, scanned_in, scanned_line, unscanned_as}
 use Rattle.dft_scan.proofs.ListLemmas.{filter_shorter}
@@ -56,11 +57,7 @@ use Rattle.dft_compile.specs.Texts.{report_text}
 
 -- ---- lists
 
-each_both : {X : Type 0} (P : X → Type 0) (xs ys : List X) → Each P xs → Each P ys → Each P (xs ++ ys)
-each_both P [] ys a b = b
-each_both P (x ∷ xs) ys a b = (a.0, each_both P xs ys a.1 b)
-
-each_more : {X : Type 0} (P : X → Type 0) (o : Option X) (rest : List X) → ((x : X) → o ≡ Some x → P x) → Each P rest → Each P (cons_option o rest)
+each_more : {X : Type 0} (P : X → Type 0) (o : Option X) (rest : List X) → ((x : X) → o ≡ Some x → P x) → AllByRecursion P rest → AllByRecursion P (cons_option o rest)
 each_more P None rest here more = more
 each_more P (Some x) rest here more = (here x refl, more)
 
@@ -101,7 +98,7 @@ unscanned_readable (Some name) None line n is = absurd (none-some line is)
 unscanned_readable None verdict line n is = absurd (none-some line is)
 
 module _ (n : Netlist) (config : Config) (verdicts : List (Option Judged)) (instances : AreInstancesNamed n.instances) (domains : AreNames config.domains) where
-  chain_readable : (chain place : ℕ) (cells : List InstanceId) → IsSmall chain → place + length cells < 2 ^ 32 → Each IsScannedReadable (filter_map (λ at. scanned_line n config verdicts chain at.0 at.1) (enumerate_from place cells))
+  chain_readable : (chain place : ℕ) (cells : List InstanceId) → IsSmall chain → place + length cells < 2 ^ 32 → AllByRecursion IsScannedReadable (filter_map (λ at. scanned_line n config verdicts chain at.0 at.1) (enumerate_from place cells))
   chain_readable chain place [] small few = tt
   chain_readable chain place (cell ∷ cells) small few =
       each_more IsScannedReadable (scanned_line n config verdicts chain place cell) (filter_map (λ at. scanned_line n config verdicts chain at.0 at.1) (enumerate_from (place + 1) cells))
@@ -109,20 +106,20 @@ module _ (n : Netlist) (config : Config) (verdicts : List (Option Judged)) (inst
       (domain_named config.domains (domain_in (clock_of verdicts cell)) domains) is)
       (chain_readable chain (place + 1) cells small (omega (arith, few)))
 
-  chains_readable : (chain : ℕ) (chains : List (List InstanceId)) → chain + length chains ≤ 1024 → All (λ (cells : List InstanceId). length cells ≤ 65536) chains → Each IsScannedReadable (flat_map (λ at. scanned_in n config verdicts at.0 at.1) (enumerate_from chain chains))
+  chains_readable : (chain : ℕ) (chains : List (List InstanceId)) → chain + length chains ≤ 1024 → All (λ (cells : List InstanceId). length cells ≤ 65536) chains → AllByRecursion IsScannedReadable (flat_map (λ at. scanned_in n config verdicts at.0 at.1) (enumerate_from chain chains))
   chains_readable chain [] few short = tt
   chains_readable chain (cells ∷ chains) few short =
-      each_both IsScannedReadable (scanned_in n config verdicts chain cells) (flat_map (λ at. scanned_in n config verdicts at.0 at.1) (enumerate_from (chain + 1) chains))
+      all_append IsScannedReadable (scanned_in n config verdicts chain cells) (flat_map (λ at. scanned_in n config verdicts at.0 at.1) (enumerate_from (chain + 1) chains))
       (chain_readable chain 0 cells (omega (arith, few)) (let le = short 0 [] (omega arith) in omega (arith, le)))
       (chains_readable (chain + 1) chains (omega (arith, few)) (λ k d less. short (suc k) d (omega (arith, less))))
 
-others_readable : (verdicts : List (Option Judged)) (k : ℕ) (instances : List Instance) → AreInstancesNamed instances → Each IsUnscannedReadable (filter_map (λ at. unscanned_as at.1.name (slice_index_or verdicts at.0 None)) (enumerate_from k instances))
+others_readable : (verdicts : List (Option Judged)) (k : ℕ) (instances : List Instance) → AreInstancesNamed instances → AllByRecursion IsUnscannedReadable (filter_map (λ at. unscanned_as at.1.name (slice_index_or verdicts at.0 None)) (enumerate_from k instances))
 others_readable verdicts k [] named = tt
 others_readable verdicts k (x ∷ instances) named =
     each_more IsUnscannedReadable (unscanned_as x.name (slice_index_or verdicts k None)) (filter_map (λ at. unscanned_as at.1.name (slice_index_or verdicts at.0 None)) (enumerate_from (k + 1) instances))
     (λ line is. unscanned_readable x.name (slice_index_or verdicts k None) line (named 0 x refl) is) (others_readable verdicts (k + 1) instances (λ j. named (suc j)))
 
-lengths_small : (chains : List (List InstanceId)) → All (λ (cells : List InstanceId). length cells ≤ 65536) chains → Each IsSmall (map length chains)
+lengths_small : (chains : List (List InstanceId)) → All (λ (cells : List InstanceId). length cells ≤ 65536) chains → AllByRecursion IsSmall (map length chains)
 lengths_small [] short = tt
 lengths_small (cells ∷ chains) short = ((let le = short 0 [] (omega arith) in omega (arith, le)), lengths_small chains (λ k d less. short (suc k) d (omega (arith, less))))
 
@@ -134,7 +131,7 @@ variable_readable ring column true v some small is =
     subst IsVariableReadable (same_Some _ v is) ((let le = below in omega (arith, le, small)), (let le = div-le_self column ring.channels in omega (arith, le, small)))
 variable_readable ring column false v some small is = absurd (none-some v is)
 
-variables_readable : (ring : RingConfig) (column : ℕ) (row : List Bool) → 1 ≤ ring.channels → column + length row < 2 ^ 32 → Each IsVariableReadable (filter_map (λ at. variable_of ring at.0 at.1) (enumerate_from column row))
+variables_readable : (ring : RingConfig) (column : ℕ) (row : List Bool) → 1 ≤ ring.channels → column + length row < 2 ^ 32 → AllByRecursion IsVariableReadable (filter_map (λ at. variable_of ring at.0 at.1) (enumerate_from column row))
 variables_readable ring column [] some few = tt
 variables_readable ring column (bit ∷ row) some few =
     each_more IsVariableReadable (variable_of ring column bit) (filter_map (λ at. variable_of ring at.0 at.1) (enumerate_from (column + 1) row)) (λ v is. variable_readable ring column bit v some (omega (arith, few)) is)
@@ -189,7 +186,7 @@ module _ (n : Netlist) (ring : RingConfig) (row : CellRows) (columns window : �
   sum_readable None sum is = absurd (none-some sum is)
   sum_readable (Some given) sum is = named_sum ring (unwrap_or (row given.0) []) given.1 (cell_name n given.0) sum some (wide given.0) (instance_named n.instances given.0.0 instances) is
 
-  sums_readable : (cells : List (InstanceId × Bool)) (positions : List ℕ) → Each IsSumReadable (sums_of n ring row cells positions)
+  sums_readable : (cells : List (InstanceId × Bool)) (positions : List ℕ) → AllByRecursion IsSumReadable (sums_of n ring row cells positions)
   sums_readable cells [] = tt
   sums_readable cells (position ∷ positions) = each_more IsSumReadable (sum_at n ring row cells position) (sums_of n ring row cells positions) (sum_readable (slice_get cells position)) (sums_readable cells positions)
 
@@ -202,7 +199,7 @@ module _ (n : Netlist) (ring : RingConfig) (row : CellRows) (columns window : �
   outcome_readable old new cube (word.Skipped cell) outcome cells few places is = skipped_readable (cell_name n cell) outcome (instance_named n.instances cell.0 instances) is
 
   cubes_readable : (old new : List Merged) (cubes : List Cube) (placed : List Placed) → AreCubesNamed cubes → All (λ (cube : Cube). length cube.cells < 2 ^ 32) cubes → length old + length cubes ≤ 65536 → PlacesAll columns row window old cubes placed new →
-      Each IsCubeReadable (cube_reports n ring row cubes placed)
+      AllByRecursion IsCubeReadable (cube_reports n ring row cubes placed)
   cubes_readable old new [] placed named cells few places = tt
   cubes_readable old new (cube ∷ cubes) [] named cells few places = tt
   cubes_readable old new (cube ∷ cubes) (place ∷ placed) named cells few places =

@@ -1,12 +1,11 @@
 -- Each listed vector sets each input and compares, or passes over, each output.
 use Rattle.std.proofs.Common.{ℕ, zero, suc, ◌+◌, ◌≡◌, Bool, true, false, ◌*◌, List, [], ◌∷◌, ◌++◌, length, map, take, drop, Option, None, Some, sym, ap, subst, arith, ◌∙◌}
-use Rattle.std.specs.List.{All, AllZip, range_with_len}
+use Rattle.std.specs.List.{AllByRecursion, AllZip, range_with_len}
 use Rattle.std.proofs.lemmas.List.{length-drop, length-take-le, map-append}
-use Rattle.std.proofs.lemmas.List.Elements.{All-cons, All-nil}
-use Rattle.dft_merge.proofs.EquationLemmas.{Each, each_join}
 use Rattle.dft_base.specs.declared.dir.Dir.TheVariants as dir
 use Rattle.dft_base.specs.declared.tri.Tri.{Tri}
 use Rattle.dft_base.specs.declared.tri.Tri.TheVariants.{Zero, One, Unknown}
+use Rattle.dft_base.proofs.ListLemmas.{all_append}
 use Rattle.dft_netlist.specs.declared.ids.NetId.{NetId}
 use Rattle.dft_netlist.specs.NetNumbers.{nets_from}
 use Rattle.dft_netlist.specs.Netlist.{Netlist}
@@ -45,18 +44,14 @@ zip_append R (x ∷ xs) us (y ∷ ys) vs h k = (h.0, zip_append R xs us ys vs h.
 
 -- ---- lists of vectors
 
-pub each_all : {X : Type 0} (P : X → Type 0) (xs : List X) → Each P xs → All P xs
-each_all P [] h = All-nil P
-each_all P (x ∷ xs) h = All-cons P x xs h.0 (each_all P xs h.1)
-
-each_from : (P : List Act → Type 0) (f : ℕ → List Act) (from count : ℕ) → ((t : ℕ) → P (f t)) → Each P (map f (range_with_len from count))
+each_from : (P : List Act → Type 0) (f : ℕ → List Act) (from count : ℕ) → ((t : ℕ) → P (f t)) → AllByRecursion P (map f (range_with_len from count))
 each_from P f from zero h = tt
 each_from P f from (suc count) h = (h from, each_from P f (from + 1) count h)
 
 -- what holds of each capture vector that compares as many values as there are output bits holds of all those of a pattern
 pub captures_each : (n : Netlist) (config : Config) (merged : Merged) (P : List Act → Type 0) →
     ((domain : ℕ) (pulse update : Bool) (outputs : List Tri) → length outputs ≡ length (output_bits n.ports) → P (capture_with n config merged domain (added_inputs config false pulse update no_bits no_bits) outputs)) →
-    (domain : ℕ) (later : List ℕ) (outputs : List Tri) → length outputs ≡ suc (length later) * length (output_bits n.ports) → Each P (captures_with n config merged domain later outputs)
+    (domain : ℕ) (later : List ℕ) (outputs : List Tri) → length outputs ≡ suc (length later) * length (output_bits n.ports) → AllByRecursion P (captures_with n config merged domain later outputs)
 captures_each n config merged P one domain [] outputs fits = (one domain true true outputs (last_left (length outputs) (length (output_bits n.ports)) fits), tt)
 captures_each n config merged P one domain (next ∷ later) outputs fits =
     let own : ℕ = length (output_bits n.ports) in
@@ -64,20 +59,20 @@ captures_each n config merged P one domain (next ∷ later) outputs fits =
     (one domain false false (take own outputs) (length-take-le own outputs left.0), captures_each n config merged P one next later (drop own outputs) (length-drop own outputs ∙ left.1))
 
 -- what holds of set-up vectors, shift vectors and capture vectors holds of all listed vectors
-module _ (n : Netlist) (config : Config) (P : List Act → Type 0) (Given : PatternData → Type 0) (set_up : P (set_up_acts n config)) (shift : (table : Table) (masks : List Bool) (before : Option PatternData) (t : ℕ) → P (shift_acts n config (plan_of n config) table masks before t)) (capture : (p : PatternData) → Given p → Each P (capture_acts n config p)) where
-  each_load : (table : Table) (masks : List Bool) (before : Option PatternData) → Each P (load_vectors n config (plan_of n config) table masks before)
+module _ (n : Netlist) (config : Config) (P : List Act → Type 0) (Given : PatternData → Type 0) (set_up : P (set_up_acts n config)) (shift : (table : Table) (masks : List Bool) (before : Option PatternData) (t : ℕ) → P (shift_acts n config (plan_of n config) table masks before t)) (capture : (p : PatternData) → Given p → AllByRecursion P (capture_acts n config p)) where
+  each_load : (table : Table) (masks : List Bool) (before : Option PatternData) → AllByRecursion P (load_vectors n config (plan_of n config) table masks before)
   each_load table masks before = each_from P (shift_acts n config (plan_of n config) table masks before) 0 (plan_of n config).cycles (λ t. shift table masks before t)
 
-  each_pattern : (before : Option PatternData) (ps : List PatternData) → Each Given ps → Each P (pattern_vectors n config (plan_of n config) before ps)
+  each_pattern : (before : Option PatternData) (ps : List PatternData) → AllByRecursion Given ps → AllByRecursion P (pattern_vectors n config (plan_of n config) before ps)
   each_pattern before [] h = tt
   each_pattern before (p ∷ ps) h =
-      each_join P (load_vectors n config (plan_of n config) (load_of config p) p.masks before) (capture_acts n config p ++ pattern_vectors n config (plan_of n config) (Some p) ps) (each_load (load_of config p) p.masks before)
-      (each_join P (capture_acts n config p) (pattern_vectors n config (plan_of n config) (Some p) ps) (capture p h.0) (each_pattern (Some p) ps h.1))
+      all_append P (load_vectors n config (plan_of n config) (load_of config p) p.masks before) (capture_acts n config p ++ pattern_vectors n config (plan_of n config) (Some p) ps) (each_load (load_of config p) p.masks before)
+      (all_append P (capture_acts n config p) (pattern_vectors n config (plan_of n config) (Some p) ps) (capture p h.0) (each_pattern (Some p) ps h.1))
 
-  pub each_listed : (ps : List PatternData) → Each Given ps → Each P (vectors_of n config (plan_of n config) ps)
+  pub each_listed : (ps : List PatternData) → AllByRecursion Given ps → AllByRecursion P (vectors_of n config (plan_of n config) ps)
   each_listed [] h = tt
   each_listed (p ∷ ps) h =
-      each_join P (set_up_acts n config ∷ pattern_vectors n config (plan_of n config) None (p ∷ ps)) (load_vectors n config (plan_of n config) no_table [] (last_of None (p ∷ ps))) (set_up, each_pattern None (p ∷ ps) h)
+      all_append P (set_up_acts n config ∷ pattern_vectors n config (plan_of n config) None (p ∷ ps)) (load_vectors n config (plan_of n config) no_table [] (last_of None (p ∷ ps))) (set_up, each_pattern None (p ∷ ps) h)
       (each_load no_table [] (last_of None (p ∷ ps)))
 
 -- ---- acts of signals
@@ -161,7 +156,7 @@ module _ (n : Netlist) (config : Config) where
       (zip_append Full (outs_of w (output_bits n.ports)) (outs_of w (added_outs n config)) (map compare outputs) (ignored (length config.compactor.groups)) (captured_full w (output_bits n.ports) outputs width)
       (quiet_from w (outs_start n config) (length config.compactor.groups)))
 
-  captures_full : (p : PatternData) → HasOutputs n p → Each (λ acts. AllZip Full all_signals acts) (capture_acts n config p)
+  captures_full : (p : PatternData) → HasOutputs n p → AllByRecursion (λ acts. AllZip Full all_signals acts) (capture_acts n config p)
   captures_full p width = captures_each n config p.merged (λ acts. AllZip Full all_signals acts) (capture_full p.merged) p.merged.domains.first (later_of p.merged.domains) p.response.outputs width
 
   signals_are : all_signals ≡ signals_of w
@@ -169,9 +164,9 @@ module _ (n : Netlist) (config : Config) where
       let outs : outs_of w (output_bits w.ports) ≡ out_signals = ap (outs_of w) (all_outputs n config) ∙ map-append (signal_of w dir.Output) (output_bits n.ports) (added_outs n config) in
       ap (λ (ss : List StilSignal). map (signal_of w dir.Input) (input_bits w.ports) ++ ss) (sym outs)
 
-  pub each_full : (ps : List PatternData) → Each (HasOutputs n) ps → Each (λ acts. IsFullVector (signals_of w) acts) (vectors_of n config (plan_of n config) ps)
+  pub each_full : (ps : List PatternData) → AllByRecursion (HasOutputs n) ps → AllByRecursion (λ acts. IsFullVector (signals_of w) acts) (vectors_of n config (plan_of n config) ps)
   each_full ps h =
-      subst (λ (ss : List StilSignal). Each (λ acts. IsFullVector ss acts) (vectors_of n config (plan_of n config) ps)) signals_are
+      subst (λ (ss : List StilSignal). AllByRecursion (λ acts. IsFullVector ss acts) (vectors_of n config (plan_of n config) ps)) signals_are
       (each_listed n config (λ acts. AllZip Full all_signals acts) (HasOutputs n) set_up_full shift_full captures_full ps h)
 
 -- a vector that mentions each signal has an act for each
@@ -181,6 +176,6 @@ zip_fits [] (a ∷ acts) h = absurd h
 zip_fits (s ∷ ss) [] h = absurd h
 zip_fits (s ∷ ss) (a ∷ acts) h = (h.0.0, zip_fits ss acts h.1)
 
-pub each_fits : (ss : List StilSignal) (vectors : List (List Act)) → Each (λ acts. IsFullVector ss acts) vectors → Each (λ acts. IsVector ss acts) vectors
+pub each_fits : (ss : List StilSignal) (vectors : List (List Act)) → AllByRecursion (λ acts. IsFullVector ss acts) vectors → AllByRecursion (λ acts. IsVector ss acts) vectors
 each_fits ss [] h = tt
 each_fits ss (acts ∷ vectors) h = (zip_fits ss acts h.0, each_fits ss vectors h.1)

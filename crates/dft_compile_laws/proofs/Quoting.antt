@@ -2,7 +2,7 @@
 use Rattle.std.proofs.Common.{ℕ, zero, suc, ◌+◌, ◌<◌, ◌^◌, ◌≡◌, ◌==◌, ◌&&◌, Bool, true, false, cond, not, List, [], ◌∷◌, ◌++◌, length, map, get_or, Option, None, Some, slice_get, refl, sym, subst, arith}
 use Rattle.std.specs.Prelude.{IsTrue, ◌≢◌, option_map}
 use Rattle.std.specs.Fmt.{decimal}
-use Rattle.std.specs.List.{All, find, list_all, range_with_len}
+use Rattle.std.specs.List.{All, find, list_all, range_with_len, AllByRecursion}
 use Rattle.std.proofs.lemmas.Bool.{eq-eqb, or_parts, and_parts}
 use Rattle.std.proofs.lemmas.Bool.Decides.{nat_tests}
 use Rattle.std.proofs.lemmas.Fmt.{digits_decimal}
@@ -10,7 +10,6 @@ use Rattle.std.proofs.lemmas.List.Elements.{All-append, All-cons, All-from_get_o
 use Rattle.std.proofs.lemmas.Option.{none-some, same_Some}
 use Rattle.std.proofs.lemmas.Str.Parse.{numerals_by_value, tells_by_index}
 use Rattle.dft_base.proofs.BitLemmas.{true_false}
-use Rattle.dft_merge.proofs.EquationLemmas.{Each, each_join}
 use Rattle.dft_base.specs.Lexing.{Text}
 use Rattle.dft_base.specs.Name.{IsName}
 use Rattle.dft_base.specs.Words.{begins_word, continues_word, is_later_reserved, is_reserved, is_simple_name, is_word}
@@ -18,7 +17,7 @@ use Rattle.dft_base.specs.declared.dir.Dir.{Dir}
 use Rattle.dft_base.specs.declared.dir.Dir.TheVariants.{Input, Output}
 use Rattle.dft_base.specs.declared.place.Range.{Range}
 use Rattle.dft_base.proofs.TextLemmas.{begins_goes_on}
-use Rattle.dft_base.proofs.ListLemmas.{get_left}
+use Rattle.dft_base.proofs.ListLemmas.{get_left, all_append, all_get}
 use Rattle.dft_netlist.specs.declared.port.Port as design_port
 use Rattle.dft_netlist.specs.Names.{IsShortRange, bit_name, bit_names, indices_of}
 use Rattle.dft_netlist.specs.Netlist.{Netlist}
@@ -37,12 +36,7 @@ use Rattle.dft_insert.specs.Statements.{scanned}
 use Rattle.dft_insert.proofs.Keeping.{adds_in_order}
 use Rattle.dft_compile_laws.specs.Formed.{HasQuotableBits}
 
-each_at : {X : Type 0} (P : X → Type 0) (xs : List X) (k : ℕ) (x : X) → Each P xs → slice_get xs k ≡ Some x → P x
-each_at P [] k x h at = absurd (none-some x at)
-each_at P (y ∷ xs) zero x h at = subst P (same_Some y x at) h.0
-each_at P (y ∷ xs) (suc k) x h at = each_at P xs k x h.1 at
-
-each_made : {X : Type 0} (P : X → Type 0) (f : ℕ → X) (xs : List ℕ) → ((k i : ℕ) → slice_get xs k ≡ Some i → P (f i)) → Each P (map f xs)
+each_made : {X : Type 0} (P : X → Type 0) (f : ℕ → X) (xs : List ℕ) → ((k i : ℕ) → slice_get xs k ≡ Some i → P (f i)) → AllByRecursion P (map f xs)
 each_made P f [] h = tt
 each_made P f (x ∷ xs) h = (h 0 x refl, each_made P f xs (λ k i at. h (suc k) i at))
 
@@ -65,7 +59,7 @@ bit_plain name index lt h =
 number_plain : (name : Text) (number : ℕ) → number < 2 ^ 64 → IsPlain name → IsPlain (numbered name number)
 number_plain name number lt h = All-append Plain name (decimal number) h (digits_plain number lt)
 
-bits_plain : (name : Text) (range : Option Range) → IsShortRange range → IsPlain name → Each IsPlain (bit_names name range)
+bits_plain : (name : Text) (range : Option Range) → IsShortRange range → IsPlain name → AllByRecursion IsPlain (bit_names name range)
 bits_plain name None short h = (h, tt)
 bits_plain name (Some r) short h = each_made IsPlain (bit_name name) (indices_of r) (λ k i at. bit_plain name i (index_short r k i short at) h)
 
@@ -74,9 +68,9 @@ bits_plain name (Some r) short h = each_made IsPlain (bit_name name) (indices_of
 abbrev IsPlainPort : design_port.Port → Type 0
 IsPlainPort port = IsPlain port.name × IsShortRange port.range
 
-ports_plain : (ports : List design_port.Port) → Each IsPlainPort ports → Each IsPlain (bit_names_of ports)
+ports_plain : (ports : List design_port.Port) → AllByRecursion IsPlainPort ports → AllByRecursion IsPlain (bit_names_of ports)
 ports_plain [] h = tt
-ports_plain (port ∷ ports) h = each_join IsPlain (bit_names port.name port.range) (bit_names_of ports) (bits_plain port.name port.range h.0.1 h.0.0) (ports_plain ports h.1)
+ports_plain (port ∷ ports) h = all_append IsPlain (bit_names port.name port.range) (bit_names_of ports) (bits_plain port.name port.range h.0.1 h.0.0) (ports_plain ports h.1)
 
 -- the design's
 
@@ -94,7 +88,7 @@ found_by : (t : Bool) (port : design_port.Port) (rest : Option design_port.Port)
 found_by true port rest h = absurd (none-some (PortName port.name) (sym h))
 found_by false port rest h = (refl, h)
 
-found_none : (ports : List design_port.Port) → quoted_port ports ≡ None → Each (λ port. has_quote port.name ≡ false) ports
+found_none : (ports : List design_port.Port) → quoted_port ports ≡ None → AllByRecursion (λ port. has_quote port.name ≡ false) ports
 found_none [] h = tt
 found_none (port ∷ ports) h = let r = found_by (has_quote port.name) port (find (λ p. has_quote p.name) ports) h in (r.0, found_none ports r.1)
 
@@ -105,7 +99,7 @@ none_plain : (name : Text) → has_quote name ≡ false → All Plain name
 none_plain [] h = All-nil Plain
 none_plain (b ∷ name) h = let r = or_parts (b == 34) (has_quote name) h in All-cons Plain b name (not_this b r.0) (none_plain name r.1)
 
-own_ports : (ports : List design_port.Port) → ((place : ℕ) (port : design_port.Port) → slice_get ports place ≡ Some port → IsName port.name × IsShortRange port.range) → Each (λ port. has_quote port.name ≡ false) ports → Each IsPlainPort ports
+own_ports : (ports : List design_port.Port) → ((place : ℕ) (port : design_port.Port) → slice_get ports place ≡ Some port → IsName port.name × IsShortRange port.range) → AllByRecursion (λ port. has_quote port.name ≡ false) ports → AllByRecursion IsPlainPort ports
 own_ports [] named h = tt
 own_ports (port ∷ ports) named h = ((none_plain port.name h.0, (named 0 port refl).1), own_ports ports (λ place p at. named (suc place) p at) h.1)
 
@@ -133,15 +127,15 @@ simple_plain bytes h =
 abbrev IsPlainNew : NewPort → Type 0
 IsPlainNew port = IsPlain port.name
 
-numbered_plain : (d : Dir) (name : Text) (from count : ℕ) → from + count < 2 ^ 64 → IsPlain name → Each IsPlainNew (map (λ number. new_port d (numbered name number)) (range_with_len from count))
+numbered_plain : (d : Dir) (name : Text) (from count : ℕ) → from + count < 2 ^ 64 → IsPlain name → AllByRecursion IsPlainNew (map (λ number. new_port d (numbered name number)) (range_with_len from count))
 numbered_plain d name from zero fits h = tt
 numbered_plain d name from (suc count) fits h = (number_plain name from (omega (arith, fits)) h, numbered_plain d name (from + 1) count (omega (arith, fits)) h)
 
-new_ports : (net : ℕ) (ports : List NewPort) → Each IsPlainNew ports → Each IsPlainPort (ports_from net ports)
+new_ports : (net : ℕ) (ports : List NewPort) → AllByRecursion IsPlainNew ports → AllByRecursion IsPlainPort (ports_from net ports)
 new_ports net [] h = tt
 new_ports net (port ∷ ports) h = ((h.0, tt), new_ports (suc net) ports h.1)
 
-added_plain : (config : Config) → IsInRange config → Each IsPlainNew (added_ports Edt config)
+added_plain : (config : Config) → IsInRange config → AllByRecursion IsPlainNew (added_ports Edt config)
 added_plain config range =
     let named = λ (k : ℕ) (less : k < 8). simple_plain (get_or (names_of config.names) k []) (range.names k [] less) in
     let channels = range.ring.channels.1 in
@@ -152,8 +146,8 @@ added_plain config range =
         named 1 (omega arith),
         (
           named 2 (omega arith),
-          each_join IsPlainNew _ _ (numbered_plain Input config.names.channel 0 config.ring.channels (omega (arith, channels)) (named 3 (omega arith)))
-              (each_join IsPlainNew _ _ (numbered_plain Input config.names.mask 0 config.compactor.mask_inputs (omega (arith, masks)) (named 4 (omega arith)))
+          all_append IsPlainNew _ _ (numbered_plain Input config.names.channel 0 config.ring.channels (omega (arith, channels)) (named 3 (omega arith)))
+              (all_append IsPlainNew _ _ (numbered_plain Input config.names.mask 0 config.compactor.mask_inputs (omega (arith, masks)) (named 4 (omega arith)))
               (numbered_plain Output config.names.output 0 (length config.compactor.groups) (omega (arith, outputs)) (named 5 (omega arith)))),
         ),
       ),
@@ -164,10 +158,10 @@ pub quotable_bits : (n : Netlist) (config : Config) → IsReady n config → IsN
 quotable_bits n config ready sound =
     let w = scanned Edt n config in
     let before : ℕ = (gap_in Edt n config).before in
-    let own : Each IsPlainPort n.ports = own_ports n.ports ready.netlist.named.ports (found_none n.ports (no_quoted_port n config ready.passed)) in
-    let all : Each IsPlainPort (n.ports ++ ports_from before (added_ports Edt config)) = each_join IsPlainPort n.ports (ports_from before (added_ports Edt config)) own (new_ports before (added_ports Edt config) (added_plain config ready.range)) in
-    let each : Each IsPlain (bit_names_of w.ports) = ports_plain w.ports (subst (λ (ps : List design_port.Port). Each IsPlainPort ps) (sym (adds_in_order Edt n config).ports) all) in
+    let own : AllByRecursion IsPlainPort n.ports = own_ports n.ports ready.netlist.named.ports (found_none n.ports (no_quoted_port n config ready.passed)) in
+    let all : AllByRecursion IsPlainPort (n.ports ++ ports_from before (added_ports Edt config)) = all_append IsPlainPort n.ports (ports_from before (added_ports Edt config)) own (new_ports before (added_ports Edt config) (added_plain config ready.range)) in
+    let each : AllByRecursion IsPlain (bit_names_of w.ports) = ports_plain w.ports (subst (λ (ps : List design_port.Port). AllByRecursion IsPlainPort ps) (sym (adds_in_order Edt n config).ports) all) in
     λ k name at. record {
       name = sound.named.nets k name (subst (λ (names : List Text). slice_get names k ≡ Some name) (sym sound.bits.same) (get_left (bit_names_of w.ports) sound.bits.rest k name at));
-      unquoted = each_at IsPlain (bit_names_of w.ports) k name each at;
+      unquoted = all_get IsPlain (bit_names_of w.ports) k name each at;
     }

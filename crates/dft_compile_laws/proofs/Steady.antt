@@ -1,10 +1,9 @@
 -- A signal that pulses in some listed vector is low or pulses in each.
 use Rattle.std.proofs.Common.{ℕ, zero, suc, ◌+◌, ◌≡◌, ◌==◌, Bool, true, false, List, [], ◌∷◌, ◌++◌, length, map, get_or, Option, None, Some, slice_get, refl, sym, ap, subst, ◌∙◌}
 use Rattle.std.specs.Prelude.{if◌then◌else◌, replicate, ◌≢◌}
-use Rattle.std.specs.List.{AllZip}
+use Rattle.std.specs.List.{AllZip, AllByRecursion}
 use Rattle.std.proofs.lemmas.Bool.{eqb-true, false_from_ne_true}
 use Rattle.std.proofs.lemmas.List.{append_assoc}
-use Rattle.dft_merge.proofs.EquationLemmas.{Each}
 use Rattle.dft_base.specs.declared.tri.Tri.{Tri}
 use Rattle.dft_base.specs.declared.tri.Tri.TheVariants.{Zero, One, Unknown}
 use Rattle.dft_base.specs.Solutions.{bit_at}
@@ -208,10 +207,10 @@ module _ (n : Netlist) (config : Config) (range : IsInRange config) where
       (zip_append Fit (none_of (length (output_bits n.ports))) (none_of (length config.compactor.groups)) (map compare outputs) (ignored (length config.compactor.groups))
       (subst (λ (k : ℕ). AllZip Fit (none_of k) (map compare outputs)) width (captured_fit outputs)) (ignored_fit (length config.compactor.groups)))
 
-  captures_fit : (p : PatternData) → Gives n config p → Each (λ acts. AllZip Fit (flags n config) acts) (capture_acts n config p)
+  captures_fit : (p : PatternData) → Gives n config p → AllByRecursion (λ acts. AllZip Fit (flags n config) acts) (capture_acts n config p)
   captures_fit p h = captures_each n config p.merged (λ acts. AllZip Fit (flags n config) acts) (capture_acts_fit p.merged h.0) p.merged.domains.first (later_of p.merged.domains) p.response.outputs h.1
 
-  all_fit : (ps : List PatternData) → Each (Gives n config) ps → Each (λ acts. AllZip Fit (flags n config) acts) (vectors_of n config (plan_of n config) ps)
+  all_fit : (ps : List PatternData) → AllByRecursion (Gives n config) ps → AllByRecursion (λ acts. AllZip Fit (flags n config) acts) (vectors_of n config (plan_of n config) ps)
   all_fit ps h = each_listed n config (λ acts. AllZip Fit (flags n config) acts) (Gives n config) set_up_fits shift_fits captures_fit ps h
 
 -- ---- by number
@@ -253,17 +252,17 @@ low_at (b ∷ fs) [] k h e = absurd h
 low_at (b ∷ fs) (a ∷ acts) zero h e = fit_low b a h.0 e
 low_at (b ∷ fs) (a ∷ acts) (suc k) h e = low_at fs acts k h.1 e
 
-pulse_in : (fs : List Bool) (vectors : List (List Act)) (v k : ℕ) → Each (λ acts. AllZip Fit fs acts) vectors → get_or (get_or vectors v []) k Ignore ≡ Pulse → get_or fs k false ≡ true
+pulse_in : (fs : List Bool) (vectors : List (List Act)) (v k : ℕ) → AllByRecursion (λ acts. AllZip Fit fs acts) vectors → get_or (get_or vectors v []) k Ignore ≡ Pulse → get_or fs k false ≡ true
 pulse_in fs [] v k h e = absurd cc
 pulse_in fs (acts ∷ vectors) zero k h e = pulse_at fs acts k h.0 e
 pulse_in fs (acts ∷ vectors) (suc v) k h e = pulse_in fs vectors v k h.1 e
 
-low_in : (fs : List Bool) (vectors : List (List Act)) (v k : ℕ) → Each (λ acts. AllZip Fit fs acts) vectors → get_or fs k false ≡ true → LowOrNone (get_or (get_or vectors v []) k Ignore)
+low_in : (fs : List Bool) (vectors : List (List Act)) (v k : ℕ) → AllByRecursion (λ acts. AllZip Fit fs acts) vectors → get_or fs k false ≡ true → LowOrNone (get_or (get_or vectors v []) k Ignore)
 low_in fs [] v k h e = ((λ f. cc), (λ f. cc))
 low_in fs (acts ∷ vectors) zero k h e = low_at fs acts k h.0 e
 low_in fs (acts ∷ vectors) (suc v) k h e = low_in fs vectors v k h.1 e
 
-pub steady : (n : Netlist) (config : Config) (p : Patterns) (ps : List PatternData) → IsInRange config → p.vectors ≡ vectors_of n config (plan_of n config) ps → Each (Gives n config) ps → IsSteady p
+pub steady : (n : Netlist) (config : Config) (p : Patterns) (ps : List PatternData) → IsInRange config → p.vectors ≡ vectors_of n config (plan_of n config) ps → AllByRecursion (Gives n config) ps → IsSteady p
 steady n config p ps range same h = λ signal pulsed other e.
-    let fit : Each (λ acts. AllZip Fit (flags n config) acts) p.vectors = subst (λ (vs : List (List Act)). Each (λ acts. AllZip Fit (flags n config) acts) vs) (sym same) (all_fit n config range ps h) in
+    let fit : AllByRecursion (λ acts. AllZip Fit (flags n config) acts) p.vectors = subst (λ (vs : List (List Act)). AllByRecursion (λ acts. AllZip Fit (flags n config) acts) vs) (sym same) (all_fit n config range ps h) in
     low_in (flags n config) p.vectors other signal fit (pulse_in (flags n config) p.vectors pulsed signal fit e)

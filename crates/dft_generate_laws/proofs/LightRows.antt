@@ -1,17 +1,19 @@
 -- A load equation of a generated job has at most 1,484 variables: what an impulse brings to the ring comes back after 210 cycles, of which at most 106 have
 -- a phase sum of 1.
-use Rattle.std.proofs.Common.{ℕ, zero, suc, Bool, true, false, ◌≡◌, ◌<◌, ◌≤◌, ◌+◌, ◌*◌, ◌-◌, ◌⊎◌, inl, inr, List, [], ◌∷◌, get_or, map, refl, sym, ap, arith, ◌∙◌}
-use Rattle.std.specs.Prelude.{◌&&◌, ◌==◌, ◌%◌, nat_le, nat_lt, if◌then◌else◌}
-use Rattle.std.specs.List.{list_all, range_with_len}
-use Rattle.std.proofs.lemmas.Bool.{cases_lt, false≢true}
+use Rattle.std.proofs.Common.{ℕ, zero, suc, Bool, true, false, ◌≡◌, ◌<◌, ◌≤◌, ◌+◌, ◌*◌, ◌-◌, ◌⊎◌, inl, inr, List, [], ◌∷◌, length, get_or, map, cond, refl, sym, ap, arith, ◌∙◌}
+use Rattle.std.specs.Prelude.{◌&&◌, ◌==◌, ◌%◌, nat_le, nat_lt}
+use Rattle.std.specs.List.{count_by, list_all, range_with_len}
+use Rattle.std.proofs.lemmas.Bool.{cases_lt}
 use Rattle.std.proofs.lemmas.Bool.Decides.{nat_tests}
 use Rattle.std.proofs.lemmas.List.{get_or_past}
+use Rattle.std.proofs.lemmas.List.Sums.{AllPass-from_list_all, sum_by-cons}
 use Rattle.std.proofs.lemmas.List.FromFn.{length-map-range_with_len, get_or-map-range_with_len}
 use Rattle.std.proofs.lemmas.Nat.{div-mul-add, mod-mul-add}
 use Rattle.dft_base.specs.Solutions.{xor, bit_at}
 use Rattle.dft_config.specs.declared.config.RingConfig.{RingConfig}
 use Rattle.dft_config.specs.Ring.{sum_of, tapped, injected, step, state_after, phase_of, phase_sum}
 use Rattle.dft_config.specs.Loads.{channel_of, cycle_of, single, reaches, delay, moment_of_place, load_equation}
+use Rattle.dft_config.proofs.Linearity.{delay_small}
 use Rattle.dft_equations.specs.LoadRows.{equation_row}
 use Rattle.dft_equations.proofs.ImpulseLemmas.{state_before, load_equation-moved, load_equation-first}
 use Rattle.dft_generate.specs.Configurations.{configuration}
@@ -32,8 +34,8 @@ unfoldable after : ℕ → List Bool → List Bool
 after zero state = state
 after (suc n) state = after n (next state)
 
-abbrev one_of : Bool → ℕ
-one_of bit = if bit then 1 else 0
+abbrev pub one_of : Bool → ℕ
+one_of bit = cond bit 1 0
 
 -- of so many states from one on, how many have a phase sum of 1
 unfoldable weight : (phase : List ℕ) → ℕ → List Bool → ℕ
@@ -138,13 +140,11 @@ none_light zero state = refl
 none_light (suc n) state = let rest = none_light n (next state) in omega (arith, rest)
 
 all_at : {X : Type 0} (test : X → Bool) (d : X) (xs : List X) (k : ℕ) → test d ≡ true → list_all test xs ≡ true → test (get_or xs k d) ≡ true
-all_at test d [] k past all = past
-all_at test d (x ∷ xs) k past all = by (test x) refl k all (λ j rest. all_at test d xs j past rest)
+all_at test d xs k past all = by (cases_lt k (length xs))
   where
-    by : (b : Bool) → test x ≡ b → (k : ℕ) → b && list_all test xs ≡ true → ((j : ℕ) → list_all test xs ≡ true → test (get_or xs j d) ≡ true) → test (get_or (x ∷ xs) k d) ≡ true
-    by true is zero all later = is
-    by true is (suc k) all later = later k all
-    by false is k all later = absurd (false≢true all)
+    by : (k < length xs) ⊎ (length xs ≤ k) → test (get_or xs k d) ≡ true
+    by (inl less) = AllPass-from_list_all test xs all k d less
+    by (inr over) = ap test (get_or_past xs k d over) ∙ past
 
 chain_light : (channel chain : ℕ) → channel < 2 → weight (phase_of ring chain) 210 (first channel) ≤ 106
 chain_light channel chain low =
@@ -177,11 +177,6 @@ sum_none (stage ∷ stages) = sum_none stages
 zero_brought : (chain channel cycle moment : ℕ) → moment ≤ cycle → phase_sum ring chain (state_after ring (single channel cycle) moment) ≡ false
 zero_brought chain channel cycle moment early = (λ e. sum_of (λ stage. state_before ring channel cycle moment early stage e) (phase_of ring chain)) ∙ sum_none (phase_of ring chain)
 
-delay_most : (late : Bool) → delay late ≤ 1
-unfolding delay
-delay_most true = omega arith
-delay_most false = omega arith
-
 column_at : (k place channel : ℕ) → channel < 2 → (cycle_of ring (k + k + channel + place * 2) ≡ k + place) × (channel_of ring (k + k + channel + place * 2) ≡ channel)
 column_at k place channel low =
     let same : k + k + channel + place * 2 ≡ (k + place) * 2 + channel = omega arith in
@@ -189,8 +184,10 @@ column_at k place channel low =
 
 -- how many bits of a row are 1
 abbrev pub ones : List Bool → ℕ
-ones [] = 0
-ones (bit ∷ bits) = one_of bit + ones bits
+ones bits = count_by (λ bit. bit) bits
+
+pub ones_more : (bit : Bool) (bits : List Bool) → ones (bit ∷ bits) ≡ one_of bit + ones bits
+ones_more bit bits = sum_by-cons one_of bit bits
 
 -- the most that the variables of so many last cycles bring
 abbrev most : (late : Bool) (chain : ℕ) → ℕ → ℕ
@@ -242,18 +239,18 @@ module _ (cycles : ℕ) (late : Bool) (chain place : ℕ) (within : place < cycl
       let column : ℕ = k + k + channel + place * 2 in
       let inside = (column_at k place channel low).0 in
       load_equation-moved ring cycles late chain place (k + k + channel) (omega arith) within
-      ∙ zero_brought chain (channel_of ring column) (cycle_of ring column) (moment_of_place cycles late 0) (let small = delay_most late in omega (arith, inside, past, small, within))
+      ∙ zero_brought chain (channel_of ring column) (cycle_of ring column) (moment_of_place cycles late 0) (let small = delay_small late in omega (arith, inside, past, small, within))
 
   split : (n k : ℕ) → ones (map bit_of (range_with_len (k + k) (suc n + suc n))) ≡ one_of (bit_of (k + k + 0)) + one_of (bit_of (k + k + 1)) + ones (map bit_of (range_with_len ((k + 1) + (k + 1)) (n + n)))
   split n k =
       let size : suc n + suc n ≡ suc (suc (n + n)) = omega arith in
       let from : k + k + 1 + 1 ≡ (k + 1) + (k + 1) = omega arith in
       let zeroth : k + k ≡ k + k + 0 = omega arith in
-      let a : ones (map bit_of (range_with_len (k + k) (suc n + suc n))) ≡ one_of (bit_of (k + k)) + (one_of (bit_of (k + k + 1)) + ones (map bit_of (range_with_len (k + k + 1 + 1) (n + n)))) =
-      ap (λ (c : ℕ). ones (map bit_of (range_with_len (k + k) c))) size in
+      let bits : List Bool = map bit_of (range_with_len (k + k + 1 + 1) (n + n)) in
+      let a : ones (map bit_of (range_with_len (k + k) (suc n + suc n))) ≡ ones (bit_of (k + k) ∷ bit_of (k + k + 1) ∷ bits) = ap (λ (c : ℕ). ones (map bit_of (range_with_len (k + k) c))) size in
       let b = ap (λ (f : ℕ). ones (map bit_of (range_with_len f (n + n)))) from in
       let c = ap (λ (f : ℕ). one_of (bit_of f)) zeroth in
-      omega (arith, a, b, c)
+      omega (arith, a, b, c, ones_more (bit_of (k + k)) (bit_of (k + k + 1) ∷ bits), ones_more (bit_of (k + k + 1)) bits)
 
   pairs : (n k r : ℕ) → r ≡ cycles - (k + place) → ones (map bit_of (range_with_len (k + k) (n + n))) ≤ most late chain r
   pairs zero k r is = omega arith

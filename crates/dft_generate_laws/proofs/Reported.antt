@@ -60,7 +60,7 @@ use Rattle.dft_generate_laws.proofs.Checks.{scanned_here}
 use Rattle.dft_generate_laws.proofs.Framed.{plan_small}
 use Rattle.dft_generate_laws.proofs.Places.{instance_of}
 use Rattle.dft_generate_laws.proofs.Plans.{few_cells}
-use Rattle.dft_generate_laws.proofs.LightRows.{ones, row_light}
+use Rattle.dft_generate_laws.proofs.LightRows.{ones, ones_more, row_light}
 use Rattle.dft_generate_laws.proofs.Vectors.{cycles_most}
 use Rattle.dft_generate_laws.proofs.Lengths.{one}
 
@@ -235,8 +235,8 @@ variables_from (true ∷ row) from le =
     let rest : List Variable = filter_map (λ (at : ℕ × Bool). variable_of configuration.ring at.0 at.1) (enumerate_from (from + 1) row) in
     let here = variable_short from true (record { channel = channel_of configuration.ring from; cycle = cycle_of configuration.ring from }) (omega (arith, le)) refl in
     let more = variables_from row (from + 1) (omega (arith, le)) in
-    omega (arith, here, more, length-append (variable_text (record { channel = channel_of configuration.ring from; cycle = cycle_of configuration.ring from })) (flat_map variable_text rest))
-variables_from (false ∷ row) from le = let more = variables_from row (from + 1) (omega (arith, le)) in omega (arith, more)
+    omega (arith, here, more, ones_more true row, length-append (variable_text (record { channel = channel_of configuration.ring from; cycle = cycle_of configuration.ring from })) (flat_map variable_text rest))
+variables_from (false ∷ row) from le = let more = variables_from row (from + 1) (omega (arith, le)) in omega (arith, more, ones_more false row)
 
 row_short : (row : List Bool) → IsNarrow row → length (variables_text (variables_of configuration.ring row)) ≤ 10388
 row_short row narrow =

@@ -6,7 +6,7 @@ use Rattle.std.proofs.lemmas.List.Elements.{recursion_from_All}
 use Rattle.std.proofs.lemmas.Option.{slice_get_within}
 use Rattle.dft_base.specs.declared.dir.Dir.{Dir}
 use Rattle.dft_base.specs.declared.dir.Dir.TheVariants as dir
-use Rattle.dft_base.proofs.ListLemmas.{all_append, get_there}
+use Rattle.dft_base.proofs.ListLemmas.{all_append, get_there, all_get}
 use Rattle.dft_cells.specs.declared.cell.Cell.{Cell}
 use Rattle.dft_netlist.specs.declared.ids.NetId.{NetId}
 use Rattle.dft_netlist.specs.declared.instance.Instance.{Instance}
@@ -36,7 +36,7 @@ use Rattle.dft_hier.proofs.InstanceSpotLemmas.{instances_all}
 use Rattle.dft_hier.proofs.ModuleLemmas.{number_there}
 use Rattle.dft_hier.proofs.NumberLemmas.{module_there}
 use Rattle.dft_hier.proofs.PartLemmas.{StandsTall}
-use Rattle.dft_hier.proofs.Positions.{In, in_left, in_right, in_either, all_at, IsAt, Segment, HasBase, based, AreMoved, moved_at, moved_count, instances_moved, JoinFrom, OwnJoin, InJoin, OutJoin, joins_from, Block, block_at, own_join, met_join}
+use Rattle.dft_hier.proofs.Positions.{In, in_left, in_right, in_either, IsAt, Segment, HasBase, based, AreMoved, moved_at, moved_count, instances_moved, JoinFrom, OwnJoin, InJoin, OutJoin, joins_from, Block, block_at, own_join, met_join}
 use Rattle.dft_hier.proofs.SpotLemmas.{spot, once, nets_once, module_below}
 
 -- ---- what is listed of drivers
@@ -277,7 +277,7 @@ module _ (ms : List Module) (library : List Cell) (top : Module) (design : Netli
   port_forward [] m d at h =
       let same : top ≡ m = cc in
       let there : In Driven (driven_by_ports top.ports) d = subst (λ (x : Module). In Driven (driven_by_ports x.ports) d) (sym same) h in
-      let input : IsInput (length top.nets) d = all_at Driven (IsInput (length top.nets)) (driven_by_ports top.ports) there.place d (ports_input (length top.nets) top.ports (port_bits library top (module_sound [] top refl))) there.at in
+      let input : IsInput (length top.nets) d = all_get (IsInput (length top.nets)) (driven_by_ports top.ports) there.place d (ports_input (length top.nets) top.ports (port_bits library top (module_sound [] top refl))) there.at in
       let start : 0 + d.0 ≡ d.0 = omega arith in
       record {
         e = d;
@@ -359,8 +359,8 @@ module _ (ms : List Module) (library : List Cell) (top : Module) (design : Netli
   bit_live : (path : Path) (place net : ℕ) (d : Dir) (to : Signal) (h : Meets ms top path place d net to) → net < length h.inner.nets
   bit_live path place net d to h =
       let all = port_bits library h.inner (found_sound h.sub.of h.inner h.inner_is) in
-      let bits = all_at Port (λ (p : Port). AllByRecursion (λ (b : NetId). b.0 < length h.inner.nets) p.bits) h.inner.ports h.joins.place h.joins.port all h.joins.port_at in
-      all_at NetId (λ (b : NetId). b.0 < length h.inner.nets) h.joins.port.bits h.joins.bit (record { 0 = net }) bits h.joins.within
+      let bits = all_get (λ (p : Port). AllByRecursion (λ (b : NetId). b.0 < length h.inner.nets) p.bits) h.inner.ports h.joins.place h.joins.port all h.joins.port_at in
+      all_get (λ (b : NetId). b.0 < length h.inner.nets) h.joins.port.bits h.joins.bit (record { 0 = net }) bits h.joins.within
 
   outer_bit : (path : Path) (place net : ℕ) (d : Dir) (to : Signal) (h : Meets ms top path place d net to) → IsOuterBit (length h.outer.nets) to
   outer_bit path place net d to h =
@@ -368,7 +368,7 @@ module _ (ms : List Module) (library : List Cell) (top : Module) (design : Netli
       let items = recursion_from_All (λ (t : Item). IsItem library count t) h.outer.items (module_sound path h.outer h.outer_at).items in
       let own : IsItem library count (item.Sub h.sub) = sub_item (λ (t : Item). IsItem library count t) h.outer.items place h.sub items h.sub_at in
       let all = connections_sound library count (item.Sub h.sub) h.sub.connections own h.sub refl refl h.joins.port.name in
-      all_at Signal (λ (s : Signal). IsOuterBit count s) (joined_to h.sub.connections h.joins.port.name) h.joins.bit to all h.joins.outside
+      all_get (λ (s : Signal). IsOuterBit count s) (joined_to h.sub.connections h.joins.port.name) h.joins.bit to all h.joins.outside
 
   pub record InForward (path : Path) (place net : ℕ) (to : Signal) : Type 0 where
     pub number : ℕ
@@ -438,7 +438,7 @@ module _ (ms : List Module) (library : List Cell) (top : Module) (design : Netli
   port_origin : (e : Driven) → In Driven (driven_by_ports design.ports) e → Origin ms library top e.0
   port_origin e h =
       let there : In Driven (driven_by_ports top.ports) e = subst (λ (ps : List Port). In Driven (driven_by_ports ps) e) f.ports h in
-      let input : IsInput (length top.nets) e = all_at Driven (IsInput (length top.nets)) (driven_by_ports top.ports) there.place e (ports_input (length top.nets) top.ports (port_bits library top (module_sound [] top refl))) there.at in
+      let input : IsInput (length top.nets) e = all_get (IsInput (length top.nets)) (driven_by_ports top.ports) there.place e (ports_input (length top.nets) top.ports (port_bits library top (module_sound [] top refl))) there.at in
       let start : 0 + e.0 ≡ e.0 = omega arith in
       origin_inside [] top e.0 e refl (subst (IsAt (net_spots ms top) [] e.0) start (top_base e.0 input.0))
       (by_ports (driven_by_ports top.ports) (driven_by_instances library 0 (cells_of top.items)) (driven_by_joins (joins_of top.items)) e there)
@@ -483,7 +483,7 @@ module _ (ms : List Module) (library : List Cell) (top : Module) (design : Netli
   join_origin e h =
       let by = joins_backward design.joins h.place e h.at in
       let all = joins_from ms top (net_spots ms top) (length ms) [] 0 [] top f.tall refl whole in
-      let from = all_at Join (λ (j : Join). JoinFrom ms top (net_spots ms top) j) (flat_parts ms top).joins by.k by.j all (ap (λ (js : List Join). slice_get js by.k) (sym f.joins) ∙ by.at) in
+      let from = all_get (λ (j : Join). JoinFrom ms top (net_spots ms top) j) (flat_parts ms top).joins by.k by.j all (ap (λ (js : List Join). slice_get js by.k) (sym f.joins) ∙ by.at) in
       subst (λ (x : Driven). Origin ms library top x.0) by.is (from_origin by.j from)
 
   -- whatever drives a net of the flat design comes from somewhere

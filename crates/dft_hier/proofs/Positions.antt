@@ -45,11 +45,6 @@ in_either A (z ∷ xs) ys x (suc k) at = elim (in_either A xs ys x k at) [
   | inr back ↦ inr back
 ]
 
-pub all_at : (A : Type 0) (P : A → Type 0) (xs : List A) (k : ℕ) (x : A) → AllByRecursion P xs → slice_get xs k ≡ Some x → P x
-all_at A P [] k x h at = absurd (let f : ⊥ = cc in f)
-all_at A P (y ∷ xs) zero x h at = let e : y ≡ x = cc in subst P e h.0
-all_at A P (y ∷ xs) (suc k) x h at = all_at A P xs k x h.1 at
-
 -- ---- spots from a number on
 
 -- what stands at a spot has this number

@@ -4,7 +4,7 @@ use Rattle.std.specs.List.{AllByRecursion}
 use Rattle.std.proofs.lemmas.Bool.{cases_lt}
 use Rattle.dft_base.specs.Lexing.{Text}
 use Rattle.dft_base.specs.declared.dir.Dir.TheVariants as dir
-use Rattle.dft_base.proofs.ListLemmas.{all_append, get_there}
+use Rattle.dft_base.proofs.ListLemmas.{all_append, get_there, all_get}
 use Rattle.dft_cells.specs.declared.cell.Cell.{Cell}
 use Rattle.dft_cells.specs.declared.kind.Kind.{Kind}
 use Rattle.dft_cells.specs.declared.kind.Role.{Role}
@@ -49,7 +49,7 @@ use Rattle.dft_hier.proofs.InstanceSpotLemmas.{module_on}
 use Rattle.dft_hier.proofs.JoinedRoots.{input_number, root_agrees, clock_agrees, flat_roots, flat_rooted, flat_clocked, same_spot}
 use Rattle.dft_hier.proofs.OneForOne.{top_there, top_tall, flat_has, own_within}
 use Rattle.dft_hier.proofs.PartLemmas.{nets_same}
-use Rattle.dft_hier.proofs.Positions.{IsAt, all_at, first_one, later}
+use Rattle.dft_hier.proofs.Positions.{IsAt, first_one, later}
 use Rattle.dft_hier.proofs.SpotLemmas.{spot, own_from, nets_all, nets_count}
 
 -- ---- the parts of a flat netlist
@@ -458,7 +458,7 @@ module _ (ms : List Module) (library : List Cell) (top : Module) (design : Netli
       | inl less ↦ (
           let x = get_there (net_spots ms top) k less in
           let at : IsAt (net_spots ms top) x.0.path x.0.at k = x.1 in
-          let stands = all_at Spot (λ (t : Spot). SpotStands ms top t) (net_spots ms top) k x.0 (nets_stand ms top (length ms) [] top refl) x.1 in
+          let stands = all_get (λ (t : Spot). SpotStands ms top t) (net_spots ms top) k x.0 (nets_stand ms top (length ms) [] top refl) x.1 in
           sym (reads k x.0 x.1) ∙ h.others x.0.path stands.m x.0.at stands.at stands.less (none_inside x.0.path stands.m x.0.at k stands.at at none) (none_met x.0.path x.0.at k at none)
           ∙ free_given x.0.path x.0.at k at ∙ sym (none_given k free))
       | inr more ↦ (let count = f.count in past k (omega arith) ∙ sym (none_given k free))

@@ -1,7 +1,7 @@
 -- What holds of every part of a scanned netlist's recipe; and that its parts join only scan inputs and outputs of scanned flip-flops.
 use Rattle.std.proofs.Common.{ℕ, zero, suc, ◌+◌, ◌≡◌, ◌==◌, ◌⊎◌, inl, inr, Bool, true, false, List, [], ◌∷◌, length, map, Option, None, Some, option_and_then, slice_get, refl, ap, ◌∙◌}
 use Rattle.std.specs.Prelude.{slice_index_or, if◌then◌else◌}
-use Rattle.std.specs.List.{range_with_len}
+use Rattle.std.specs.List.{range_with_len, AllByRecursion}
 use Rattle.std.proofs.lemmas.Option.{none-some}
 use Rattle.dft_cells.specs.declared.kind.Kind.TheVariants.{Buf, Inv}
 use Rattle.dft_cells.specs.declared.kind.Role.TheVariants.{Output, ScanIn}
@@ -30,7 +30,7 @@ use Rattle.dft_insert.specs.Chained.{scan_roles, a_numbered_pin, a_role_pin, a_s
 use Rattle.dft_insert.specs.Ports.{gap_in, edt_nets, plain_in, plain_out}
 use Rattle.dft_insert.specs.Scanned.{a_plain_chain, a_plain_end, plain_recipe, an_edt_chain, behind_rows, edt_recipe, recipe, framed, parts_of}
 use Rattle.dft_insert.proofs.Free.{HoldsFree, net_free, driving_free, gate_free, lockup_free, ring_free, compactor_free}
-use Rattle.dft_insert.proofs.Joins.{Each, Holds, JoinsAt, holds_pure, holds_bind, holds_each, holds_collect}
+use Rattle.dft_insert.proofs.Joins.{Holds, JoinsAt, holds_pure, holds_bind, holds_each, holds_collect}
 
 -- a pin of a scanned flip-flop's scan cell: its output, or its scan input
 pub record IsChainPin (n : Netlist) (config : Config) (i pin : ℕ) : Type 0 where
@@ -165,11 +165,11 @@ module _ (n : Netlist) (config : Config) (P : Part → Type 0) (free : HoldsFree
     recipe_on Edt = edt_on (gap_in Edt n config) (edt_nets (gap_in Edt n config).before config)
 
 -- what holds of nets, of instances and of such pins holds of all parts
-pub parts_hold : (P : Part → Type 0) (style : Style) (n : Netlist) (config : Config) → HoldsFree P → ((cell : InstanceId) (pin : ℕ) (net : NetId) → IsChainPin n config cell.0 pin → P (APin cell pin net)) → IsInRange config → Each P (parts_of style n config (plan_of n config))
+pub parts_hold : (P : Part → Type 0) (style : Style) (n : Netlist) (config : Config) → HoldsFree P → ((cell : InstanceId) (pin : ℕ) (net : NetId) → IsChainPin n config cell.0 pin → P (APin cell pin net)) → IsInRange config → AllByRecursion P (parts_of style n config (plan_of n config))
 parts_hold P style n config free joined range =
     recipe_on n config P free joined (plan_of n config) (λ chain place cell h. ap is_scanned (cells_scanned n config chain place cell range h).is) style (start_of (framed style n config))
 
 -- the parts that are made join only such pins
-pub parts_on : (style : Style) (n : Netlist) (config : Config) → IsInRange config → Each (OnChains n config) (parts_of style n config (plan_of n config))
+pub parts_on : (style : Style) (n : Netlist) (config : Config) → IsInRange config → AllByRecursion (OnChains n config) (parts_of style n config (plan_of n config))
 parts_on style n config range =
     parts_hold (OnChains n config) style n config (record { net = tt; cell = λ id pins. tt; gate = λ kind inputs output. tt }) (λ cell pin net h. h) range

@@ -3,6 +3,7 @@ use Rattle.std.proofs.Common.{ℕ, zero, suc, ◌+◌, ◌≡◌, ◌==◌, ◌<
 use Rattle.std.specs.Prelude.{slice_index_or, if◌then◌else◌}
 use Rattle.std.proofs.lemmas.List.{length-map}
 use Rattle.std.proofs.lemmas.Option.{none-some, same_Some, slice_get_within}
+use Rattle.std.specs.List.{AllByRecursion}
 use Rattle.dft_base.specs.declared.dir.Dir.{Dir}
 use Rattle.dft_base.specs.declared.dir.Dir.TheVariants as dir
 use Rattle.dft_base.proofs.BitLemmas.{true_false}
@@ -43,7 +44,7 @@ use Rattle.dft_insert.specs.Statements.{scanned, made_in}
 use Rattle.dft_insert.proofs.Chains.{IsChainPin, OnChains, parts_on}
 use Rattle.dft_insert.proofs.Frames.{framed_width, scan_pair}
 use Rattle.dft_insert.proofs.Keeping.{from_get, scans_of, scanned_names}
-use Rattle.dft_insert.proofs.Joins.{Each, joined_in, none_joined, joined_width}
+use Rattle.dft_insert.proofs.Joins.{joined_in, none_joined, joined_width}
 use Rattle.dft_insert.proofs.Merging.{news, Early, joined_at, instances_are, pin_kept, Carries, none_append, carries_append, carries_all, carries_added, scan_carries, is_output_at}
 use Rattle.dft_insert.proofs.Spared.{Spares, IsOther, others_joined, news_none}
 
@@ -148,7 +149,7 @@ instances_carry f k library written i (x ∷ xs) each =
     (instances_carry f k library written (suc i) xs (λ j number z is at. each (suc j) number z (omega (arith, is)) at))
 
 -- a scan cell drives what its flip-flop drove, and where it drives more, not this net
-cell_carries : (style : Style) (n : Netlist) (config : Config) (k i : ℕ) (x : Instance) (id : CellId) → IsReady n config → slice_get n.instances i ≡ Some x → scan_cell_in n.library x.cell ≡ Some id → is_scanned (judged n config i) ≡ true → Each (Spares (frame style n config) k) (made_in style n config) →
+cell_carries : (style : Style) (n : Netlist) (config : Config) (k i : ℕ) (x : Instance) (id : CellId) → IsReady n config → slice_get n.instances i ≡ Some x → scan_cell_in n.library x.cell ≡ Some id → is_scanned (judged n config i) ≡ true → AllByRecursion (Spares (frame style n config) k) (made_in style n config) →
     Carries (moved (gap_in style n config)) k (driven_by n.library i x)
     (driven_by n.library i (record { name = x.name; cell = Library id; pins = joined_in (made_in style n config) i (framed_pins (at_net (gap_in style n config).before) (shape_of n.library (Library id)).roles (map (moved_signal (gap_in style n config)) x.pins)) }))
 cell_carries style n config k i x id ready at names on spared =
@@ -182,7 +183,7 @@ cell_carries style n config k i x id ready at names on spared =
     ]
     ))
 
-cell_by : (style : Style) (n : Netlist) (config : Config) (k i : ℕ) (x : Instance) (o : Option CellId) → IsReady n config → slice_get n.instances i ≡ Some x → scan_cell_in n.library x.cell ≡ o → is_some o ≡ true → is_scanned (judged n config i) ≡ true → Each (Spares (frame style n config) k) (made_in style n config) →
+cell_by : (style : Style) (n : Netlist) (config : Config) (k i : ℕ) (x : Instance) (o : Option CellId) → IsReady n config → slice_get n.instances i ≡ Some x → scan_cell_in n.library x.cell ≡ o → is_some o ≡ true → is_scanned (judged n config i) ≡ true → AllByRecursion (Spares (frame style n config) k) (made_in style n config) →
     Carries (moved (gap_in style n config)) k (driven_by n.library i x) (driven_by n.library i (joined_at (made_in style n config) i (as_scan_cell n.library (gap_in style n config) x o)))
 cell_by style n config k i x None ready at names some on spared = absurd cc
 cell_by style n config k i x (Some id) ready at names some on spared = cell_carries style n config k i x id ready at names on spared
@@ -197,7 +198,7 @@ other_carries style n config k i x ready off =
     (ap (λ (ps : List Signal). driven_by n.library i (record y { pins = ps })) (none_joined (IsChainPin n config) (made_in style n config) i y.pins (λ p q. true_false (is_scanned (judged n config i)) q.scanned off) (parts_on style n config ready.range))
     ∙ moved_instance_drives n.library gap i x)
 
-now_by : (style : Style) (n : Netlist) (config : Config) (k i : ℕ) (x : Instance) (b : Bool) → IsReady n config → slice_get n.instances i ≡ Some x → is_scanned (judged n config i) ≡ b → Each (Spares (frame style n config) k) (made_in style n config) →
+now_by : (style : Style) (n : Netlist) (config : Config) (k i : ℕ) (x : Instance) (b : Bool) → IsReady n config → slice_get n.instances i ≡ Some x → is_scanned (judged n config i) ≡ b → AllByRecursion (Spares (frame style n config) k) (made_in style n config) →
     Carries (moved (gap_in style n config)) k (driven_by n.library i x) (driven_by n.library i (joined_at (made_in style n config) i (framed_instance n.library (gap_in style n config) b x)))
 now_by style n config k i x false ready at is spared = other_carries style n config k i x ready is
 now_by style n config k i x true ready at is spared = cell_by style n config k i x (scan_cell_in n.library x.cell) ready at refl (scanned_names n config i x at is) is spared
@@ -211,7 +212,7 @@ there_by n i (Some x) at some = slice_get_within n.instances i x at
 pub scanned_there : (n : Netlist) (config : Config) (i : ℕ) → is_scanned (judged n config i) ≡ true → i < length n.instances
 scanned_there n config i on = there_by n i (slice_get n.instances i) refl (scans_of n config i on)
 
-early : (n : Netlist) (config : Config) (count : ℕ) (parts : List Part) → count ≡ length n.instances → Each (OnChains n config) parts → Each (Early count) parts
+early : (n : Netlist) (config : Config) (count : ℕ) (parts : List Part) → count ≡ length n.instances → AllByRecursion (OnChains n config) parts → AllByRecursion (Early count) parts
 early n config count [] is h = tt
 early n config count (parts.ANet ∷ more) is h = (tt, early n config count more is h.1)
 early n config count (parts.AnInstance cell pins ∷ more) is h = (tt, early n config count more is h.1)
@@ -282,7 +283,7 @@ all_is style n config ready =
 
 -- the parts that are made leave the nets of the design alone
 abbrev pub AreSpared : Style → Netlist → Config → Type 0
-AreSpared style n config = (net : ℕ) → net < length n.nets → Each (Spares (frame style n config) (moved (gap_in style n config) net)) (made_in style n config)
+AreSpared style n config = (net : ℕ) → net < length n.nets → AllByRecursion (Spares (frame style n config) (moved (gap_in style n config) net)) (made_in style n config)
 
 all_carry : (style : Style) (n : Netlist) (config : Config) (net : ℕ) → IsReady n config → AreSpared style n config → net < length n.nets → Carries (moved (gap_in style n config)) (moved (gap_in style n config) net) (all_driven n) (all_driven (scanned style n config))
 all_carry style n config net ready spared less =

@@ -6,7 +6,7 @@ use Rattle.std.proofs.lemmas.Bool.{eqb-true, eq-eqb}
 use Rattle.std.proofs.lemmas.Bool.Decides.{nat_tests}
 use Rattle.std.proofs.lemmas.Option.{none-some, same_Some}
 use Rattle.dft_base.proofs.BitLemmas.{true_false}
-use Rattle.dft_base.proofs.ListLemmas.{get_left}
+use Rattle.dft_base.proofs.ListLemmas.{get_left, all_append}
 use Rattle.dft_netlist.specs.declared.ids.NetId.{NetId}
 use Rattle.dft_netlist.specs.declared.instance.Signal.{Signal}
 use Rattle.dft_netlist.specs.declared.instance.Signal.TheVariants.{Net, Constant, Unconnected}
@@ -16,28 +16,21 @@ use Rattle.dft_parts.specs.Recipes.{Start, Recipe, pure, ◌>>=◌, behind, each
 
 -- ---- what holds of each part of a recipe
 
-abbrev pub Each : (Part → Type 0) → List Part → Type 0
-Each P parts = AllByRecursion P parts
-
--- of the parts of a recipe, wherever it begins
+-- wherever it begins
 abbrev pub Holds : {A : Type 0} → (Part → Type 0) → Recipe A → Type 0
-Holds P r = (at : Start) → Each P (r at).parts
-
-each_append : (P : Part → Type 0) (xs ys : List Part) → Each P xs → Each P ys → Each P (xs ++ ys)
-each_append P [] ys h k = k
-each_append P (x ∷ xs) ys h k = (h.0, each_append P xs ys h.1 k)
+Holds P r = (at : Start) → AllByRecursion P (r at).parts
 
 pub holds_pure : {A : Type 0} (P : Part → Type 0) (a : A) → Holds P (pure a)
 holds_pure P a at = tt
 
 pub holds_bind : {A B : Type 0} (P : Part → Type 0) (r : Recipe A) (f : A → Recipe B) → Holds P r → ((a : A) → Holds P (f a)) → Holds P (r >>= f)
-holds_bind P r f h k at = each_append P (r at).parts (f (r at).value (behind at (r at).parts)).parts (h at) (k (r at).value (behind at (r at).parts))
+holds_bind P r f h k at = all_append P (r at).parts (f (r at).value (behind at (r at).parts)).parts (h at) (k (r at).value (behind at (r at).parts))
 
 pub holds_each : {X : Type 0} (P : Part → Type 0) (f : X → Recipe (Unit {0})) (xs : List X) → ((k : ℕ) (x : X) → slice_get xs k ≡ Some x → Holds P (f x)) → Holds P (each f xs)
 unfolding each
 holds_each P f [] h at = tt
 holds_each P f (x ∷ xs) h at =
-    each_append P (f x at).parts (each f xs (behind at (f x at).parts)).parts (h 0 x refl at) (holds_each P f xs (λ k y there. h (suc k) y there) (behind at (f x at).parts))
+    all_append P (f x at).parts (each f xs (behind at (f x at).parts)).parts (h 0 x refl at) (holds_each P f xs (λ k y there. h (suc k) y there) (behind at (f x at).parts))
 
 pub holds_collect : {X A : Type 0} (P : Part → Type 0) (f : X → Recipe A) (xs : List X) → ((k : ℕ) (x : X) → slice_get xs k ≡ Some x → Holds P (f x)) → Holds P (collect f xs)
 unfolding collect
@@ -45,7 +38,7 @@ holds_collect P f [] h at = tt
 holds_collect P f (x ∷ xs) h at =
     let first = (f x at).parts in
     let later = (collect f xs (behind at first)).parts in
-    each_append P first (later ++ []) (h 0 x refl at) (each_append P later [] (holds_collect P f xs (λ k y there. h (suc k) y there) (behind at first)) tt)
+    all_append P first (later ++ []) (h 0 x refl at) (all_append P later [] (holds_collect P f xs (λ k y there. h (suc k) y there) (behind at first)) tt)
 
 -- ---- pins of one instance
 
@@ -126,7 +119,7 @@ kept_by Q parts i pins p j pin net true is q more = elim (one_joined pin net pin
   | inr it ↦ inr (net, subst (Q i) it.0 (subst (λ k. Q k pin) (eqb-true j i is) q), it.1, stays_joined parts i (pin_joined pin net pins) p net it.2)
 ]
 
-pub pin_kept : (Q : ℕ → ℕ → Type 0) (parts : List Part) (i : ℕ) (pins : List Signal) (p : ℕ) → Each (JoinsAt Q) parts → IsKeptOr (Q i p) (slice_get pins p) (slice_get (joined_in parts i pins) p)
+pub pin_kept : (Q : ℕ → ℕ → Type 0) (parts : List Part) (i : ℕ) (pins : List Signal) (p : ℕ) → AllByRecursion (JoinsAt Q) parts → IsKeptOr (Q i p) (slice_get pins p) (slice_get (joined_in parts i pins) p)
 pin_kept Q [] i pins p h = inl refl
 pin_kept Q (ANet ∷ parts) i pins p h = pin_kept Q parts i pins p h.1
 pin_kept Q (AnInstance cell its ∷ parts) i pins p h = pin_kept Q parts i pins p h.1
@@ -137,7 +130,7 @@ none_by : (Q : ℕ → ℕ → Type 0) (i : ℕ) (pins : List Signal) (j pin : �
 none_by Q i pins j pin net false is q none = refl
 none_by Q i pins j pin net true is q none = absurd (none pin (subst (λ k. Q k pin) (eqb-true j i is) q))
 
-pub none_joined : (Q : ℕ → ℕ → Type 0) (parts : List Part) (i : ℕ) (pins : List Signal) → ((p : ℕ) → Q i p → ⊥) → Each (JoinsAt Q) parts → joined_in parts i pins ≡ pins
+pub none_joined : (Q : ℕ → ℕ → Type 0) (parts : List Part) (i : ℕ) (pins : List Signal) → ((p : ℕ) → Q i p → ⊥) → AllByRecursion (JoinsAt Q) parts → joined_in parts i pins ≡ pins
 none_joined Q [] i pins none h = refl
 none_joined Q (ANet ∷ parts) i pins none h = none_joined Q parts i pins none h.1
 none_joined Q (AnInstance cell its ∷ parts) i pins none h = none_joined Q parts i pins none h.1

@@ -1,7 +1,7 @@
 -- A scanned netlist keeps its design.
 use Rattle.std.proofs.Common.{ℕ, zero, suc, ◌+◌, ◌≡◌, ◌≤◌, ◌⊎◌, inl, inr, Bool, true, false, List, [], ◌∷◌, ◌++◌, length, map, take, drop, Option, None, Some, is_some, option_map, option_and_then, find, slice_get, refl, sym, subst, ap, arith, ◌∙◌, append_assoc}
 use Rattle.std.specs.Prelude.{if◌then◌else◌}
-use Rattle.std.specs.List.{range_with_len}
+use Rattle.std.specs.List.{range_with_len, AllByRecursion}
 use Rattle.std.proofs.lemmas.List.{length-map}
 use Rattle.std.proofs.lemmas.Option.{none-some, same_Some}
 use Rattle.dft_base.specs.Lexing.{Text}
@@ -48,7 +48,7 @@ use Rattle.dft_insert.specs.Scanned.{framed}
 use Rattle.dft_insert.specs.Statements.{scanned, made_in, KeepsDesign, AddsInOrder}
 use Rattle.dft_insert.proofs.Chains.{IsChainPin, OnChains, parts_on}
 use Rattle.dft_insert.proofs.Frames.{framed_width, scan_pair}
-use Rattle.dft_insert.proofs.Joins.{Each, joined_in, instance_stays, pin_kept, none_joined, joined_width}
+use Rattle.dft_insert.proofs.Joins.{joined_in, instance_stays, pin_kept, none_joined, joined_width}
 
 -- ---- a role's pin by its number
 
@@ -233,7 +233,7 @@ unmoved gap (Some (Constant bit)) e = absurd cc
 unmoved gap (Some Unconnected) e = refl
 
 -- what is joined at the pin of a role, by its number
-joined_by : (n : Netlist) (config : Config) (i : ℕ) (gap : Gap) (r : Role) (roles : List Role) (pins : List Signal) (parts : List Part) (o : Option ℕ) (before : Option Signal) → roles ≡ scan_roles n (record { 0 = i }) → is_scan_role r ≡ false → Each (OnChains n config) parts →
+joined_by : (n : Netlist) (config : Config) (i : ℕ) (gap : Gap) (r : Role) (roles : List Role) (pins : List Signal) (parts : List Part) (o : Option ℕ) (before : Option Signal) → roles ≡ scan_roles n (record { 0 = i }) → is_scan_role r ≡ false → AllByRecursion (OnChains n config) parts →
     number_of (same_role r) 0 roles ≡ o → signal_at pins o ≡ option_map (moved_signal gap) before → PinKept gap r before (signal_at (joined_in parts i pins) o)
 joined_by n config i gap r roles pins parts None before its off each is same = inl same
 joined_by n config i gap r roles pins parts (Some p) before its off each is same = elim (pin_kept (IsChainPin n config) parts i pins p each) [
@@ -250,7 +250,7 @@ joined_by n config i gap r roles pins parts (Some p) before its off each is same
 ]
 
 -- a scan cell in place of a flip-flop, when the parts are made
-scan_cell_kept : (n : Netlist) (config : Config) (gap : Gap) (i : ℕ) (x : Instance) (id : CellId) (parts : List Part) → scan_cell_in n.library x.cell ≡ Some id → slice_get n.instances i ≡ Some x → IsReady n config → Each (OnChains n config) parts →
+scan_cell_kept : (n : Netlist) (config : Config) (gap : Gap) (i : ℕ) (x : Instance) (id : CellId) (parts : List Part) → scan_cell_in n.library x.cell ≡ Some id → slice_get n.instances i ≡ Some x → IsReady n config → AllByRecursion (OnChains n config) parts →
     IsScanCellFor n gap x (record {
       name = x.name;
       cell = Library id;
@@ -295,7 +295,7 @@ module _ (style : Style) (n : Netlist) (config : Config) (ready : IsReady n conf
   abbrev gap : Gap
   gap = gap_in style n config
 
-  joins : Each (OnChains n config) parts
+  joins : AllByRecursion (OnChains n config) parts
   joins = parts_on style n config ready.range
 
   -- an instance of the design in the scanned netlist

@@ -3,6 +3,7 @@ use Rattle.std.proofs.Common.{ℕ, zero, suc, ◌+◌, ◌≡◌, ◌==◌, ◌<
 use Rattle.std.specs.Prelude.{slice_index_or, if◌then◌else◌}
 use Rattle.std.proofs.lemmas.Bool.{eqb-true, eq-eqb}
 use Rattle.std.proofs.lemmas.Bool.Decides.{nat_tests}
+use Rattle.std.specs.List.{AllByRecursion}
 use Rattle.dft_base.proofs.NumberLemmas.{less_apart}
 use Rattle.dft_cells.specs.declared.kind.Kind.{Kind}
 use Rattle.dft_cells.specs.declared.kind.Kind.TheVariants.{Dff, Dffr, Dffs, Sdff, Sdffr, Sdffs}
@@ -21,7 +22,7 @@ use Rattle.dft_scan_frame.specs.Moves.{map_from, Gap, moved, moved_signal}
 use Rattle.dft_scan_frame.proofs.Mergings.{Merges, moved_driver, moved_driven, append_merges, all_kept, all_added, NoneAt}
 use Rattle.dft_scan_frame.proofs.ScanPairs.{ScanPair, Plain, PlainBoth, Resets, ResetsBoth, Sets, SetsBoth, ListOf3, ListOf4, ListOf5, three, four, five}
 use Rattle.dft_scan_frame.proofs.Tabled.{map_from_same}
-use Rattle.dft_insert.proofs.Joins.{Each, joined_in, stays_joined, joined_if, one_joined}
+use Rattle.dft_insert.proofs.Joins.{joined_in, stays_joined, joined_if, one_joined}
 
 -- ---- the instances of a netlist that grew
 
@@ -67,7 +68,7 @@ same_from i [] = refl
 same_from i (x ∷ xs) = ap (λ (ys : List Instance). x ∷ ys) (same_from (suc i) xs)
 
 -- the first instances, with the pins that parts join, and behind them the made ones
-pub instances_are : (s : Making) (parts : List Part) (xs ys : List Instance) → s.netlist.instances ≡ xs ++ ys → Each (Early (length xs)) parts → (with_parts s parts).netlist.instances ≡ map_from (joined_at parts) 0 xs ++ (ys ++ news s.made.instances parts)
+pub instances_are : (s : Making) (parts : List Part) (xs ys : List Instance) → s.netlist.instances ≡ xs ++ ys → AllByRecursion (Early (length xs)) parts → (with_parts s parts).netlist.instances ≡ map_from (joined_at parts) 0 xs ++ (ys ++ news s.made.instances parts)
 instances_are s [] xs ys is early = is ∙ ap (λ (zs : List Instance). zs ++ ys) (sym (same_from 0 xs)) ∙ ap (λ (zs : List Instance). map_from (joined_at []) 0 xs ++ zs) (sym (append-nil ys))
 instances_are s (ANet ∷ parts) xs ys is early = instances_are (with_part s ANet) parts xs ys is early.1
 instances_are s (AnInstance cell pins ∷ parts) xs ys is early =
@@ -77,7 +78,7 @@ instances_are s (AnInstance cell pins ∷ parts) xs ys is early =
 instances_are s (APin i pin net ∷ parts) xs ys is early =
     let less : i.0 < length xs = early.0 in
     instances_are (with_part s (APin i pin net)) parts (instance_joined i.0 pin net xs) ys (ap (instance_joined i.0 pin net) is ∙ joined_front i.0 pin net xs ys less)
-    (subst (λ k. Each (Early k) parts) (sym (joined_length i.0 pin net xs)) early.1)
+    (subst (λ k. AllByRecursion (Early k) parts) (sym (joined_length i.0 pin net xs)) early.1)
     ∙ ap (λ (zs : List Instance). zs ++ (ys ++ news s.made.instances parts)) (sym (joined_more i.0 pin net parts 0 i.0 xs (omega arith)))
 
 -- ---- pins, and the nets that they are joined to
@@ -99,7 +100,7 @@ kept_by Q parts i pins p j pin net true is q more = elim (one_joined pin net pin
   | inr it ↦ inr (net, subst (λ k. Q i k net) it.0 (subst (λ k. Q k pin net) (eqb-true j i is) q), it.1, stays_joined parts i (pin_joined pin net pins) p net it.2)
 ]
 
-pub pin_kept : (Q : ℕ → ℕ → NetId → Type 0) (parts : List Part) (i : ℕ) (pins : List Signal) (p : ℕ) → Each (JoinsWith Q) parts → IsKeptOr (Q i p) (slice_get pins p) (slice_get (joined_in parts i pins) p)
+pub pin_kept : (Q : ℕ → ℕ → NetId → Type 0) (parts : List Part) (i : ℕ) (pins : List Signal) (p : ℕ) → AllByRecursion (JoinsWith Q) parts → IsKeptOr (Q i p) (slice_get pins p) (slice_get (joined_in parts i pins) p)
 pin_kept Q [] i pins p h = inl refl
 pin_kept Q (ANet ∷ parts) i pins p h = pin_kept Q parts i pins p h.1
 pin_kept Q (AnInstance cell its ∷ parts) i pins p h = pin_kept Q parts i pins p h.1

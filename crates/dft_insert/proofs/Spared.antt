@@ -1,5 +1,6 @@
 -- Parts that drive a net nowhere.
 use Rattle.std.proofs.Common.{ℕ, suc, ◌+◌, ◌≡◌, ◌==◌, Bool, true, false, List, [], ◌∷◌, ◌++◌, Some, refl, arith}
+use Rattle.std.specs.List.{AllByRecursion}
 use Rattle.dft_cells.specs.declared.kind.Kind.{Kind}
 use Rattle.dft_cells.specs.declared.kind.Role.{Role}
 use Rattle.dft_cells.specs.declared.kind.Role.TheVariants.{Input, Clock, Din, Reset, Preset, ScanIn, ScanEnable, Output, Inverted}
@@ -15,7 +16,6 @@ use Rattle.dft_parts.specs.Parts.{Part, ANet, AnInstance, APin}
 use Rattle.dft_parts.specs.Single.{net_driven, nets_driven, times_in}
 use Rattle.dft_parts.proofs.Singles.{times_in-append, counted_first}
 use Rattle.dft_scan_frame.proofs.Mergings.{NoneAt}
-use Rattle.dft_insert.proofs.Joins.{Each}
 use Rattle.dft_insert.proofs.Merging.{news, JoinsWith, none_append, is_output_at}
 
 -- a part whose instance drives this net nowhere, and that joins it to no output pin
@@ -28,7 +28,7 @@ Spares n k (APin i pin net) = is_output_at (roles_at n i.0) pin ≡ true → (ne
 abbrev pub IsOther : Netlist → (k i pin : ℕ) → NetId → Type 0
 IsOther n k i pin net = is_output_at (roles_at n i) pin ≡ true → (net.0 == k) ≡ false
 
-pub others_joined : (n : Netlist) (k : ℕ) (parts : List Part) → Each (Spares n k) parts → Each (JoinsWith (IsOther n k)) parts
+pub others_joined : (n : Netlist) (k : ℕ) (parts : List Part) → AllByRecursion (Spares n k) parts → AllByRecursion (JoinsWith (IsOther n k)) parts
 others_joined n k [] h = tt
 others_joined n k (ANet ∷ parts) h = (tt, others_joined n k parts h.1)
 others_joined n k (AnInstance cell pins ∷ parts) h = (tt, others_joined n k parts h.1)
@@ -70,7 +70,7 @@ pins_none kind i inputs pin (r ∷ roles) (s ∷ signals) k h =
     (role_none r kind i inputs s k (omega (arith, both, h)))
     (pins_none kind i inputs (suc pin) roles signals k (omega (arith, both, h)))
 
-pub news_none : (n : Netlist) (k i number : ℕ) (parts : List Part) → Each (Spares n k) parts → NoneAt (driven_by_instances n.library i (news number parts)) k
+pub news_none : (n : Netlist) (k i number : ℕ) (parts : List Part) → AllByRecursion (Spares n k) parts → NoneAt (driven_by_instances n.library i (news number parts)) k
 news_none n k i number [] h = tt
 news_none n k i number (ANet ∷ parts) h = news_none n k i number parts h.1
 news_none n k i number (AnInstance cell pins ∷ parts) h =

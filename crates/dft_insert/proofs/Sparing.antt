@@ -1,6 +1,7 @@
 -- The parts that are made leave the nets of the design alone.
 use Rattle.std.proofs.Common.{ℕ, ◌+◌, ◌≡◌, ◌==◌, ◌<◌, ◌≤◌, ◌⊎◌, inl, inr, Bool, true, false, nat_lt, List, [], ◌∷◌, length, Option, None, Some, slice_get, refl, sym, ap, arith, ◌∙◌}
 use Rattle.std.specs.Prelude.{if◌then◌else◌}
+use Rattle.std.specs.List.{AllByRecursion}
 use Rattle.dft_cells.specs.declared.kind.Role.{Role}
 use Rattle.dft_netlist.specs.declared.ids.NetId.{NetId}
 use Rattle.dft_netlist.specs.Drivers.{shape_of}
@@ -19,7 +20,6 @@ use Rattle.dft_insert.specs.Frame.{frame}
 use Rattle.dft_insert.specs.Ports.{gap_in}
 use Rattle.dft_insert.specs.Statements.{made_in}
 use Rattle.dft_insert.proofs.Frames.{frame_nets}
-use Rattle.dft_insert.proofs.Joins.{Each}
 use Rattle.dft_insert.proofs.Claims.{claimed, claims}
 use Rattle.dft_insert.proofs.FrameRanks.{outs_start}
 use Rattle.dft_insert.proofs.MadeGood.{claims_none}
@@ -33,7 +33,7 @@ pin_spared : (o : Option Role) (net : NetId) (k : ℕ) → times_in (claimed o n
 pin_spared None net k h out = absurd cc
 pin_spared (Some role) net k h out = one_none net.0 k (net.0 == k) refl (sym (ap (λ b. times_in (if b then net.0 ∷ [] else []) k) out) ∙ h)
 
-pub parts_spared : (w : Netlist) (k : ℕ) (parts : List Part) → times_in (claims w parts) k ≡ 0 → Each (Spares w k) parts
+pub parts_spared : (w : Netlist) (k : ℕ) (parts : List Part) → times_in (claims w parts) k ≡ 0 → AllByRecursion (Spares w k) parts
 parts_spared w k [] h = tt
 parts_spared w k (ANet ∷ parts) h = (tt, parts_spared w k parts h)
 parts_spared w k (AnInstance cell pins ∷ parts) h =

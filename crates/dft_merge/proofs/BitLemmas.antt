@@ -6,12 +6,12 @@ use Rattle.std.proofs.lemmas.Bool.{eqb-true, or_parts}
 use Rattle.std.proofs.lemmas.Option.{same_Some}
 use Rattle.std.proofs.lemmas.List.{drop_all, drop_more, with_items_is}
 use Rattle.std.proofs.lemmas.List.Elements.{All-more, All-weaker, filter_agree}
+use Rattle.std.specs.List.{AllByRecursion}
 use Rattle.dft_base.specs.Solutions.{xor}
 use Rattle.dft_base.proofs.BitLemmas.{xor_same}
 use Rattle.dft_merge.specs.Rows.{or_else}
 use Rattle.dft_merge.specs.Placement.{bit_in, has_opposite, is_opposite, missing}
 use Rattle.dft_merge.specs.Tables.{AreBelow, IsNoted, IsTable, SameBits, bit_of, missing_by, opposes_by}
-use Rattle.dft_merge.proofs.EquationLemmas.{Each}
 
 -- ---- what holds of a list's bits
 
@@ -26,29 +26,29 @@ held_case number P g o k b true same here later is =
     subst (λ (m : ℕ). P m b) at (subst (P (number g.0)) bit here)
 held_case number P g o k b false other here later is = later is
 
-pub bit_held : {T : Type 0} (number : T → ℕ) (P : ℕ → Bool → Type 0) (given : List (T × Bool)) (k : ℕ) (b : Bool) → Each (Has number P) given → bit_in number given k ≡ Some b → P k b
+pub bit_held : {T : Type 0} (number : T → ℕ) (P : ℕ → Bool → Type 0) (given : List (T × Bool)) (k : ℕ) (b : Bool) → AllByRecursion (Has number P) given → bit_in number given k ≡ Some b → P k b
 bit_held number P [] k b each is = absurd cc
 bit_held number P (g ∷ more) k b each is = held_case number P g (bit_in number more k) k b (number g.0 == k) refl each.0 (bit_held number P more k b each.1) is
 
 covered_case : {T : Type 0} (number : T → ℕ) (P : ℕ → Bool → Type 0) (pattern : List (T × Bool)) (g : T × Bool) (more : List (T × Bool)) (new : List (T × Bool)) (o : Option Bool) → bit_in number pattern (number g.0) ≡ o →
-    (is_opposite o g.1 || has_opposite number pattern more) ≡ false → Each (Has number P) pattern → Each (Has number P) (cond (is_none o) (g ∷ new) new) →
-    (has_opposite number pattern more ≡ false → Each (Has number P) new → Each (Has number P) more) → P (number g.0) g.1 × Each (Has number P) more
+    (is_opposite o g.1 || has_opposite number pattern more) ≡ false → AllByRecursion (Has number P) pattern → AllByRecursion (Has number P) (cond (is_none o) (g ∷ new) new) →
+    (has_opposite number pattern more ≡ false → AllByRecursion (Has number P) new → AllByRecursion (Has number P) more) → P (number g.0) g.1 × AllByRecursion (Has number P) more
 covered_case number P pattern g more new None is none held each rest = (each.0, rest none each.1)
 covered_case number P pattern g more new (Some a) is none held each rest =
     let parts = or_parts (xor a g.1) (has_opposite number pattern more) none in
     (subst (P (number g.0)) (xor_same a g.1 parts.0) (bit_held number P pattern (number g.0) a held is), rest parts.1 each)
 
 -- what holds of a pattern's bits, and of those that a cube without opposite bits adds, holds of the cube's bits
-pub covered : {T : Type 0} (number : T → ℕ) (P : ℕ → Bool → Type 0) (pattern cube : List (T × Bool)) → has_opposite number pattern cube ≡ false → Each (Has number P) pattern → Each (Has number P) (missing number pattern cube) → Each (Has number P) cube
+pub covered : {T : Type 0} (number : T → ℕ) (P : ℕ → Bool → Type 0) (pattern cube : List (T × Bool)) → has_opposite number pattern cube ≡ false → AllByRecursion (Has number P) pattern → AllByRecursion (Has number P) (missing number pattern cube) → AllByRecursion (Has number P) cube
 covered number P pattern [] none held each = tt
 covered number P pattern (g ∷ more) none held each =
     covered_case number P pattern g more (missing number pattern more) (bit_in number pattern (number g.0)) refl none held each (λ other new. covered number P pattern more other held new)
 
-kept_case : {T : Type 0} (Q : T × Bool → Type 0) (g : T × Bool) (new : List (T × Bool)) (t : Bool) → Q g → Each Q new → Each Q (cond t (g ∷ new) new)
+kept_case : {T : Type 0} (Q : T × Bool → Type 0) (g : T × Bool) (new : List (T × Bool)) (t : Bool) → Q g → AllByRecursion Q new → AllByRecursion Q (cond t (g ∷ new) new)
 kept_case Q g new true here each = (here, each)
 kept_case Q g new false here each = each
 
-pub each_missing : {T : Type 0} (number : T → ℕ) (Q : T × Bool → Type 0) (pattern cube : List (T × Bool)) → Each Q cube → Each Q (missing number pattern cube)
+pub each_missing : {T : Type 0} (number : T → ℕ) (Q : T × Bool → Type 0) (pattern cube : List (T × Bool)) → AllByRecursion Q cube → AllByRecursion Q (missing number pattern cube)
 each_missing number Q pattern [] each = tt
 each_missing number Q pattern (g ∷ more) each = kept_case Q g (missing number pattern more) (is_none (bit_in number pattern (number g.0))) each.0 (each_missing number Q pattern more each.1)
 

@@ -3,6 +3,8 @@ use Rattle.std.proofs.Common.{ℕ, zero, suc, Bool, true, false, cond, List, [],
 use Rattle.std.specs.Prelude.{IsSome, option_and_then}
 use Rattle.std.proofs.lemmas.Bool.{cases_eq, eq-eqb, eqb-true}
 use Rattle.std.proofs.lemmas.Option.{none-some, same_Some}
+use Rattle.std.specs.List.{AllByRecursion}
+use Rattle.dft_base.proofs.ListLemmas.{all_append}
 use Rattle.dft_netlist.specs.declared.ids.InstanceId.{InstanceId}
 use Rattle.dft_netlist.specs.declared.ids.NetId.{NetId}
 use Rattle.dft_netlist.specs.Netlist.{Netlist}
@@ -21,7 +23,6 @@ use Rattle.dft_merge.specs.Rows.{CellRows, or_else}
 use Rattle.dft_merge.specs.Placement.{Places, PlacesAll, begun, bit_in, cell_number, joined, missing, port_number}
 use Rattle.dft_merge.specs.Staying.{IsMerged, PatternsAreSound}
 use Rattle.dft_merge.proofs.BitLemmas.{bit_held, bit_in-append, each_missing}
-use Rattle.dft_merge.proofs.EquationLemmas.{Each, each_join}
 use Rattle.dft_merge.proofs.SlotLemmas.{push_each}
 use Rattle.dft_merge.proofs.StayLemmas.{HasEntry, own_entries}
 
@@ -129,18 +130,18 @@ once_joined number pattern cube one other =
 abbrev Holds : {A : Type 0} → (A → Type 0) → List A → Type 0
 Holds P xs = (k : ℕ) (a : _) → slice_get xs k ≡ Some a → P a
 
-each_of : {A : Type 0} (P : A → Type 0) (xs : List A) → Holds P xs → Each P xs
+each_of : {A : Type 0} (P : A → Type 0) (xs : List A) → Holds P xs → AllByRecursion P xs
 each_of P [] all = tt
 each_of P (x ∷ xs) all = (all zero x refl, each_of P xs (λ k a at. all (suc k) a at))
 
-of_each : {A : Type 0} (P : A → Type 0) (xs : List A) → Each P xs → Holds P xs
+of_each : {A : Type 0} (P : A → Type 0) (xs : List A) → AllByRecursion P xs → Holds P xs
 of_each P [] each k a at = absurd (none-some a at)
 of_each P (x ∷ xs) each zero a at = subst P (same_Some x a at) each.0
 of_each P (x ∷ xs) each (suc k) a at = of_each P xs each.1 k a at
 
 holds_joined : {T : Type 0} (number : T → ℕ) (P : T × Bool → Type 0) (pattern cube : List (T × Bool)) → Holds P pattern → Holds P cube → Holds P (pattern ++ missing number pattern cube)
 holds_joined number P pattern cube one other =
-    of_each P (pattern ++ missing number pattern cube) (each_join P pattern (missing number pattern cube) (each_of P pattern one) (each_missing number P pattern cube (each_of P cube other)))
+    of_each P (pattern ++ missing number pattern cube) (all_append P pattern (missing number pattern cube) (each_of P pattern one) (each_missing number P pattern cube (each_of P cube other)))
 
 -- ---- patterns
 

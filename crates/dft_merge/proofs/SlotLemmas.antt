@@ -6,7 +6,9 @@ use Rattle.std.specs.Prelude.{unwrap_or}
 use Rattle.std.proofs.lemmas.Bool.{MatchBool-at_false, MatchBool-at_true, both_ways, cases_eq, cases_lt, or_from, or_parts}
 use Rattle.std.proofs.lemmas.Option.{same_Some, slice_get_cases, slice_get_read, slice_get_within}
 use Rattle.std.proofs.lemmas.List.{drop_all, drop_more, length_push, length-drop, set_at, set-get_or, take_more}
+use Rattle.std.specs.List.{AllByRecursion}
 use Rattle.dft_base.specs.Solutions.{Equation, Solves, IsSolvable, sum_over}
+use Rattle.dft_base.proofs.ListLemmas.{all_append, all_front, all_back}
 use Rattle.dft_netlist.specs.declared.ids.InstanceId.{InstanceId}
 use Rattle.dft_netlist.proofs.DriveLemmas.{get_set_same, get_set_other}
 use Rattle.dft_gf2.specs.Elimination.{Elimination}
@@ -21,7 +23,7 @@ use Rattle.dft_merge.specs.Systems.{AreWide, IsConflict, IsRefused, IsRun, IsSys
 use Rattle.dft_merge.specs.Tables.{IsTable, opposes_by}
 use Rattle.dft_merge.proofs.BitLemmas.{covered, each_missing, filled, opposes_same}
 use Rattle.dft_merge.proofs.SystemLemmas.{run_more, run_refused, run_system, system_solvable, system_taken}
-use Rattle.dft_merge.proofs.EquationLemmas.{Each, Meets, each_join, each_left, each_right, meets_solves, solves_join, solves_left, solves_meets, solves_right}
+use Rattle.dft_merge.proofs.EquationLemmas.{Meets, meets_solves, solves_join, solves_left, solves_meets, solves_right}
 
 -- ---- a pattern with a cube
 
@@ -30,19 +32,19 @@ pub joined_there : (n : ℕ) (row : CellRows) (x : ℕ → Bool) (pattern : Merg
     Solves n x (equations_of row (joined pattern cube).cells) → Solves n x (equations_of row pattern.cells ++ equations_of row cube.cells)
 joined_there n row x pattern cube none all =
     let P : ℕ → Bool → Type 0 = λ k b. sum_over n (unwrap_or (row (record { 0 = k })) []) x ≡ b in
-    let each : Each (Meets n row x) (pattern.cells ++ missing cell_number pattern.cells cube.cells) = solves_meets n row x (joined pattern cube).cells all in
-    let front : Each (Meets n row x) pattern.cells = each_left (Meets n row x) pattern.cells (missing cell_number pattern.cells cube.cells) each in
-    let back : Each (Meets n row x) (missing cell_number pattern.cells cube.cells) = each_right (Meets n row x) pattern.cells (missing cell_number pattern.cells cube.cells) each in
+    let each : AllByRecursion (Meets n row x) (pattern.cells ++ missing cell_number pattern.cells cube.cells) = solves_meets n row x (joined pattern cube).cells all in
+    let front : AllByRecursion (Meets n row x) pattern.cells = all_front (Meets n row x) pattern.cells (missing cell_number pattern.cells cube.cells) each in
+    let back : AllByRecursion (Meets n row x) (missing cell_number pattern.cells cube.cells) = all_back (Meets n row x) pattern.cells (missing cell_number pattern.cells cube.cells) each in
     solves_join n x (equations_of row pattern.cells) (equations_of row cube.cells) (meets_solves n row x pattern.cells front)
     (meets_solves n row x cube.cells (covered cell_number P pattern.cells cube.cells none front back))
 
 pub joined_back : (n : ℕ) (row : CellRows) (x : ℕ → Bool) (pattern : Merged) (cube : Cube) →
     Solves n x (equations_of row pattern.cells ++ equations_of row cube.cells) → Solves n x (equations_of row (joined pattern cube).cells)
 joined_back n row x pattern cube all =
-    let front : Each (Meets n row x) pattern.cells = solves_meets n row x pattern.cells (solves_left n x (equations_of row pattern.cells) (equations_of row cube.cells) all) in
-    let given : Each (Meets n row x) cube.cells = solves_meets n row x cube.cells (solves_right n x (equations_of row pattern.cells) (equations_of row cube.cells) all) in
+    let front : AllByRecursion (Meets n row x) pattern.cells = solves_meets n row x pattern.cells (solves_left n x (equations_of row pattern.cells) (equations_of row cube.cells) all) in
+    let given : AllByRecursion (Meets n row x) cube.cells = solves_meets n row x cube.cells (solves_right n x (equations_of row pattern.cells) (equations_of row cube.cells) all) in
     meets_solves n row x (joined pattern cube).cells
-    (each_join (Meets n row x) pattern.cells (missing cell_number pattern.cells cube.cells) front (each_missing cell_number (Meets n row x) pattern.cells cube.cells given))
+    (all_append (Meets n row x) pattern.cells (missing cell_number pattern.cells cube.cells) front (each_missing cell_number (Meets n row x) pattern.cells cube.cells given))
 
 -- a system of both is one of the pattern with what the cube adds
 pub system_joined : (n : ℕ) (row : CellRows) (pattern : Merged) (cube : Cube) (s : Elimination) → has_opposite cell_number pattern.cells cube.cells ≡ false →
@@ -64,11 +66,11 @@ scanned_case : (row : CellRows) (g : InstanceId × Bool) (cells : List (Instance
 scanned_case row g cells true is none = absurd (let f : ⊥ = cc in f)
 scanned_case row g cells false is none = (is, none)
 
-pub each_scanned : (row : CellRows) (cells : List (InstanceId × Bool)) → first_unscanned row cells ≡ None → Each (IsThere row) cells
+pub each_scanned : (row : CellRows) (cells : List (InstanceId × Bool)) → first_unscanned row cells ≡ None → AllByRecursion (IsThere row) cells
 each_scanned row [] none = tt
 each_scanned row (g ∷ cells) none = let here = scanned_case row g cells (is_none (row g.0)) refl none in (here.0, each_scanned row cells here.1)
 
-pub scanned_each : (row : CellRows) (cells : List (InstanceId × Bool)) → Each (IsThere row) cells → first_unscanned row cells ≡ None
+pub scanned_each : (row : CellRows) (cells : List (InstanceId × Bool)) → AllByRecursion (IsThere row) cells → first_unscanned row cells ≡ None
 scanned_each row [] each = refl
 scanned_each row (g ∷ cells) each = ap (λ (t : Bool). cond t (Some g.0) (first_unscanned row cells)) each.0 ∙ scanned_each row cells each.1
 
@@ -77,7 +79,7 @@ scanned_each row (g ∷ cells) each = ap (λ (t : Bool). cond t (Some g.0) (firs
 pub loadable_joined : (n : ℕ) (row : CellRows) (pattern : Merged) (cube : Cube) → IsLoadable n row pattern → first_unscanned row cube.cells ≡ None → Fits n row pattern cube → IsLoadable n row (joined pattern cube)
 loadable_joined n row pattern cube is scanned fits = record {
   scanned = scanned_each row (joined pattern cube).cells
-      (each_join (IsThere row) pattern.cells (missing cell_number pattern.cells cube.cells) (each_scanned row pattern.cells is.scanned)
+      (all_append (IsThere row) pattern.cells (missing cell_number pattern.cells cube.cells) (each_scanned row pattern.cells is.scanned)
       (each_missing cell_number (IsThere row) pattern.cells cube.cells (each_scanned row cube.cells scanned)));
   solvable = (fits.solvable.0, joined_back n row fits.solvable.0 pattern cube fits.solvable.1);
 }
@@ -225,7 +227,7 @@ opened n row window cube cells ports system old mid patterns now new some few ar
 
 -- ---- loops over cells
 
-there_at : (row : CellRows) (cells : List (InstanceId × Bool)) (i : ℕ) (x : InstanceId × Bool) → Each (IsThere row) cells → i < length cells → x ≡ get_or cells i x → IsThere row x
+there_at : (row : CellRows) (cells : List (InstanceId × Bool)) (i : ℕ) (x : InstanceId × Bool) → AllByRecursion (IsThere row) cells → i < length cells → x ≡ get_or cells i x → IsThere row x
 there_at row [] i x each less is = absurd (omega arith)
 there_at row (g ∷ cells) zero x each less is = subst (IsThere row) (sym is) each.0
 there_at row (g ∷ cells) (suc i) x each less is = there_at row cells i x each.1 (omega arith) is
@@ -275,12 +277,12 @@ run_all n row old now cells i past run = subst (IsRun n old (equations_of row ce
 
 -- ---- a system of cells that are added again
 
-each_take : (P : InstanceId × Bool → Type 0) (i : ℕ) (xs : List (InstanceId × Bool)) → Each P xs → Each P (take i xs)
+each_take : (P : InstanceId × Bool → Type 0) (i : ℕ) (xs : List (InstanceId × Bool)) → AllByRecursion P xs → AllByRecursion P (take i xs)
 each_take P zero xs each = tt
 each_take P (suc i) [] each = tt
 each_take P (suc i) (x ∷ xs) each = (each.0, each_take P i xs each.1)
 
-each_at : (P : InstanceId × Bool → Type 0) (xs : List (InstanceId × Bool)) (i : ℕ) (x : InstanceId × Bool) → Each P xs → i < length xs → x ≡ get_or xs i x → P x
+each_at : (P : InstanceId × Bool → Type 0) (xs : List (InstanceId × Bool)) (i : ℕ) (x : InstanceId × Bool) → AllByRecursion P xs → i < length xs → x ≡ get_or xs i x → P x
 each_at P [] i x each less is = absurd (omega arith)
 each_at P (y ∷ xs) zero x each less is = subst P (sym is) each.0
 each_at P (y ∷ xs) (suc i) x each less is = each_at P xs i x each.1 (omega arith) is
@@ -298,21 +300,21 @@ taken_again n row cells i x old new less is size columns before taken =
       kept = now.kept;
       there = λ y all.
           (let here : Solves n y (es ++ e ∷ []) = now.there y all in
-          let front : Each (Meets n row y) (take i cells) = solves_meets n row y (take i cells) (solves_left n y es (e ∷ []) here) in
+          let front : AllByRecursion (Meets n row y) (take i cells) = solves_meets n row y (take i cells) (solves_left n y es (e ∷ []) here) in
           let last : Meets n row y x = solves_right n y es (e ∷ []) here 0 (omega arith) in
           subst (λ (l : List (InstanceId × Bool)). Solves n y (equations_of row l)) (sym split)
-          (meets_solves n row y (take i cells ++ x ∷ []) (each_join (Meets n row y) (take i cells) (x ∷ []) front (last, tt))));
+          (meets_solves n row y (take i cells ++ x ∷ []) (all_append (Meets n row y) (take i cells) (x ∷ []) front (last, tt))));
       back = λ y all.
-          (let each : Each (Meets n row y) (take i cells ++ x ∷ []) = solves_meets n row y (take i cells ++ x ∷ []) (subst (λ (l : List (InstanceId × Bool)). Solves n y (equations_of row l)) split all) in
-          let front : Solves n y es = meets_solves n row y (take i cells) (each_left (Meets n row y) (take i cells) (x ∷ []) each) in
-          let last : Each (Meets n row y) (x ∷ []) = each_right (Meets n row y) (take i cells) (x ∷ []) each in
+          (let each : AllByRecursion (Meets n row y) (take i cells ++ x ∷ []) = solves_meets n row y (take i cells ++ x ∷ []) (subst (λ (l : List (InstanceId × Bool)). Solves n y (equations_of row l)) split all) in
+          let front : Solves n y es = meets_solves n row y (take i cells) (all_front (Meets n row y) (take i cells) (x ∷ []) each) in
+          let last : AllByRecursion (Meets n row y) (x ∷ []) = all_back (Meets n row y) (take i cells) (x ∷ []) each in
           now.back y (solves_push n y es e front last.0));
     }
 
 never_again : (n : ℕ) (row : CellRows) (cells : List (InstanceId × Bool)) (i : ℕ) (x : InstanceId × Bool) (old new : Elimination) → i < length cells → x ≡ get_or cells i x → IsSolvable n (equations_of row cells) →
     IsSystem n (equations_of row (take i cells)) old → IsConflict n (equation_of row x.0 x.1 0) old new → ⊥
 never_again n row cells i x old new less is solved before conflict =
-    let each : Each (Meets n row solved.0) cells = solves_meets n row solved.0 cells solved.1 in
+    let each : AllByRecursion (Meets n row solved.0) cells = solves_meets n row solved.0 cells solved.1 in
     conflict.none solved.0 (before.back solved.0 (meets_solves n row solved.0 (take i cells) (each_take (Meets n row solved.0) i cells each))) (each_at (Meets n row solved.0) cells i x each less is)
 
 -- one cell more, whose equation cannot be refused

@@ -2,9 +2,10 @@
 use Rattle.std.proofs.Common.{ℕ, zero, suc, Bool, true, false, cond, List, [], ◌∷◌, ◌≡◌, ◌<◌, ◌&&◌, ◌==◌, refl, sym, ap, arith, ◌∙◌, ◌⊎◌, inl, inr}
 use Rattle.std.specs.Prelude.{not}
 use Rattle.std.proofs.lemmas.Bool.{and_from, and_parts, cases_Bool, cases_eq, eq-eqb, ne_eqb, false≢true}
+use Rattle.std.specs.List.{AllByRecursion}
 use Rattle.dft_base.specs.Solutions.{xor, bit_at, sum_over, Equation, Holds, IsSolvable}
 use Rattle.dft_base.proofs.SumLemmas.{sum_same}
-use Rattle.dft_merge.proofs.EquationLemmas.{Each, each_solves, solves_each}
+use Rattle.dft_merge.proofs.EquationLemmas.{each_solves, solves_each}
 
 -- ---- tests of tables
 
@@ -64,11 +65,11 @@ abbrev all_hold : ℕ → (ℕ → Bool) → List Equation → Bool
 all_hold n x [] = true
 all_hold n x (e ∷ es) = is_same (sum_over n e.row x) e.bit && all_hold n x es
 
-held : (n : ℕ) (x : ℕ → Bool) (es : List Equation) → all_hold n x es ≡ true → Each (Holds n x) es
+held : (n : ℕ) (x : ℕ → Bool) (es : List Equation) → all_hold n x es ≡ true → AllByRecursion (Holds n x) es
 held n x [] told = tt
 held n x (e ∷ es) told = let parts = and_parts (is_same (sum_over n e.row x) e.bit) (all_hold n x es) told in (same_bits (sum_over n e.row x) e.bit parts.0, held n x es parts.1)
 
-holding : (n : ℕ) (x : ℕ → Bool) (es : List Equation) → Each (Holds n x) es → all_hold n x es ≡ true
+holding : (n : ℕ) (x : ℕ → Bool) (es : List Equation) → AllByRecursion (Holds n x) es → all_hold n x es ≡ true
 holding n x [] each = refl
 holding n x (e ∷ es) each = and_from (is_same (sum_over n e.row x) e.bit) (all_hold n x es) (bits_same (sum_over n e.row x) e.bit each.0) (holding n x es each.1)
 

@@ -2,7 +2,8 @@
 use Rattle.std.proofs.Common.{ℕ, zero, suc, Bool, false, List, [], ◌∷◌, ◌++◌, ◌≡◌, refl, sym, ap, subst, ◌∙◌, inl, inr, Some, slice_get, slice_set}
 use Rattle.std.proofs.lemmas.Bool.{cases_eq}
 use Rattle.std.proofs.lemmas.Option.{none-some, same_Some}
-use Rattle.dft_base.proofs.ListLemmas.{get_left}
+use Rattle.std.specs.List.{AllByRecursion}
+use Rattle.dft_base.proofs.ListLemmas.{get_left, all_front, all_back}
 use Rattle.dft_netlist.specs.declared.ids.NetId.{NetId}
 use Rattle.dft_netlist.proofs.DriveLemmas.{get_set_same, get_set_other}
 use Rattle.dft_netlist.proofs.Places.{get_push}
@@ -14,7 +15,6 @@ use Rattle.dft_merge.specs.Rows.{CellRows}
 use Rattle.dft_merge.specs.Placement.{Places, PlacesAll, begun, cell_number, has_opposite, joined, missing, port_number}
 use Rattle.dft_merge.specs.Staying.{AllIn, CubesStay, IsIn}
 use Rattle.dft_merge.proofs.BitLemmas.{Has, covered}
-use Rattle.dft_merge.proofs.EquationLemmas.{Each, each_left, each_right}
 use Rattle.dft_merge.proofs.PlaceLemmas.{same_cell}
 
 -- ---- entries of a list
@@ -27,15 +27,15 @@ pub record HasEntry {T : Type 0} (number : T → ℕ) (all : List (T × Bool)) (
   pub is_number : number entry.0 ≡ k
   pub is_bit : entry.1 ≡ b
 
-later_entries : {T : Type 0} (number : T → ℕ) (x : T × Bool) (all these : List (T × Bool)) → Each (Has number (HasEntry number all)) these → Each (Has number (HasEntry number (x ∷ all))) these
+later_entries : {T : Type 0} (number : T → ℕ) (x : T × Bool) (all these : List (T × Bool)) → AllByRecursion (Has number (HasEntry number all)) these → AllByRecursion (Has number (HasEntry number (x ∷ all))) these
 later_entries number x all [] each = tt
 later_entries number x all (g ∷ these) each = let e = each.0 in (record { place = suc e.place; entry = e.entry; at = e.at; is_number = e.is_number; is_bit = e.is_bit }, later_entries number x all these each.1)
 
-pub own_entries : {T : Type 0} (number : T → ℕ) (all : List (T × Bool)) → Each (Has number (HasEntry number all)) all
+pub own_entries : {T : Type 0} (number : T → ℕ) (all : List (T × Bool)) → AllByRecursion (Has number (HasEntry number all)) all
 own_entries number [] = tt
 own_entries number (x ∷ all) = (record { place = zero; entry = x; at = refl; is_number = refl; is_bit = refl }, later_entries number x all all (own_entries number all))
 
-entries_in : {T : Type 0} (number : T → ℕ) (these all : List (T × Bool)) → ((a b : T) → number a ≡ number b → a ≡ b) → Each (Has number (HasEntry number all)) these → AllIn these all
+entries_in : {T : Type 0} (number : T → ℕ) (these all : List (T × Bool)) → ((a b : T) → number a ≡ number b → a ≡ b) → AllByRecursion (Has number (HasEntry number all)) these → AllIn these all
 entries_in number [] all one each k given at = absurd (none-some given at)
 entries_in {T = T} number (x ∷ these) all one each zero given at =
     let e = each.0 in
@@ -49,7 +49,7 @@ all_joined number pattern cube one none =
     let all = pattern ++ missing number pattern cube in
     let each = own_entries number all in
     entries_in number cube all one
-    (covered number (HasEntry number all) pattern cube none (each_left (Has number (HasEntry number all)) pattern (missing number pattern cube) each) (each_right (Has number (HasEntry number all)) pattern (missing number pattern cube) each))
+    (covered number (HasEntry number all) pattern cube none (all_front (Has number (HasEntry number all)) pattern (missing number pattern cube) each) (all_back (Has number (HasEntry number all)) pattern (missing number pattern cube) each))
 
 all_front : {T : Type 0} (xs ys : List (T × Bool)) → AllIn xs (xs ++ ys)
 all_front xs ys k given at = (k, get_left xs ys k given at)

@@ -4,7 +4,7 @@ use Rattle.std.proofs.lemmas.Bool.{cases_lt, or_right}
 use Rattle.std.proofs.lemmas.List.{length-set, length-replicate, get_or_past}
 use Rattle.dft_base.proofs.ListLemmas.{none_marked}
 use Rattle.dft_base.proofs.SumLemmas.{and_false as and_with_false}
-use Rattle.dft_base.proofs.BitLemmas.{or_false, first_false}
+use Rattle.dft_base.proofs.BitLemmas.{or_false, first_false, or_swap, or_assoc}
 use Rattle.dft_patterns.specs.declared.act.Act.{Act}
 use Rattle.dft_patterns.specs.declared.act.Act.TheVariants.{Unset, Low, High, Pulse, ExpectLow, ExpectHigh, Ignore}
 use Rattle.dft_patterns.specs.declared.steadiness.Unsteady.{Unsteady}
@@ -60,16 +60,11 @@ flagged_each acts start now f k = flagged' acts start now k f (cases_lt k (lengt
 pub none_yet : (count : ℕ) (vectors : List (List Act)) → AreFlagged count vectors vectors (replicate count false)
 none_yet count vectors = record { len = length-replicate count false; each = λ k. ap (λ t. t || pulses vectors k) (none_marked count k) }
 
-or_swap : (p s r : Bool) → ((p || s) || r) ≡ (s || (p || r))
-or_swap true true r = refl
-or_swap true false r = refl
-or_swap false s r = refl
-
 pub one_vector_more : (count : ℕ) (all left : List (List Act)) (acts : List Act) (start now : List Bool) → AreFlagged count all (acts ∷ left) start
     → ((k : ℕ) → get_or now k false ≡ (is_pulse (act_of_signal acts k) || get_or start k false)) → length now ≡ length start → AreFlagged count all left now
 one_vector_more count all left acts start now f e l = record {
   len = l ∙ f.len;
-  each = λ k. ap (λ t. t || pulses left k) (e k) ∙ or_swap (is_pulse (act_of_signal acts k)) (get_or start k false) (pulses left k) ∙ f.each k;
+  each = λ k. ap (λ t. t || pulses left k) (e k) ∙ or_assoc (is_pulse (act_of_signal acts k)) (get_or start k false) (pulses left k) ∙ or_swap (is_pulse (act_of_signal acts k)) (get_or start k false) (pulses left k) ∙ f.each k;
 }
 
 pub all_flagged : (count : ℕ) (all : List (List Act)) (flags : List Bool) → AreFlagged count all [] flags → IsPulseFlags count all flags

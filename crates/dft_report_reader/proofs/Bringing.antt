@@ -4,6 +4,7 @@ use Rattle.std.specs.Prelude.{if◌then◌else◌, is_some, nat_le}
 use Rattle.std.specs.Fmt.{decimal}
 use Rattle.std.proofs.lemmas.Bool.Decides.{nat_tests}
 use Rattle.std.proofs.lemmas.List.{append-nil, append_assoc, length-append}
+use Rattle.std.specs.List.{AllByRecursion}
 use Rattle.dft_base.specs.Lexing.{Text}
 use Rattle.dft_base.specs.Name.{IsName}
 use Rattle.dft_base.proofs.NumberLemmas.{not_zero, same_number}
@@ -18,13 +19,13 @@ use Rattle.dft_report.specs.declared.report.CubeReport.{CubeReport}
 use Rattle.dft_report.specs.Written.{bit_text, chain_line, chain_lines, counts_text, cube_lines, header_line, rule_text, scanned_line, sum_line, unscanned_line, unsolvable_text, variables_text}
 use Rattle.dft_report_reader.specs.Saying.{said_of}
 use Rattle.dft_report_reader.specs.Reading.{Owing, Reading, nothing_read, with_cube, with_owing, with_said, with_sum}
-use Rattle.dft_report_reader.specs.WrittenRead.{Each, IsCubeReadable, IsHeaderReadable, IsLoadReadable, IsOutcomeReadable, IsScannedReadable, IsSmall, IsSumReadable, IsUnscannedReadable}
+use Rattle.dft_report_reader.specs.WrittenRead.{IsCubeReadable, IsHeaderReadable, IsLoadReadable, IsOutcomeReadable, IsScannedReadable, IsSmall, IsSumReadable, IsUnscannedReadable}
 use Rattle.dft_report_reader.proofs.NumberLemmas.{IsFine, number_fine}
 use Rattle.dft_report_reader.proofs.Lines.{Brings, behind, behind_append, brings_both, brings_line, brings_none}
 use Rattle.dft_report_reader.proofs.Saying.{bit_fine, bit_word, edge_fine, name_fine, rule_fine, scanned_behind, scanned_words, says_chain, says_encoded, says_load, says_plain, says_scanned, says_skipped, says_sum, says_unscanned, says_unsolvable, variable_words, variables_behind, variables_fine, variables_heard}
 
 -- a line as it is written, which is a line of words
-brings_text : (r s : Reading) (text word : Text) (words : List Text) → text ≡ word ++ behind words (10 ∷ []) → IsFine word → Each IsFine words → with_said r (said_of (word ∷ words)) ≡ Some s → Brings r text s
+brings_text : (r s : Reading) (text word : Text) (words : List Text) → text ≡ word ++ behind words (10 ∷ []) → IsFine word → AllByRecursion IsFine words → with_said r (said_of (word ∷ words)) ≡ Some s → Brings r text s
 brings_text r s text word words e fine each said = subst (λ (t : Text). Brings r t s) (sym e) (brings_line r s word words fine each said)
 
 -- ---- the title and the header
@@ -66,7 +67,7 @@ one_chain header done size a b =
     brings_text (chained header done) (chained header (done ++ size ∷ [])) _ (codes "chain") (decimal (length done) ∷ codes "length" ∷ decimal size ∷ []) refl refl (number_fine (length done) a, (refl, (number_fine size b, tt)))
     (ap (with_said (chained header done)) (says_chain (length done) size a b) ∙ ap (λ (t : Bool). if t then Some (chained header (done ++ size ∷ [])) else None) (same_number (length done)))
 
-pub chains_bring : (header : Header) (done more : List ℕ) → length done + length more ≤ 2 ^ 32 → Each IsSmall more → Brings (chained header done) (chain_lines (length done) more) (chained header (done ++ more))
+pub chains_bring : (header : Header) (done more : List ℕ) → length done + length more ≤ 2 ^ 32 → AllByRecursion IsSmall more → Brings (chained header done) (chain_lines (length done) more) (chained header (done ++ more))
 chains_bring header done [] small each = subst (λ (chains : List ℕ). Brings (chained header done) [] (chained header chains)) (sym (append-nil done)) (brings_none (chained header done))
 chains_bring header done (size ∷ more) small each =
     let count : length (done ++ size ∷ []) ≡ length done + 1 = length-append done (size ∷ []) in
@@ -103,7 +104,7 @@ pub record Goes (high : ℕ) (r : Reading) (text : Text) (at : ℕ → Reading) 
 -- lines of one kind, where each of them brings on
 lines_bring : {X : Type 0} (P : X → Type 0) (text : X → Text) (at : List X → ℕ → Reading) (own : ℕ) → 2 ≤ own →
     ((done : List X) (stage : ℕ) (line : X) → 2 ≤ stage → stage ≤ own → P line → Brings (at done stage) (text line) (at (done ++ line ∷ []) own)) →
-    (done more : List X) (stage : ℕ) → 2 ≤ stage → stage ≤ own → Each P more → Goes own (at done stage) (flat_map text more) (at (done ++ more))
+    (done more : List X) (stage : ℕ) → 2 ≤ stage → stage ≤ own → AllByRecursion P more → Goes own (at done stage) (flat_map text more) (at (done ++ more))
 lines_bring {X = X} P text at own least one done [] stage a b each =
     record { stage = stage; low = a; most = b; brings = subst (λ (lines : List X). Brings (at done stage) [] (at lines stage)) (sym (append-nil done)) (brings_none (at done stage)) }
 lines_bring {X = X} P text at own least one done (line ∷ more) stage a b each =
@@ -116,7 +117,7 @@ lines_bring {X = X} P text at own least one done (line ∷ more) stage a b each 
           (subst (λ (lines : List X). Brings (at (done ++ line ∷ []) own) (flat_map text more) (at lines rest.stage)) (append_assoc done (line ∷ []) more) rest.brings);
     }
 
-pub scanned_bring : (r : Reading) (done more : List ScannedLine) (stage : ℕ) → 2 ≤ stage → stage ≤ 3 → Each IsScannedReadable more → Goes 3 (scanned_at r done stage) (flat_map scanned_line more) (scanned_at r (done ++ more))
+pub scanned_bring : (r : Reading) (done more : List ScannedLine) (stage : ℕ) → 2 ≤ stage → stage ≤ 3 → AllByRecursion IsScannedReadable more → Goes 3 (scanned_at r done stage) (flat_map scanned_line more) (scanned_at r (done ++ more))
 scanned_bring r = lines_bring IsScannedReadable scanned_line (scanned_at r) 3 (omega arith) (one_scanned r)
 
 abbrev pub unscanned_at : Reading → List UnscannedLine → (stage : ℕ) → Reading
@@ -128,7 +129,7 @@ one_unscanned r done stage line a b is =
     brings_text (unscanned_at r done stage) (unscanned_at r (done ++ line ∷ []) 4) _ (codes "unscanned") (line.name ∷ rule_text line.rule ∷ []) refl refl (name_fine line.name is, (rule_fine line.rule, tt))
     (ap (with_said (unscanned_at r done stage)) (says_unscanned line.name line.rule is) ∙ ap (λ (t : Bool). if t then Some (unscanned_at r (done ++ line ∷ []) 4) else None) (between 2 4 stage a b))
 
-pub unscanned_bring : (r : Reading) (done more : List UnscannedLine) (stage : ℕ) → 2 ≤ stage → stage ≤ 4 → Each IsUnscannedReadable more → Goes 4 (unscanned_at r done stage) (flat_map unscanned_line more) (unscanned_at r (done ++ more))
+pub unscanned_bring : (r : Reading) (done more : List UnscannedLine) (stage : ℕ) → 2 ≤ stage → stage ≤ 4 → AllByRecursion IsUnscannedReadable more → Goes 4 (unscanned_at r done stage) (flat_map unscanned_line more) (unscanned_at r (done ++ more))
 unscanned_bring r = lines_bring IsUnscannedReadable unscanned_line (unscanned_at r) 4 (omega arith) (one_unscanned r)
 
 -- ---- cubes
@@ -162,7 +163,7 @@ one_sum r s o line owing is said =
 many : (n : ℕ) → nat_le (suc (suc n)) 1 ≡ false
 many n = grind (arith, nat_tests)
 
-sums_bring : (r : Reading) (cubes : List CubeReport) (name : Text) (done : List SumLine) (line : SumLine) (more : List SumLine) → Each IsSumReadable (line ∷ more) →
+sums_bring : (r : Reading) (cubes : List CubeReport) (name : Text) (done : List SumLine) (line : SumLine) (more : List SumLine) → AllByRecursion IsSumReadable (line ∷ more) →
     Brings (owed_by r cubes (record { name = name; sums = done; owed = suc (length more) })) (flat_map sum_line (line ∷ more)) (cubed r (cubes ++ record { name = name; outcome = outcome.Unsolvable (done ++ line ∷ more) } ∷ []) 5)
 sums_bring r cubes name done line [] each =
     let o : Owing = record { name = name; sums = done; owed = 1 } in
@@ -211,7 +212,7 @@ cube_with r cubes stage name (outcome.Unsolvable (line ∷ more)) load low named
     ∙ ap (λ (t : Text). codes "cube" ++ t) (behind_append (name ∷ codes "unsolvable" ∷ decimal (suc (length more)) ∷ []) (10 ∷ []) (flat_map sum_line (line ∷ more))) in
     subst (λ (t : Text). Brings (cubed r cubes stage) t s) whole (brings_both (cubed r cubes stage) (owed_by r cubes o) s first (flat_map sum_line (line ∷ more)) head (sums_bring r cubes name [] line more is.1))
 
-pub cubes_bring : (r : Reading) (done more : List CubeReport) (stage : ℕ) → (more ≡ [] → ⊥) → is_some r.header.load ≡ true → 2 ≤ stage → Each IsCubeReadable more → Brings (cubed r done stage) (flat_map cube_lines more) (cubed r (done ++ more) 5)
+pub cubes_bring : (r : Reading) (done more : List CubeReport) (stage : ℕ) → (more ≡ [] → ⊥) → is_some r.header.load ≡ true → 2 ≤ stage → AllByRecursion IsCubeReadable more → Brings (cubed r done stage) (flat_map cube_lines more) (cubed r (done ++ more) 5)
 cubes_bring r done [] stage some load low each = absurd (some refl)
 cubes_bring r done (cube ∷ []) stage some load low each =
     let s : Reading = cubed r (done ++ cube ∷ []) 5 in

@@ -2,7 +2,7 @@
 use Rattle.std.proofs.Common.{ℕ, ◌≡◌, ◌==◌, ◌&&◌, ◌⊎◌, inl, inr, Bool, true, false, List, [], ◌∷◌, ◌++◌, length, map, get_or, codes, Option, None, Some, option_map, refl, sym, ap, ap₂, subst, ◌∙◌}
 use Rattle.std.specs.Prelude.{if◌then◌else◌, nat_lt}
 use Rattle.std.specs.Fmt.{decimal}
-use Rattle.std.specs.List.{join_with_byte, slice_split}
+use Rattle.std.specs.List.{join_with_byte, slice_split, AllByRecursion}
 use Rattle.std.specs.Str.{bytes_eq}
 use Rattle.std.proofs.lemmas.List.Splits.{join_with_byte-slice_split}
 use Rattle.std.proofs.lemmas.Option.{same_Some}
@@ -19,7 +19,7 @@ use Rattle.dft_report.specs.declared.report.Variable.{Variable}
 use Rattle.dft_report.specs.Written.{rule_text}
 use Rattle.dft_report_reader.specs.Words.{is_name, number_of}
 use Rattle.dft_report_reader.specs.Saying.{Said, Title, Counts, Chain, Scanned, Unscanned, Encoded, Unsolvable, Skipped, Sum, all_variables, and_variable, at_place, bit_of, chain_of, counts_of, counts_with, cube_of, edge_of, in_chain, load_by, load_of, outcome_of, plain_counts, rule_of, said_of, scanned_of, scanned_with, sum_of, sum_with, title_of, unscanned_of, variable_by, variable_of, variable_with, variables_by, variables_of, with_two}
-use Rattle.dft_report_reader.specs.WrittenRead.{Each, IsHeaderReadable, IsSmall, IsVariableReadable}
+use Rattle.dft_report_reader.specs.WrittenRead.{IsHeaderReadable, IsSmall, IsVariableReadable}
 use Rattle.dft_report_reader.proofs.CanonicalNumbers.{behind_test, number_word}
 use Rattle.dft_report_reader.proofs.Saying.{bit_word, edge_words, scanned_words, variable_word, variable_words}
 
@@ -336,19 +336,19 @@ variables_are (word ∷ []) vs e = elim (either (bytes_eq word (codes "-")) (Som
 
 -- ---- and they can be read
 
-variable_more : (word : Text) (o : Option Variable) (rest : Option (List Variable)) (us : List Variable) → variable_of word ≡ o → ((ws : List Variable) → rest ≡ Some ws → Each IsVariableReadable ws) → and_variable o rest ≡ Some us → Each IsVariableReadable us
+variable_more : (word : Text) (o : Option Variable) (rest : Option (List Variable)) (us : List Variable) → variable_of word ≡ o → ((ws : List Variable) → rest ≡ Some ws → AllByRecursion IsVariableReadable ws) → and_variable o rest ≡ Some us → AllByRecursion IsVariableReadable us
 variable_more word None rest us f are e = absurd cc
 variable_more word (Some v) None us f are e = absurd cc
-variable_more word (Some v) (Some ws) us f are e = subst (Each IsVariableReadable) (same_Some (v ∷ ws) us e) ((variable_parts (slice_split (λ b. b == 46) word) v f).1, are ws refl)
+variable_more word (Some v) (Some ws) us f are e = subst (AllByRecursion IsVariableReadable) (same_Some (v ∷ ws) us e) ((variable_parts (slice_split (λ b. b == 46) word) v f).1, are ws refl)
 
-all_readable : (words : List Text) (vs : List Variable) → all_variables words ≡ Some vs → Each IsVariableReadable vs
-all_readable [] vs e = subst (Each IsVariableReadable) (same_Some [] vs e) tt
+all_readable : (words : List Text) (vs : List Variable) → all_variables words ≡ Some vs → AllByRecursion IsVariableReadable vs
+all_readable [] vs e = subst (AllByRecursion IsVariableReadable) (same_Some [] vs e) tt
 all_readable (word ∷ words) vs e = variable_more word (variable_of word) (all_variables words) vs refl (λ ws. all_readable words ws) e
 
-pub variables_readable : (words : List Text) (vs : List Variable) → variables_of words ≡ Some vs → Each IsVariableReadable vs
+pub variables_readable : (words : List Text) (vs : List Variable) → variables_of words ≡ Some vs → AllByRecursion IsVariableReadable vs
 variables_readable [] vs e = absurd cc
 variables_readable (word ∷ next ∷ words) vs e = all_readable (word ∷ next ∷ words) vs e
 variables_readable (word ∷ []) vs e = elim (either (bytes_eq word (codes "-")) (Some []) _ vs e) [
-  | inl stroke ↦ subst (Each IsVariableReadable) (same_Some [] vs stroke.1) tt
+  | inl stroke ↦ subst (AllByRecursion IsVariableReadable) (same_Some [] vs stroke.1) tt
   | inr all ↦ all_readable (word ∷ []) vs all
 ]

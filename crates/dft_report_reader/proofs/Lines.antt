@@ -1,7 +1,7 @@
 -- Lines of words between blanks, cut as they were written.
 use Rattle.std.proofs.Common.{ℕ, suc, ◌-◌, ◌<◌, ◌≡◌, ◌==◌, Bool, true, false, cond, List, [], ◌∷◌, ◌++◌, length, take, get_or, Option, Some, Ok, Result, refl, sym, ap, ap₂, arith, ◌∙◌}
 use Rattle.std.specs.Prelude.{nat_le}
-use Rattle.std.specs.List.{list_all, onto_first, slice_split}
+use Rattle.std.specs.List.{list_all, onto_first, slice_split, AllByRecursion}
 use Rattle.std.proofs.lemmas.Bool.Decides.{nat_tests}
 use Rattle.std.proofs.lemmas.List.{append-nil, append_assoc}
 use Rattle.std.proofs.lemmas.Bool.{and_parts}
@@ -11,7 +11,6 @@ use Rattle.dft_report_reader.specs.declared.error.ReadError.{ReadError}
 use Rattle.dft_report_reader.specs.Words.{lines_of, words_of}
 use Rattle.dft_report_reader.specs.Saying.{said_of}
 use Rattle.dft_report_reader.specs.Reading.{Reading, nothing_read, read_lines, report_by, report_of, then_ended, then_lines, with_said}
-use Rattle.dft_report_reader.specs.WrittenRead.{Each}
 use Rattle.dft_report_reader.proofs.NumberLemmas.{IsFine}
 
 -- words with a blank before each, and what stands behind them
@@ -36,21 +35,21 @@ front_split c (b ∷ word) text first more less fine e =
     ap (λ (t : Bool). cond t ([] ∷ slice_split (λ k. k == c) (word ++ text)) (onto_first b (slice_split (λ k. k == c) (word ++ text)))) (not_this c b less r.0)
     ∙ ap (λ (parts : List Text). onto_first b parts) (front_split c word text first more less r.1 e)
 
-words_behind : (words : List Text) → Each IsFine words → slice_split (λ b. b == 32) (behind words []) ≡ [] ∷ words
+words_behind : (words : List Text) → AllByRecursion IsFine words → slice_split (λ b. b == 32) (behind words []) ≡ [] ∷ words
 words_behind [] fine = refl
 words_behind (word ∷ words) fine =
     ap (λ (parts : List Text). [] ∷ parts) (front_split 32 word (behind words []) [] words (omega arith) fine.0 (words_behind words fine.1) ∙ ap (λ (first : Text). first ∷ words) (append-nil word))
 
 -- the words of a line
-line_words : (word : Text) (words : List Text) → IsFine word → Each IsFine words → words_of (word ++ behind words []) ≡ word ∷ words
+line_words : (word : Text) (words : List Text) → IsFine word → AllByRecursion IsFine words → words_of (word ++ behind words []) ≡ word ∷ words
 line_words word words fine each = front_split 32 word (behind words []) [] words (omega arith) fine (words_behind words each) ∙ ap (λ (first : Text). first ∷ words) (append-nil word)
 
-lines_behind : (words : List Text) (rest : Text) → Each IsFine words → lines_of (behind words (10 ∷ rest)) ≡ behind words [] ∷ lines_of rest
+lines_behind : (words : List Text) (rest : Text) → AllByRecursion IsFine words → lines_of (behind words (10 ∷ rest)) ≡ behind words [] ∷ lines_of rest
 lines_behind [] rest fine = refl
 lines_behind (word ∷ words) rest fine =
     ap (λ (parts : List Text). onto_first 32 parts) (front_split 10 word (behind words (10 ∷ rest)) (behind words []) (lines_of rest) (omega arith) fine.0 (lines_behind words rest fine.1))
 
-first_line : (word : Text) (words : List Text) (rest : Text) → IsFine word → Each IsFine words → lines_of (word ++ behind words (10 ∷ rest)) ≡ (word ++ behind words []) ∷ lines_of rest
+first_line : (word : Text) (words : List Text) (rest : Text) → IsFine word → AllByRecursion IsFine words → lines_of (word ++ behind words (10 ∷ rest)) ≡ (word ++ behind words []) ∷ lines_of rest
 first_line word words rest fine each = front_split 10 word (behind words (10 ∷ rest)) (behind words []) (lines_of rest) (omega arith) fine (lines_behind words rest each)
 
 onto_some : (b : ℕ) (parts : List Text) → (first : Text) × (more : List Text) × (parts ≡ first ∷ more) → (first : Text) × (more : List Text) × (onto_first b parts ≡ first ∷ more)
@@ -98,7 +97,7 @@ unfolding Brings
 brings_both r s t a b f g number k rest result h = ap (λ (text : Text). read_on number r k (lines_of text)) (append_assoc a b rest) ∙ f number k (b ++ rest) result (λ j. g number j rest result h)
 
 -- a line does, by what it says
-pub brings_line : (r s : Reading) (word : Text) (words : List Text) → IsFine word → Each IsFine words → with_said r (said_of (word ∷ words)) ≡ Some s → Brings r (word ++ behind words (10 ∷ [])) s
+pub brings_line : (r s : Reading) (word : Text) (words : List Text) → IsFine word → AllByRecursion IsFine words → with_said r (said_of (word ∷ words)) ≡ Some s → Brings r (word ++ behind words (10 ∷ [])) s
 unfolding Brings
 brings_line r s word words fine each said number k rest result h =
     let line : Text = word ++ behind words [] in

@@ -4,8 +4,10 @@ use Rattle.std.specs.Prelude.{if◌then◌else◌, is_none, is_some, nat_le}
 use Rattle.std.proofs.lemmas.Bool.{and_parts, eqb-true}
 use Rattle.std.proofs.lemmas.List.{length-append}
 use Rattle.std.proofs.lemmas.Option.{none-some, same_Some}
+use Rattle.std.specs.List.{AllByRecursion}
 use Rattle.dft_base.specs.Lexing.{Text}
 use Rattle.dft_base.specs.Name.{IsName}
+use Rattle.dft_base.proofs.ListLemmas.{all_append}
 use Rattle.dft_report.specs.declared.report.Header.{Header}
 use Rattle.dft_report.specs.declared.report.Load.{Load}
 use Rattle.dft_report.specs.declared.report.ScannedLine.{ScannedLine}
@@ -21,7 +23,7 @@ use Rattle.dft_report_reader.specs.declared.error.ReadError.TheVariants.{K1}
 use Rattle.dft_report_reader.specs.Words.{words_of}
 use Rattle.dft_report_reader.specs.Saying.{Said, Title, Counts, Chain, Scanned, Unscanned, Encoded, Unsolvable, Skipped, Sum, said_of, variables_of}
 use Rattle.dft_report_reader.specs.Reading.{Owing, Reading, may_be_cube, nothing_read, place_of_line, read_lines, report_by, report_in, summed, then_ended, then_lines, with_chain, with_counts, with_cube, with_owing, with_said, with_scanned, with_sum, with_title, with_unscanned}
-use Rattle.dft_report_reader.specs.WrittenRead.{Each, HasLoad, IsCubeReadable, IsHeaderReadable, IsOutcomeReadable, IsReadable, IsScannedReadable, IsSmall, IsSumReadable, IsUnscannedReadable, ReadIsReadable}
+use Rattle.dft_report_reader.specs.WrittenRead.{HasLoad, IsCubeReadable, IsHeaderReadable, IsOutcomeReadable, IsReadable, IsScannedReadable, IsSmall, IsSumReadable, IsUnscannedReadable, ReadIsReadable}
 use Rattle.dft_report_reader.proofs.Lines.{by_lines, front, last, lines_some, read_on}
 use Rattle.dft_report_reader.proofs.CanonicalNumbers.{behind_test}
 use Rattle.dft_report_reader.proofs.CanonicalWords.{IsSaidReadable, said_told, variables_readable}
@@ -32,17 +34,12 @@ use Rattle.dft_report_reader.proofs.CanonicalReading.{IsOwed, IsStaged, behind_e
 -- an unsolvable cube with its sums so far, and as many as are to come; it stands where there is a load
 abbrev IsOwingReadable : Option Load → Option Owing → Type 0
 IsOwingReadable load None = Unit {0}
-IsOwingReadable load (Some o) = IsName o.name × IsSmall (length o.sums + o.owed) × Each IsSumReadable o.sums × (is_some load ≡ true)
+IsOwingReadable load (Some o) = IsName o.name × IsSmall (length o.sums + o.owed) × AllByRecursion IsSumReadable o.sums × (is_some load ≡ true)
 
 -- what has been read can be read
 record IsReadableSoFar (r : Reading) : Type 0 where
   pub report : IsReadable (report_in r)
   pub owing : IsOwingReadable r.header.load r.owing
-
--- one more
-each_last : {X : Type 0} (P : X → Type 0) (xs : List X) (x : X) → Each P xs → P x → Each P (xs ++ x ∷ [])
-each_last P [] x each here = (here, tt)
-each_last P (y ∷ xs) x each here = (each.0, each_last P xs x each.1 here)
 
 -- cubes where there is a load
 loaded : (load : Option Load) (cubes : List CubeReport) → is_some load ≡ true → HasLoad load cubes
@@ -87,7 +84,7 @@ keeps_chain r s chain size is small can e =
       report = record {
         header = is.report.header;
         count = (let count = length-append r.chains (size ∷ []) in omega (arith, same, small, count));
-        chains = each_last IsSmall r.chains size is.report.chains can;
+        chains = all_append IsSmall r.chains (size ∷ []) is.report.chains (can, tt);
         scanned = is.report.scanned;
         unscanned = is.report.unscanned;
         cubes = is.report.cubes;
@@ -104,7 +101,7 @@ keeps_scanned r s line is can e =
         header = is.report.header;
         count = is.report.count;
         chains = is.report.chains;
-        scanned = each_last IsScannedReadable r.scanned line is.report.scanned can;
+        scanned = all_append IsScannedReadable r.scanned (line ∷ []) is.report.scanned (can, tt);
         unscanned = is.report.unscanned;
         cubes = is.report.cubes;
         load = is.report.load;
@@ -121,7 +118,7 @@ keeps_unscanned r s line is can e =
         count = is.report.count;
         chains = is.report.chains;
         scanned = is.report.scanned;
-        unscanned = each_last IsUnscannedReadable r.unscanned line is.report.unscanned can;
+        unscanned = all_append IsUnscannedReadable r.unscanned (line ∷ []) is.report.unscanned (can, tt);
         cubes = is.report.cubes;
         load = is.report.load;
       };
@@ -138,7 +135,7 @@ cube_more r cube is can load = record {
   chains = is.chains;
   scanned = is.scanned;
   unscanned = is.unscanned;
-  cubes = each_last IsCubeReadable r.cubes cube is.cubes can;
+  cubes = all_append IsCubeReadable r.cubes (cube ∷ []) is.cubes (can, tt);
   load = loaded r.header.load (r.cubes ++ cube ∷ []) load;
 }
 
@@ -171,11 +168,11 @@ keeps_summed : (t : Bool) (r : Reading) (o : Owing) (line : SumLine) → IsReada
 keeps_summed true r o line is owing some can =
     let small = owing.1 in
     let count = length-append o.sums (line ∷ []) in
-    record { report = cube_more r (record { name = o.name; outcome = outcome.Unsolvable (o.sums ++ line ∷ []) }) is.report (owing.0, (omega (arith, small, count, some), each_last IsSumReadable o.sums line owing.2 can)) owing.3; owing = tt }
+    record { report = cube_more r (record { name = o.name; outcome = outcome.Unsolvable (o.sums ++ line ∷ []) }) is.report (owing.0, (omega (arith, small, count, some), all_append IsSumReadable o.sums (line ∷ []) owing.2 (can, tt))) owing.3; owing = tt }
 keeps_summed false r o line is owing some can =
     let small = owing.1 in
     let count = length-append o.sums (line ∷ []) in
-    record { report = is.report; owing = (owing.0, omega (arith, small, count, some), each_last IsSumReadable o.sums line owing.2 can, owing.3) }
+    record { report = is.report; owing = (owing.0, omega (arith, small, count, some), all_append IsSumReadable o.sums (line ∷ []) owing.2 (can, tt), owing.3) }
 
 keeps_sum : (ow : Option Owing) (vars : Option (List Variable)) (r s : Reading) (name : Text) (bit : Bool) (words : List Text) → IsReadableSoFar r → IsOwingReadable r.header.load ow → IsOwed ow → IsName name → variables_of words ≡ vars → with_sum r ow name bit vars ≡ Some s → IsReadableSoFar s
 keeps_sum None vars r s name bit words is owing owed named v e = absurd cc

@@ -2,7 +2,7 @@
 use Rattle.std.proofs.Common.{ℕ, ◌<◌, ◌≤◌, ◌^◌, ◌≡◌, ◌==◌, Bool, true, false, List, [], ◌∷◌, ◌++◌, length, map, flat_map, codes, get_or, Option, None, Some, option_map, refl, ap, ap₂, arith, ◌∙◌}
 use Rattle.std.specs.Prelude.{if◌then◌else◌, nat_le, nat_lt}
 use Rattle.std.specs.Fmt.{decimal}
-use Rattle.std.specs.List.{All, list_all}
+use Rattle.std.specs.List.{All, list_all, AllByRecursion}
 use Rattle.std.specs.Str.{bytes_eq}
 use Rattle.std.proofs.lemmas.Fmt.{decimal_nonempty, digits_decimal}
 use Rattle.std.proofs.lemmas.List.Elements.{All-from_get_or}
@@ -23,7 +23,7 @@ use Rattle.dft_report.specs.declared.report.Variable.{Variable}
 use Rattle.dft_report.specs.Written.{place_text, rule_text, scanned_line, variable_text, variables_text}
 use Rattle.dft_report_reader.specs.Words.{is_name, number_of}
 use Rattle.dft_report_reader.specs.Saying.{Counts, Chain, Scanned, Unscanned, Encoded, Unsolvable, Skipped, Sum, all_variables, and_variable, bit_of, counts_with, edge_of, in_chain, load_of, outcome_of, plain_counts, rule_of, said_of, scanned_with, sum_with, variable_by, variable_of, variable_with, variables_of, with_two}
-use Rattle.dft_report_reader.specs.WrittenRead.{Each, IsSmall, IsVariableReadable}
+use Rattle.dft_report_reader.specs.WrittenRead.{IsSmall, IsVariableReadable}
 use Rattle.dft_report_reader.proofs.NumberLemmas.{IsFine, number_fine, number_read}
 use Rattle.dft_report_reader.proofs.Lines.{behind}
 
@@ -67,7 +67,7 @@ edge_heard : (falling : Bool) → edge_of (edge_words falling) ≡ Some falling
 edge_heard false = refl
 edge_heard true = refl
 
-pub edge_fine : (falling : Bool) → Each IsFine (edge_words falling)
+pub edge_fine : (falling : Bool) → AllByRecursion IsFine (edge_words falling)
 edge_fine false = tt
 edge_fine true = (refl, tt)
 
@@ -153,7 +153,7 @@ variable_heard v is =
     ap variable_by (slice_split_at (λ b. b == 46) (decimal v.channel) 46 (decimal v.cycle) (no_point v.channel is.0) refl ∙ ap (λ (parts : List Text). decimal v.channel ∷ parts) (slice_split_none (λ b. b == 46) (decimal v.cycle) (no_point v.cycle is.1)))
     ∙ ap₂ variable_with (number_read v.channel is.0) (number_read v.cycle is.1)
 
-all_heard : (vs : List Variable) → Each IsVariableReadable vs → all_variables (map (λ v. variable_word v) vs) ≡ Some vs
+all_heard : (vs : List Variable) → AllByRecursion IsVariableReadable vs → all_variables (map (λ v. variable_word v) vs) ≡ Some vs
 all_heard [] each = refl
 all_heard (v ∷ vs) each = ap₂ and_variable (variable_heard v each.0) (all_heard vs each.1)
 
@@ -177,7 +177,7 @@ word_high v is =
     let d = digits_decimal (numerals_by_value _ tells_by_index) v.channel wide 0 some in
     omega (arith, first, d.0)
 
-pub variables_heard : (vs : List Variable) → Each IsVariableReadable vs → variables_of (variable_words vs) ≡ Some vs
+pub variables_heard : (vs : List Variable) → AllByRecursion IsVariableReadable vs → variables_of (variable_words vs) ≡ Some vs
 variables_heard [] each = refl
 variables_heard (v ∷ []) each = ap (λ (t : Bool). if t then Some [] else all_variables (variable_word v ∷ [])) (no_stroke (variable_word v) (word_high v each.0)) ∙ all_heard (v ∷ []) each
 variables_heard (v ∷ u ∷ vs) each = all_heard (v ∷ u ∷ vs) each
@@ -189,11 +189,11 @@ fine_append (x ∷ a) b h k = let r = and_parts (nat_le 33 x) (list_all (λ b. n
 variable_fine : (v : Variable) → IsVariableReadable v → IsFine (variable_word v)
 variable_fine v is = fine_append (decimal v.channel) (46 ∷ decimal v.cycle) (number_fine v.channel is.0) (number_fine v.cycle is.1)
 
-all_fine : (vs : List Variable) → Each IsVariableReadable vs → Each IsFine (map (λ v. variable_word v) vs)
+all_fine : (vs : List Variable) → AllByRecursion IsVariableReadable vs → AllByRecursion IsFine (map (λ v. variable_word v) vs)
 all_fine [] each = tt
 all_fine (v ∷ vs) each = (variable_fine v each.0, all_fine vs each.1)
 
-pub variables_fine : (vs : List Variable) → Each IsVariableReadable vs → Each IsFine (variable_words vs)
+pub variables_fine : (vs : List Variable) → AllByRecursion IsVariableReadable vs → AllByRecursion IsFine (variable_words vs)
 variables_fine [] each = (refl, tt)
 variables_fine (v ∷ vs) each = all_fine (v ∷ vs) each
 

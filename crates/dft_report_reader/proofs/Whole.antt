@@ -3,6 +3,7 @@ use Rattle.std.proofs.Common.{ℕ, ◌≤◌, ◌≡◌, ◌&&◌, Bool, true, L
 use Rattle.std.specs.Prelude.{if◌then◌else◌, is_some, nat_le}
 use Rattle.std.proofs.lemmas.Bool.Decides.{nat_tests}
 use Rattle.std.proofs.lemmas.List.{append_assoc}
+use Rattle.std.specs.List.{AllByRecursion}
 use Rattle.dft_base.specs.Lexing.{Text}
 use Rattle.dft_report.specs.declared.report.Load.{Load}
 use Rattle.dft_report.specs.declared.report.CubeReport.{CubeReport}
@@ -10,7 +11,7 @@ use Rattle.dft_report.specs.declared.report.Report.{Report}
 use Rattle.dft_report.specs.Written.{chain_lines, cube_lines, header_line, lines_before_cubes, scanned_line, unscanned_line, written}
 use Rattle.dft_report_reader.specs.declared.error.ReadError.TheVariants.{K1}
 use Rattle.dft_report_reader.specs.Reading.{Reading, nothing_read, place_of_line, then_ended}
-use Rattle.dft_report_reader.specs.WrittenRead.{Each, HasLoad, IsCubeReadable, WrittenIsRead}
+use Rattle.dft_report_reader.specs.WrittenRead.{HasLoad, IsCubeReadable, WrittenIsRead}
 use Rattle.dft_report_reader.proofs.Lines.{Brings, brings_both, brings_none, whole_read}
 use Rattle.dft_report_reader.proofs.Bringing.{chained, chains_bring, cubes_bring, header_brings, headed, scanned_at, scanned_bring, title_brings, titled, unscanned_bring}
 
@@ -30,7 +31,7 @@ load_there (Some load) cube cubes h = refl
 abbrev before_cubes : Report → (stage : ℕ) → Reading
 before_cubes r stage = record (whole r stage) { cubes = [] }
 
-cubes_reach : (r : Report) (cubes : List CubeReport) (stage : ℕ) → r.cubes ≡ cubes → 2 ≤ stage → Each IsCubeReadable cubes → HasLoad r.header.load cubes → Reaches (before_cubes r stage) (flat_map cube_lines cubes) r
+cubes_reach : (r : Report) (cubes : List CubeReport) (stage : ℕ) → r.cubes ≡ cubes → 2 ≤ stage → AllByRecursion IsCubeReadable cubes → HasLoad r.header.load cubes → Reaches (before_cubes r stage) (flat_map cube_lines cubes) r
 cubes_reach r [] stage same low each load =
     record { stage = stage; low = low; brings = subst (λ (cs : List CubeReport). Brings (before_cubes r stage) [] (record (whole r stage) { cubes = cs })) (sym same) (brings_none (before_cubes r stage)) }
 cubes_reach r (cube ∷ cubes) stage same low each load = record {

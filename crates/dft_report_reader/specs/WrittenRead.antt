@@ -1,5 +1,6 @@
 -- The written form of a report is read as that report.
 use Rattle.std.specs.Prelude.{ℕ, ◌<◌, ◌≤◌, ◌^◌, ◌≡◌, List, [], ◌∷◌, length, Option, None, Some, Ok}
+use Rattle.std.specs.List.{AllByRecursion}
 use Rattle.dft_base.specs.Lexing.{Text}
 use Rattle.dft_base.specs.Name.{IsName}
 use Rattle.dft_report.specs.declared.report.Load.{Load}
@@ -19,10 +20,6 @@ use Rattle.dft_report_reader.specs.Reading.{report_of}
 abbrev pub IsSmall : ℕ → Type 0
 IsSmall number = number < 2 ^ 32
 
-abbrev pub Each : {X : Type 0} → (P : X → Type 0) → List X → Type 0
-Each P [] = Unit {0}
-Each P (x ∷ xs) = P x × Each P xs
-
 abbrev pub IsLoadReadable : Option Load → Type 0
 IsLoadReadable None = Unit {0}
 IsLoadReadable (Some load) = IsSmall load.cycles × IsSmall load.variables
@@ -40,11 +37,11 @@ abbrev pub IsVariableReadable : Variable → Type 0
 IsVariableReadable variable = IsSmall variable.channel × IsSmall variable.cycle
 
 abbrev pub IsSumReadable : SumLine → Type 0
-IsSumReadable line = IsName line.name × Each IsVariableReadable line.variables
+IsSumReadable line = IsName line.name × AllByRecursion IsVariableReadable line.variables
 
 abbrev pub IsOutcomeReadable : CubeLine → Type 0
 IsOutcomeReadable (Encoded pattern) = IsSmall pattern
-IsOutcomeReadable (Unsolvable sums) = IsSmall (length sums) × Each IsSumReadable sums
+IsOutcomeReadable (Unsolvable sums) = IsSmall (length sums) × AllByRecursion IsSumReadable sums
 IsOutcomeReadable (Skipped cell) = IsName cell
 
 abbrev pub IsCubeReadable : CubeReport → Type 0
@@ -61,10 +58,10 @@ pub record IsReadable (r : Report) : Type 0 where
   pub header : IsHeaderReadable r.header
   -- chains are numbered from 0
   pub count : length r.chains ≤ 2 ^ 32
-  pub chains : Each IsSmall r.chains
-  pub scanned : Each IsScannedReadable r.scanned
-  pub unscanned : Each IsUnscannedReadable r.unscanned
-  pub cubes : Each IsCubeReadable r.cubes
+  pub chains : AllByRecursion IsSmall r.chains
+  pub scanned : AllByRecursion IsScannedReadable r.scanned
+  pub unscanned : AllByRecursion IsUnscannedReadable r.unscanned
+  pub cubes : AllByRecursion IsCubeReadable r.cubes
   pub load : HasLoad r.header.load r.cubes
 
 -- So the text of each such report stands for it.

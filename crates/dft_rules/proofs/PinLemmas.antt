@@ -2,7 +2,7 @@
 use Rattle.std.proofs.Common.{◌≡◌, ℕ, ◌+◌, ◌<◌, ◌≤◌, Bool, false, ◌&&◌, ◌||◌, List, length, get_or, drop, Option, slice_get, sym, ◌∙◌, ap}
 use Rattle.std.specs.List.{list_any}
 use Rattle.std.specs.Option.{option_map_or}
-use Rattle.dft_base.proofs.BitLemmas.{or_false, assoc_or}
+use Rattle.dft_base.proofs.BitLemmas.{or_false, or_assoc}
 use Rattle.dft_cells.specs.declared.kind.Role.{Role}
 use Rattle.dft_cells.specs.declared.kind.Role.TheVariants.{Input}
 use Rattle.dft_netlist.specs.declared.instance.Signal.{Signal}
@@ -17,7 +17,7 @@ take_pin net roles pins k d before now less same is =
     let at = role_there roles pins k less same in
     let rest = list_any (takes net) (connections_from (k + 1) (drop (k + 1) roles) (drop (k + 1) pins)) in
     ap (λ (cs : List Connection). before || list_any (takes net) cs) (pin_more roles pins k (get_or roles k Input) d less at)
-    ∙ assoc_or before (takes_data (get_or roles k Input) && is_joined_to net (get_or pins k d)) rest
+    ∙ sym (or_assoc before (takes_data (get_or roles k Input) && is_joined_to net (get_or pins k d)) rest)
     ∙ ap (λ (b : Bool). b || rest) (sym (is ∙ ap (λ (o : Option Role). before || (option_map_or takes_data o false && is_joined_to net (get_or pins k d))) at))
 
 pub take_over : (net : ℕ) (roles : List Role) (pins : List Signal) (k : ℕ) (b : Bool) → length pins ≤ k → (b || list_any (takes net) (connections_from k (drop k roles) (drop k pins))) ≡ b

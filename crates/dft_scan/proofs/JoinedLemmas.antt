@@ -1,6 +1,7 @@
 -- Every pin of every gate of a scanned netlist is joined where that is so in the design.
 use Rattle.std.proofs.Common.{◌≡◌, ℕ, zero, suc, Bool, true, false, List, [], ◌∷◌, ◌++◌, map, Option, None, Some, slice_get, refl, subst}
 use Rattle.std.proofs.lemmas.Option.{none-some, same_Some}
+use Rattle.std.specs.List.{AllByRecursion}
 use Rattle.dft_base.specs.Lexing.{Text}
 use Rattle.dft_cells.specs.declared.cell.Cell.{Cell}
 use Rattle.dft_cells.specs.declared.cell.CellId.{CellId}
@@ -27,7 +28,6 @@ use Rattle.dft_insert.specs.Ports.{gap_in}
 use Rattle.dft_insert.specs.Scanned.{framed, parts_of}
 use Rattle.dft_insert.specs.Statements.{scanned}
 use Rattle.dft_insert.proofs.Chains.{parts_hold}
-use Rattle.dft_insert.proofs.Joins.{Each}
 use Rattle.dft_verilog_out.specs.Named.{IsJoinedGate, GatesAreJoined}
 
 -- ---- pins
@@ -111,7 +111,7 @@ pins_stay zero pin net (x ∷ xs) all (suc place) i at = all (suc place) i at
 pins_stay (suc number) pin net (x ∷ xs) all zero i at = all zero i at
 pins_stay (suc number) pin net (x ∷ xs) all (suc place) i at = pins_stay number pin net xs (λ p. all (suc p)) place i at
 
-parts_joined : (s : Making) (parts : List Part) → AreJoinedGates s.netlist.instances → Each IsJoinedPart parts → AreJoinedGates (with_parts s parts).netlist.instances
+parts_joined : (s : Making) (parts : List Part) → AreJoinedGates s.netlist.instances → AllByRecursion IsJoinedPart parts → AreJoinedGates (with_parts s parts).netlist.instances
 parts_joined s [] all each = all
 parts_joined s (ANet ∷ parts) all each = parts_joined (with_part s ANet) parts all each.1
 parts_joined s (AnInstance cell pins ∷ parts) all each = parts_joined (with_part s (AnInstance cell pins)) parts (joined_append s.netlist.instances _ all (one_joined _ each.0)) each.1

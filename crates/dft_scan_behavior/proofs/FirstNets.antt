@@ -3,6 +3,7 @@ use Rattle.std.proofs.Common.{ℕ, zero, suc, ◌+◌, ◌≡◌, ◌==◌, ◌&
 use Rattle.std.specs.Prelude.{if◌then◌else◌}
 use Rattle.std.proofs.lemmas.Bool.{eqb-true, eq-eqb, eqb-false}
 use Rattle.std.proofs.lemmas.Option.{none-some, same_Some}
+use Rattle.std.specs.List.{AllByRecursion}
 use Rattle.dft_base.proofs.BitLemmas.{and_first}
 use Rattle.dft_netlist.specs.declared.ids.NetId.{NetId}
 use Rattle.dft_netlist.specs.declared.instance.Signal.{Signal}
@@ -12,7 +13,7 @@ use Rattle.dft_parts.specs.Growth.{HasParts, instances_in}
 use Rattle.dft_parts.specs.Parts.{Part, ANet, AnInstance, APin, joined_to, pin_joined}
 use Rattle.dft_parts.specs.Recipes.{Start, Recipe, ◌>>=◌, behind, each}
 use Rattle.dft_parts.proofs.Trees.{front, back}
-use Rattle.dft_insert.proofs.Joins.{Each, JoinsAt, joined_in, stays_joined, joined_if}
+use Rattle.dft_insert.proofs.Joins.{JoinsAt, joined_in, stays_joined, joined_if}
 
 -- the net of the first of these parts that joins a pin of an instance
 abbrev pub first_at : List Part → (i p : ℕ) → Option NetId
@@ -107,7 +108,7 @@ none_by Q parts i p j pin net false b is here q none more = more
 none_by Q parts i p j pin net true false is here q none more = more
 none_by Q parts i p j pin net true true is here q none more = absurd (none (subst (λ k. Q k p) (eqb-true j i is) (subst (Q j) (eqb-true pin p here) q)))
 
-pub none_first : (Q : ℕ → ℕ → Type 0) (parts : List Part) (i p : ℕ) → (Q i p → ⊥) → Each (JoinsAt Q) parts → first_at parts i p ≡ None
+pub none_first : (Q : ℕ → ℕ → Type 0) (parts : List Part) (i p : ℕ) → (Q i p → ⊥) → AllByRecursion (JoinsAt Q) parts → first_at parts i p ≡ None
 none_first Q [] i p none h = refl
 none_first Q (ANet ∷ parts) i p none h = none_first Q parts i p none h.1
 none_first Q (AnInstance cell pins ∷ parts) i p none h = none_first Q parts i p none h.1

@@ -2,6 +2,7 @@
 use Rattle.std.proofs.Common.{◌≡◌, ◌≢◌, ℕ, ◌<◌, ◌+◌, Bool, true, false, ◌||◌, ◌==◌, List, [], ◌∷◌, length, drop, get_or, slice_set, get_or-set_same, get_or-set_other, refl, sym, ap, ◌∙◌, arith}
 use Rattle.std.proofs.lemmas.Bool.Decides.{nat_tests}
 use Rattle.std.proofs.lemmas.List.{drop_more}
+use Rattle.dft_base.proofs.BitLemmas.{or_swap, or_assoc}
 use Rattle.dft_stil_text.specs.SignalGroups.{has_signal}
 use Rattle.dft_stil_text.specs.Statements.{with_told}
 use Rattle.dft_stil.specs.VectorShown.{flagged_in}
@@ -14,14 +15,8 @@ flag_at told n k false less e =
     let other : k ≢ n = grind (arith, nat_tests) in
     get_or-set_other told n k true false other
 
-swap : (a b c : Bool) → (a || (b || c)) ≡ ((b || a) || c)
-swap true true c = refl
-swap true false c = refl
-swap false true c = refl
-swap false false c = refl
-
 flagged : (told : List Bool) (n : ℕ) (rest : List ℕ) → n < length told → (k : ℕ) → with_told rest (flagged_in (slice_set told n true)) k ≡ with_told (n ∷ rest) (flagged_in told) k
-flagged told n rest less k = ap (λ t. has_signal rest k || t) (flag_at told n k (n == k) less refl) ∙ swap (has_signal rest k) (n == k) (get_or told k false)
+flagged told n rest less k = ap (λ t. has_signal rest k || t) (flag_at told n k (n == k) less refl) ∙ or_swap (has_signal rest k) (n == k) (get_or told k false) ∙ sym (or_assoc (n == k) (has_signal rest k) (get_or told k false))
 
 -- one signal more is flagged
 pub flag_more : (told : List Bool) (signals : List ℕ) (at n d : ℕ) (whole : ℕ → Bool) → at < length signals → n ≡ get_or signals at d → n < length told

@@ -4,23 +4,12 @@ use Rattle.std.specs.Prelude.{slice_index_or}
 use Rattle.std.specs.List.{AllByRecursion}
 use Rattle.std.proofs.lemmas.List.{append-nil, drop_more}
 use Rattle.dft_base.proofs.TextLemmas.{differ}
+use Rattle.dft_base.proofs.ListLemmas.{all_append, all_front, all_back}
 use Rattle.dft_files.specs.Outside.{Held, LeavesPart, Rose, Told, ToldChange, file_at}
 use Rattle.dft_files.specs.Outside as base
 use Rattle.dft_top.specs.Saves.{Saving, AreApart, AreSavedBut, HaveSaved, HaveSavedSome, SaveFailed, Stand}
 
 -- ---- lists
-
-all_end : {X : Type 0} (P : X → Type 0) (xs : List X) (y : X) → AllByRecursion P xs → P y → AllByRecursion P (xs ++ y ∷ [])
-all_end P [] y all p = (p, tt)
-all_end P (x ∷ xs) y all p = (all.0, all_end P xs y all.1 p)
-
-all_front : {X : Type 0} (P : X → Type 0) (xs ys : List X) → AllByRecursion P (xs ++ ys) → AllByRecursion P xs
-all_front P [] ys all = tt
-all_front P (x ∷ xs) ys all = (all.0, all_front P xs ys all.1)
-
-all_at : {X : Type 0} (P : X → Type 0) (xs ys : List X) (y : X) → AllByRecursion P (xs ++ y ∷ ys) → P y
-all_at P [] ys y all = all.0
-all_at P (x ∷ xs) ys y all = all_at P xs ys y all.1
 
 -- ---- names
 
@@ -33,11 +22,11 @@ IsOther name saved = AllByRecursion (λ s. bytes_eq name s.name ≡ false) saved
 
 differs_from : (saved rest : List Saving) (s : Saving) → AreApart (saved ++ s ∷ rest) → DiffersFrom saved s.name
 differs_from [] rest s apart = tt
-differs_from (t ∷ saved) rest s apart = (differ t.name s.name (all_at (λ (u : Saving). t.name ≡ u.name → ⊥) saved rest s apart.0), differs_from saved rest s apart.1)
+differs_from (t ∷ saved) rest s apart = (differ t.name s.name ((all_back (λ (u : Saving). t.name ≡ u.name → ⊥) saved (s ∷ rest) apart.0).0), differs_from saved rest s apart.1)
 
 is_other : (saved rest : List Saving) (s : Saving) → AreApart (saved ++ s ∷ rest) → IsOther s.name saved
 is_other [] rest s apart = tt
-is_other (t ∷ saved) rest s apart = (differ s.name t.name (λ e. all_at (λ (u : Saving). t.name ≡ u.name → ⊥) saved rest s apart.0 (sym e)), is_other saved rest s apart.1)
+is_other (t ∷ saved) rest s apart = (differ s.name t.name (λ e. (all_back (λ (u : Saving). t.name ≡ u.name → ⊥) saved (s ∷ rest) apart.0).0 (sym e)), is_other saved rest s apart.1)
 
 -- ---- files
 
@@ -58,8 +47,8 @@ more_saved (t ∷ saved) s None (Some mid) new other have kept whole = absurd cc
 more_saved (t ∷ saved) s (Some old) None new other have kept whole = absurd have
 more_saved (t ∷ saved) s (Some old) (Some mid) None other have kept whole = kept
 more_saved (t ∷ saved) s (Some old) (Some mid) (Some new) other have kept whole = record {
-  whole = all_end (λ (u : Saving). file_at u.name new ≡ Some u.bytes) (t ∷ saved) s (stand_still (t ∷ saved) s mid new other kept have.whole) whole;
-  others = λ name apart. kept name (all_at (λ (u : Saving). bytes_eq u.name name ≡ false) (t ∷ saved) [] s apart) ∙ have.others name (all_front (λ (u : Saving). bytes_eq u.name name ≡ false) (t ∷ saved) (s ∷ []) apart);
+  whole = all_append (λ (u : Saving). file_at u.name new ≡ Some u.bytes) (t ∷ saved) (s ∷ []) (stand_still (t ∷ saved) s mid new other kept have.whole) (whole, tt);
+  others = λ name apart. kept name (all_back (λ (u : Saving). bytes_eq u.name name ≡ false) (t ∷ saved) (s ∷ []) apart).0 ∙ have.others name (all_front (λ (u : Saving). bytes_eq u.name name ≡ false) (t ∷ saved) (s ∷ []) apart);
 }
 
 -- the first of these saves failed

@@ -10,7 +10,7 @@ use Rattle.dft_base.specs.declared.place.Range.{Range}
 use Rattle.dft_base.specs.Lexing.{Text}
 use Rattle.dft_base.specs.declared.dir.Dir.{Dir}
 use Rattle.dft_base.specs.Ranges.{going_up}
-use Rattle.dft_base.proofs.BitLemmas.{assoc_or}
+use Rattle.dft_base.proofs.BitLemmas.{or_assoc}
 use Rattle.dft_base.proofs.TextLemmas.{same_text}
 use Rattle.dft_netlist_text.specs.declared.text.Cause.TheVariants as cause
 use Rattle.dft_netlist.specs.declared.error.Counted.TheVariants as counted
@@ -194,7 +194,7 @@ gains_cons p old new nets words g =
       any = λ net.
           among_append net mine (nets_of_ports new)
           ∙ ap (λ b. is_among net mine || b) (g.any net)
-          ∙ assoc_or (is_among net mine) (is_among net (nets_of_ports old)) (is_among net nets)
+          ∙ sym (or_assoc (is_among net mine) (is_among net (nets_of_ports old)) (is_among net nets))
           ∙ ap (λ b. b || is_among net nets) (sym (among_append net mine (nets_of_ports old)));
       len = omega (arith, length-append mine (nets_of_ports new), length-append mine (nets_of_ports old), g.len);
       below = λ n was come. let parts = below_parts n mine (nets_of_ports old) was in AreBelow-append n mine (nets_of_ports new) parts.0 (g.below n parts.1 come);

@@ -1,6 +1,6 @@
 -- The table of the classes of bytes, and the kinds of marks.
 use Rattle.std.proofs.Common.{◌≡◌, ℕ, zero, suc, ◌+◌, ◌-◌, ◌<◌, ◌≤◌, Bool, true, false, not, ◌&&◌, ◌||◌, cond, eqb, nat_le, nat_lt, List, [], ◌∷◌, length, get_or, refl, ap, ◌∙◌, sym, subst, arith}
-use Rattle.std.specs.List.{list_any}
+use Rattle.std.specs.List.{list_any, AllByRecursion}
 use Rattle.std.proofs.lemmas.Bool.Decides.{nat_tests}
 use Rattle.std.proofs.lemmas.Bool.{and_parts, and_left}
 use Rattle.dft_base.specs.Lexing.{Text}
@@ -74,12 +74,8 @@ is_one : (P : ℕ → Type 0) (t : Bool) (b mark : ℕ) (rest : Bool) → eqb b 
 is_one P true b mark rest e here more h = let is : mark ≡ b = grind (arith, nat_tests) in subst P is here
 is_one P false b mark rest e here more h = more h
 
-abbrev Each : (ℕ → Type 0) → List ℕ → Type 0
-Each P [] = Unit {0}
-Each P (b ∷ bs) = P b × Each P bs
-
 -- what holds of each of these holds of a byte that is one
-one_of : (P : ℕ → Type 0) (b : ℕ) (all : List ℕ) → Each P all → list_any (λ mark. eqb b mark) all ≡ true → P b
+one_of : (P : ℕ → Type 0) (b : ℕ) (all : List ℕ) → AllByRecursion P all → list_any (λ mark. eqb b mark) all ≡ true → P b
 one_of P b [] each h = absurd (cc)
 one_of P b (mark ∷ all) each h = is_one P (eqb b mark) b mark (list_any (λ m. eqb b m) all) refl each.0 (one_of P b all each.1) h
 
