@@ -34,6 +34,7 @@ joined_same rank r p s t a b pins ih (Net net) inside below = ih net inside.0 be
 joined_same rank r p s t a b pins ih (Tied bit) inside below = refl
 joined_same rank r p s t a b pins ih (Loose c pin) inside below = pins c pin
 
+-- a net of the design has the bit of its place in the other one, where what gives it and what it reads are the same
 given_same : (rank : ℕ → ℕ) (p : Places) (s t : Sources) (a b : ℕ → Bool) (net : ℕ) →
     (ports : s.ports (p.moved net) ≡ t.ports net) → (high : ((domain : ℕ) → s.high (p.moved domain) ≡ t.high domain)) → (flops : ((cell : ℕ) → p.is_flop cell ≡ true → s.flops cell ≡ t.flops cell)) →
     (free : s.free (p.moved net) ≡ t.free net) → (pins : ((i pin : ℕ) → s.loose i pin ≡ t.loose i pin)) → (ih : ((k : ℕ) → k < p.size → rank k < rank net → a (p.moved k) ≡ b k)) →

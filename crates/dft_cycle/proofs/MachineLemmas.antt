@@ -140,6 +140,7 @@ half_of : (m : Machine) (x : Circuit) (rising : Bool) (pulsed : List Bool) (p : 
 half_of m x rising pulsed p new compiled same has =
     subst (λ (l : Logic). HasHalf l (phase_from m rising pulsed) new) (sym compiled) (subst (λ (q : Pulse). HasHalf (logic_at x) q new) same has)
 
+-- a machine has gone through a phase where the cells that change have their next values by the least views, and all else stays
 pub phase_done : (m after : Machine) (x : Circuit) (rising : Bool) (pulsed : List Bool) (p : Pulse) (poss next : List Tri) → (is : IsCircuit x) → (compiled : logic m ≡ logic_at x) → after.netlist ≡ m.netlist → after.clocks ≡ m.clocks → after.inputs ≡ m.inputs → after.shown ≡ m.shown →
     (edge : p.rising ≡ rising) → (ports : ((k : ℕ) → p.ports k ≡ value_at m.inputs k)) → (ups : ((e : ℕ) → p.pulsed e ≡ pulses m.clocks pulsed e)) → (old : ((c : ℕ) → p.old c ≡ value_at m.cells c)) →
     length m.cells ≡ length x.flops → length after.cells ≡ length m.cells → length next ≡ length x.flops →
@@ -391,6 +392,7 @@ after_past x p view c out old =
       go true = refl
       go false = old
 
+-- a machine whose cells are what a plan passes to has gone through the phase
 pub phase_passed : (m after : Machine) (x : Circuit) (rising : Bool) (pulsed : List Bool) (p : Pulse) (new : List Tri) → (compiled : logic m ≡ logic_at x) → after.netlist ≡ m.netlist → after.clocks ≡ m.clocks → after.inputs ≡ m.inputs → after.shown ≡ m.shown →
     (cells : after.cells ≡ new) → (edge : p.rising ≡ rising) → (ports : ((k : ℕ) → p.ports k ≡ value_at m.inputs k)) → (ups : ((e : ℕ) → p.pulsed e ≡ pulses m.clocks pulsed e)) → (old : ((c : ℕ) → p.old c ≡ value_at m.cells c)) →
     length m.cells ≡ length x.flops → length new ≡ length m.cells → (passed : IsPassed x p new) → IsPhase (logic m) m rising pulsed after

@@ -107,6 +107,7 @@ by_takings cells q v table count moved takings row old new are same loose found 
       go Enters left carried = absurd left
       go (Follows other) left carried = carried ∙ sym (same other) ∙ ap (entry_value q.old v (next_at (cells c) q.ports v) c) (sym left)
 
+-- a phase is passed where the nets of a plan's steps are settled, what its takings take is found, and the cells are put as its course says
 pub passed : (x : Circuit) (clocks : List NetId) (l : Layout) (pins : Pins) (plan : Plan) (q : Pulse) (values row old new : List Tri) → (is : IsCircuit x) → (pinned : IsPins x pins) → IsMade x clocks l pins plan →
     (among : ((e : ℕ) → q.pulsed e ≡ true → Among clocks (length clocks) e)) → (past : ((k : ℕ) → length x.ops ≤ k → q.ports k ≡ Unknown)) → (olds : ((c : ℕ) → q.old c ≡ value_at old c)) → (loose : LooseAreUnknown x (value_at old)) → (len : length values ≡ length x.ops) →
     (edge : plan.rising ≡ q.rising) → (flagged : plan.pulsed.items ≡ flags_of q.pulsed clocks) → (ports : plan.ports.items ≡ row_of q.ports pins.ports.items) → (enables : plan.enables.items ≡ row_of (value_at values) pins.enables.items) →

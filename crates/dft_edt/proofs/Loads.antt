@@ -158,6 +158,7 @@ stages_loaded l ports config chains w hw falling table t x old h has heads range
     ∙ stage_known config i (λ k. old (hw.stage k)) (λ j. x.ports (hw.channel j)) (state_after config.ring table t) (λ j. table j t) range less loaded.stages carries
     ∙ ap known (next_state config.ring table t i)
 
+-- a shift more: each cell that the load has come to has the bit that the phase shifter gave for it
 loaded_cells : (l : Logic) (ports : Ports) (config : Config) (chains : List (List InstanceId)) (w : ChainNets) (hw : EdtNets) (falling : ℕ → Bool) (table : Table) (t : ℕ) (x : Vector) (old : ℕ → Tri) (p : Pass) →
     (has : HasRing l ports config chains w hw) → (heads : HeadsAre l chains falling) → (range : IsInRange config) → (shift : IsEdtShift ports w hw x) → (carries : Carries config hw (λ j. table j t) x) → (passes : Passes l x old p) →
     (loaded : Loaded config chains hw falling table t old) →

@@ -71,7 +71,7 @@ pub fn unloads_reach_outputs()
 {}
 
 /// What the strobe and the capture of the original know stands above the abstract cycle of a design that covers it.
-pub fn captures_stand_over()
+pub fn capture_bounds_cycle()
     ensures covers { ContainingCovers }
     ensures widens { WideningCovers }
     ensures strobe { StrobeLaw }

@@ -151,6 +151,7 @@ lane_fall x needs ports pulsed clamps risen later shown lane stuck value is clos
 
 -- ---- the round
 
+-- a lane has gone through a round with both edges: risen cells take from the strobe, falling ones from the values behind the rise
 with_falls : (x : Circuit) (needs fewer : ℕ → Bool) (ports : List Tri) (pulsed : List Bool) (clamps : List (Option Clamp)) (before held strobe risen later after : List Wide) (first second : List Shown) (lane stuck : ℕ) (value : Bool) → IsCircuit x → IsStrobeClosed (logic_at x) needs → IsStrobeClosed (logic_at x) fewer →
     lane < 512 → IsStuck clamps lane stuck value → IsStrobeOf x needs ports clamps before held strobe → IsShownOn (logic_at x) (edges_of true (flag_at pulsed)) every (shown_at first) → AreSteady x.flops true pulsed needs first strobe lane →
     AreTaken x.flops true pulsed ports strobe held risen → AreSettledOn x.ops (at_levels ports pulsed risen clamps) fewer later → IsShownOn (logic_at x) (edges_of false (flag_at pulsed)) every (shown_at second) →

@@ -56,6 +56,7 @@ pub outcome : {X : Type 0} (own whole : Grown) (new : Netlist) (P : Type 0) (r :
 outcome own whole new P (Ok x) good bad is = good is
 outcome own whole new P (Err e) good bad is = refused own whole e bad is
 
+-- the walk over nets goes on into the module of an instance, or is refused as the whole design is
 pub entered : {X : Type 0} (ms : List Module) (items : List Live) (whole : Grown) (s : NetStand) (v : Visit) (l : LiveSub) (name : Text) (m : Module) (names : List Text) (prefix : Text) (n new : Netlist) (t : NetStand) (r : Result X NetlistError) →
     IsNetLaid ms items → slice_get (live_at items v.number) v.next ≡ Some l → (at : IsSubAt ms v.number l) → name ≡ at.sub.name → m ≡ get_or ms l.child m → names ≡ m.nets → t ≡ gone_on s v name l.child → prefix ≡ t.prefix → IsPrefix t.prefix →
     Grows (add_nets (map (λ x. prefix ++ x) names) n) r new → IsNetWalk ms items whole (record s { way = s.way ++ v ∷ [] }) n → MatchResult r (λ _. IsNetWalk ms items whole t new) (IsRefusal whole)

@@ -95,6 +95,7 @@ sub_connects ms items weights library whole s v n l m sub ports connections is l
     let own : connections ≡ is.sub.connections = joined ∙ ap (λ (x : SubInstance). x.connections) same in
     rw (below, own) (k.bits, k.signals, k.fits)
 
+-- the walk over instances goes on into the module of an instance, whose ports are joined to the nets outside
 pub sub_entered : (ms : List Module) (items : List Live) (weights : List Weight) (library : List Cell) (whole : Grown) (s : ItemStand) (v : Visit) (n new : Netlist) (l : LiveSub) (m : Module) (sub : SubInstance) (ports : List Port) (connections : List Connection) (below count : ℕ) (t : ItemStand) (is : IsSubAt ms v.number l) →
     AreItemsLaid library ms items weights → slice_get (live_items_at items v.number) v.item ≡ Some (Sub l) → m ≡ get_or ms l.child m → sub ≡ is.sub → ports ≡ m.ports → connections ≡ sub.connections → below ≡ (get_or weights l.child no_weight).nets → count ≡ length m.nets →
     new ≡ with_joins n (connection_joins v.first v.next connections ports) → t ≡ gone_into (and_visit s (passed_by v below)) v sub.name l.child count → IsPrefix t.prefix → IsItemWalk ms items weights library whole (and_visit s v) n → IsItemWalk ms items weights library whole t new

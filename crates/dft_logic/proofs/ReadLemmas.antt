@@ -86,6 +86,7 @@ pub all_agree : (rank : ℕ → ℕ) (r : ℕ) (needs : ℕ → Bool) (v w : ℕ
 all_agree rank r needs v w [] below all same = tt
 all_agree rank r needs v w (net ∷ nets) below all same = (same net below.0 all.0, all_agree rank r needs v w nets below.1 all.1 same)
 
+-- two families of views agree on needed nets, by their ranks, where what these nets are given by agrees
 needed_within : (l : Logic) (rank : ℕ → ℕ) (p : Pulse) (t s : ℕ → TriSources) (needs : ℕ → ℕ → Bool) (v w : ℕ → ℕ → Tri) → (ranked : IsRanked l rank) → (closed : IsReadClosed l p needs) →
     (tv : ((d net : ℕ) → needs d net ≡ true → v d net ≡ value_given (t d) (v d) net (l.net net))) → (sw : ((d net : ℕ) → needs d net ≡ true → w d net ≡ value_given (s d) (w d) net (l.net net))) →
     (ports : ((d k : ℕ) → (t d).ports k ≡ (s d).ports k)) → (clocks : ((d net : ℕ) → needs d net ≡ true → l.net net ≡ Clock → (t d).clocks net ≡ (s d).clocks net)) →

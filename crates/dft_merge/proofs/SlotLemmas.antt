@@ -410,6 +410,7 @@ tells_not : (cube : Cube) (slot : Slot) (told : Bool) (a b : List (Option Bool))
     Tells slot.cells.items slot.ports.items cube ≡ false
 tells_not cube slot told a b cells ports is not = (λ i. opposes_by cell_number (sym cells i) cube.cells || opposes_by port_number (sym ports i) cube.ports) ∙ sym is ∙ not
 
+-- a slot whose tables and system have taken a cube in is that of the joined pattern
 pub slot_joined : (n : ℕ) (row : CellRows) (pattern next : Merged) (cube : Cube) (slot new : Slot) (lent : List (InstanceId × Bool)) (s : Elimination) (told : Bool) (a b : List (Option Bool)) → (is : IsSlot n row pattern slot) →
     (cells : a ≡ slot.cells.items) → (ports : b ≡ slot.ports.items) → (tells : told ≡ (opposes_by cell_number a cube.cells || opposes_by port_number b cube.ports)) → (not : told ≡ false) → (from : lent ≡ cube.cells) → (columns : s.columns ≡ n) → (run : IsRun n slot.system.kept (equations_of row lent) s.kept []) →
     (joins : next ≡ joined pattern cube) → (system : new.system ≡ s) → (new_cells : IsTable cell_number next.cells new.cells.items) → (new_ports : IsTable port_number next.ports new.ports.items) → IsSlot n row next new

@@ -77,6 +77,7 @@ settled_exists : (m : Machine) → HasRanks m.netlist → (values : ℕ → Tri)
 unfolding logic
 settled_exists m ranks = still_there (logic m) ranks.0 (λ e. false) (value_at m.inputs) (value_at m.cells) (order_is_rank m.netlist (ports_of m.clocks) ranks.0 ranks.1)
 
+-- a vector is played where its inputs are set, what is compared is decided at the strobe, and its clocks have pulsed
 pub played : (u : Unknowns) (start set after : Machine) (nets : List NetId) (clocks : List ℕ) (pulsed : List Bool) (acts : List Act) (vector : ℕ) (wanted : List NetId) (asked : List Asked) (decision : Option Verdict) →
     (ranks : HasRanks start.netlist) → (differ : Differ (numbers_of nets)) → (same : length acts ≡ length nets) →
     (are : AreClocks start nets clocks acts) → (stands : StandsSince start set) → (inputs : ((net : ℕ) → value_at set.inputs net ≡ set_by (act_on (numbers_of nets) acts net) (value_at start.inputs net))) →

@@ -264,6 +264,7 @@ stays_more s rank g h a b can more are also stays =
     both true true false x y first second h = absurd cc
     both true true true x y first second h = λ i. first refl i && second refl i
 
+-- no point tells the fault below a node at which the search ends: its site stays at the stuck value, all points agree, or all variables are given and none is found
 leaf_fails : (s : Search) (rank : ℕ → ℕ) (cone : Cone) (bits : List Bool) (g : Given) (a b : Both) → CanSeek s rank → HasNoScanPins s → IsCone s cone → Completes (node_at cone.variables bits) g → AreBoth s (node_at cone.variables bits) a → AreBoth s g b →
     (x y z : Bool) → site_stays s a ≡ x → list_all (agrees_at s (node_at cone.variables bits) a) cone.points ≡ y → is_whole cone.variables bits ≡ z → is_found s cone bits a ≡ false → (x || (y || z)) ≡ true → Passing (detects_at s g b) cone.points → ⊥
 leaf_fails s rank cone bits g a b can none is_cone more are also true y z stays agrees whole not_found is p =

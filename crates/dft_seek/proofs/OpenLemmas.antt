@@ -93,6 +93,7 @@ cell_shows r cells q c value nets k e inverted rig size is are shown = elim (eqb
   | inr other ↦ inr (sym (is.other e other.1))
 ]
 
+-- all that is not marked is settled still where a cell is given a value and the nets that show it are marked
 pub cell_open : (r : Rig) (f : Fault) (needed : List Bool) (c : ℕ) (value : Tri) (nets : List ℕ) (old mid new : Values) → IsRig r → IsPut old.cells.items mid.cells.items c value → mid.ports ≡ old.ports → mid.risen ≡ old.risen → mid.good ≡ old.good → mid.bad ≡ old.bad → mid.good_after ≡ old.good_after → mid.bad_after ≡ old.bad_after →
     nets ≡ list_at r.showing.items c → AreMarked r needed nets mid new → AreOpen r f needed old → AreOpen r f needed new
 cell_open r f needed c value nets old mid new rig is ports risen good bad good_after bad_after are marks was = record {

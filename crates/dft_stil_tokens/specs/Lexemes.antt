@@ -5,9 +5,9 @@ use Rattle.std.specs.Char.{is_ascii_digit, is_ascii_alphanumeric}
 use Rattle.dft_base.specs.Lexing.{Text, Front, Cut, tokens_from}
 use Rattle.dft_base.specs.Lexing as lexing
 use Rattle.dft_base.specs.Words.{begins_word}
-pub use Rattle.dft_lexing.specs.Blanks.{is_space, is_printed, begins_with, closed_len}
+pub use Rattle.dft_lexing.specs.Blanks.{is_printed, begins_with}
 unfoldable pub use Rattle.dft_lexing.specs.Blanks.{comment_rest}
-use Rattle.dft_lexing.specs.Blanks.{is_word_byte, rest_to, blank_or}
+use Rattle.dft_lexing.specs.Blanks.{is_space, is_word_byte, blank_or, closed_len, rest_to}
 use Rattle.dft_stil_tokens.specs.declared.text.TokenKind.{TokenKind}
 use Rattle.dft_stil_tokens.specs.declared.text.TokenKind.TheVariants as kind
 
