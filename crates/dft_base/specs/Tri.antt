@@ -26,6 +26,12 @@ AboveTri One One = Unit {0}
 AboveTri One Zero = ⊥
 AboveTri One Unknown = ⊥
 
+-- whether it is Zero or One
+abbrev pub is_known : Tri → Bool
+is_known Zero = true
+is_known One = true
+is_known Unknown = false
+
 -- the join: the value that both share, and otherwise Unknown
 abbrev pub join : Tri → Tri → Tri
 join Zero Zero = Zero

@@ -4,12 +4,12 @@ use Rattle.std.specs.List.{list_any, list_all, range_with_len}
 use Rattle.std.specs.Str.{bytes_eq}
 use Rattle.dft_base.specs.Lexing.{Text}
 use Rattle.dft_base.specs.Solutions.{bit_at, xor}
-use Rattle.dft_base.specs.declared.place.Place.{Place}
 use Rattle.dft_netlist.specs.declared.ids.InstanceId.{InstanceId}
 use Rattle.dft_netlist.specs.Netlist.{Netlist}
 use Rattle.dft_netlist.specs.Names.{find_instance}
 use Rattle.dft_config.specs.declared.config.RingConfig.{RingConfig}
 use Rattle.dft_cubes.specs.declared.cube.Cube.{Cube}
+pub use Rattle.dft_cubes.specs.Cubes.{place_of_line}
 use Rattle.dft_merge.specs.Rows.{CellRows}
 use Rattle.dft_report.specs.declared.report.CubeLine.{CubeLine}
 use Rattle.dft_report.specs.declared.report.CubeLine.TheVariants.{Encoded, Unsolvable, Skipped}
@@ -57,9 +57,6 @@ has_variables ring row cell line = same_variables line.variables (variables_of r
 -- whether it is the sum that this cell takes, for a bit that the cube gives it, and the first of the cell
 abbrev pub is_sum : RingConfig → CellRows → (cells : List (InstanceId × Bool)) → (before : List InstanceId) → InstanceId → SumLine → Bool
 is_sum ring row cells before cell line = is_care cells cell line.bit && (not (has_cell before cell) && has_variables ring row cell line)
-
-abbrev pub place_of_line : (number : ℕ) → Place
-place_of_line number = record { line = number; column = 1 }
 
 -- the first refusal of two
 abbrev pub or_later : Option CertifyError → Option CertifyError → Option CertifyError

@@ -7,6 +7,7 @@ use Rattle.std.proofs.lemmas.List.{length-drop, length-take-le}
 use Rattle.std.proofs.lemmas.List.Sums.{sum_by-cons}
 use Rattle.dft_netlist.specs.Netlist.{Netlist}
 use Rattle.dft_base.specs.declared.tri.Tri.{Tri}
+use Rattle.dft_base.specs.Tri.{is_known}
 use Rattle.dft_cubes.specs.declared.cube.Merged.{Merged}
 use Rattle.dft_cubes.specs.Domains.{later_of}
 use Rattle.dft_expect.specs.Captures.{output_bits}
@@ -17,7 +18,7 @@ use Rattle.dft_patterns.specs.declared.act.Act.{Act}
 use Rattle.dft_vectors.specs.PatternData.{PatternData, load_of}
 use Rattle.dft_vectors.specs.VectorList.{capture_acts, captures_with, load_vectors, no_table, last_of, pattern_vectors, shift_acts, vectors_of}
 use Rattle.dft_pattern_behavior.specs.Listed.{ArePatterns}
-use Rattle.dft_compile_laws.specs.Written.{all_compared, compared_of, is_known}
+use Rattle.dft_compile_laws.specs.Written.{all_compared, compared_of}
 use Rattle.dft_compile_laws.proofs.Agreements.{all_compared_in, compared_in}
 use Rattle.dft_encode.proofs.WidthLemmas.{last_left, one_left}
 use Rattle.dft_compile_laws.proofs.Outs.{capture_count, known_split, set_up_count, shift_count, signal_nets, unload_width}

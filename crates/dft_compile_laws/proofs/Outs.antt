@@ -5,7 +5,7 @@ use Rattle.std.proofs.lemmas.List.Recursion.{is_count_by}
 use Rattle.dft_insert.proofs.MadeGood.{from_at}
 use Rattle.dft_base.specs.declared.tri.Tri.{Tri}
 use Rattle.dft_base.specs.declared.tri.Tri.TheVariants.{Zero, One, Unknown}
-use Rattle.dft_base.specs.Tri.{AboveTri, known}
+use Rattle.dft_base.specs.Tri.{AboveTri, known, is_known}
 use Rattle.dft_netlist.specs.declared.ids.NetId.{NetId}
 use Rattle.dft_netlist.specs.NetNumbers.{nets_from}
 use Rattle.dft_netlist.specs.Netlist.{Netlist}
@@ -37,7 +37,6 @@ use Rattle.dft_vectors.specs.VectorList.{capture_with, set_up_acts, shift_acts, 
 use Rattle.dft_pattern_behavior.specs.Listed.{pattern_of}
 use Rattle.dft_pattern_behavior.proofs.Listed.{AllNets}
 use Rattle.dft_compile_laws.specs.Agreeing.{Agrees, AgreesAct}
-use Rattle.dft_compile_laws.specs.Written.{is_known}
 use Rattle.dft_compile_laws.proofs.Agreements.{compared_in, compares}
 use Rattle.dft_compile_laws.proofs.OutPlaces.{added_outs, outputs_kept, outs_start}
 use Rattle.dft_compile_laws.proofs.Rows.{Sets, numbers}

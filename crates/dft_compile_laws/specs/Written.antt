@@ -1,7 +1,7 @@
 -- A replay of compiled patterns on the scanned netlist passes, and how many bits it compares.
 use Rattle.std.specs.Prelude.{ℕ, ◌+◌, ◌*◌, ◌≡◌, Bool, true, false, List, length, count_by, sum_by, None}
 use Rattle.dft_base.specs.declared.tri.Tri.{Tri}
-use Rattle.dft_base.specs.declared.tri.Tri.TheVariants.{Zero, One, Unknown}
+use Rattle.dft_base.specs.Tri.{is_known}
 use Rattle.dft_netlist.specs.Netlist.{Netlist}
 use Rattle.dft_netlist.specs.Orders.{IsOrder}
 use Rattle.dft_netlist.specs.Runs.{Now, Turn}
@@ -22,12 +22,6 @@ use Rattle.dft_pattern_behavior.specs.Listed.{ArePatterns}
 use Rattle.dft_compile_laws.specs.Passing.{set_of}
 
 -- ---- how many bits are compared
-
--- a value is known
-abbrev pub is_known : Tri → Bool
-is_known Zero = true
-is_known One = true
-is_known Unknown = false
 
 -- of a pattern: the output bits that its captures know, and each output of the compactor in each cycle of its unload
 abbrev pub compared_of : Config → Plan → PatternData → ℕ

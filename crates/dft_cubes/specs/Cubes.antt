@@ -12,6 +12,7 @@ use Rattle.dft_config.specs.Config.{Config}
 use Rattle.dft_rules.specs.Rules.{flip_flop_named}
 use Rattle.dft_cells.specs.WellFormed.{has_name}
 use Rattle.dft_word_lines.specs.Lines.{lines_of, words_of, are_printed}
+pub use Rattle.dft_word_lines.specs.Lines.{place_of_line}
 use Rattle.dft_cubes.specs.declared.cube.Cube.{Cube}
 use Rattle.dft_cubes.specs.declared.error.CubeError.{CubeError}
 use Rattle.dft_cubes.specs.declared.error.CubeError.TheVariants.{Q1, Q2, Q3, Q4, Q5, Q6, Q7, Q8, Q9, Memory}
@@ -170,9 +171,6 @@ with_line n config r (word ∷ words) = with_said n config r.version r.cubes r.p
 abbrev pub or_refused : {T : Type 0} → Option CubeError → Result T CubeError → Result T CubeError
 or_refused None later = later
 or_refused (Some error) later = Err error
-
-abbrev pub place_of_line : (number : ℕ) → Place
-place_of_line number = record { line = number; column = 1 }
 
 -- the cubes, where the text ends behind a line of this number
 abbrev pub ended : (number : ℕ) → List Cube → (pending : Option Cube) → Result (List Cube) CubeError

@@ -1,7 +1,6 @@
 -- How the views of a pulse are found: lock-ups by rounds, then next values.
 use Rattle.std.specs.Prelude.{map, ℕ, Bool, true, false, ◌≡◌, ◌<◌, ◌==◌, List, Option, None, Some, get_or, length, slice_index_or, if◌then◌else◌}
 use Rattle.dft_base.specs.declared.tri.Tri.{Tri}
-use Rattle.dft_base.specs.declared.tri.Tri.TheVariants.{Zero, One, Unknown}
 use Rattle.dft_base.specs.Tri.{join, AboveTri}
 use Rattle.dft_netlist.specs.declared.ids.NetId.{NetId}
 use Rattle.dft_netlist.specs.Drivers.{Source}
@@ -55,11 +54,6 @@ abbrev pub PulsesAmong : List Bool → List NetId → Type 0
 PulsesAmong pulsed clocks = (e : ℕ) → flag_at pulsed e ≡ true → Among clocks (length clocks) e
 
 -- ---- the least map
-
-abbrev pub is_known : Tri → Bool
-is_known Zero = true
-is_known One = true
-is_known Unknown = false
 
 -- the map, with the next value joined where the flip-flop takes one
 abbrev pub raised_by : (up : Bool) → (next old : Tri) → Tri

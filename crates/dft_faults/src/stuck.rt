@@ -1,7 +1,6 @@
 //! The design with a stuck net.
 
 ghost use Rattle.std.specs.Prelude.{◌≡◌, IfOk, OnOk, filter, map};
-ghost use Rattle.dft_netlist.specs.Building.{empty_netlist};
 ghost use Rattle.dft_netlist.specs.Drivers.{shape_of};
 ghost use Rattle.dft_scan_frame.specs.Growing.{AllFit, instance_things, join_things, with_things};
 ghost use Rattle.dft_scan_frame.specs.Statements.{CanFinish};
@@ -11,17 +10,8 @@ ghost use Rattle.dft_faults.specs.Faulty.{IsFault};
 use crate::fault::Fault;
 use dft_cells::{Cell, Role};
 use dft_netlist::{Design, DesignBuilder, Instance, Join, NetId, PinSignals, Signal, role_at};
-use dft_scan_frame::{add_instance, carry_nets, carry_ports, memory, own_name};
+use dft_scan_frame::{add_instance, bare_module, carry_nets, carry_ports, memory, own_name};
 use std::alloc::{AllocError, Global};
-
-// A module of the design's name over its cells, with nothing in it.
-fn bare_module(alloc: Global, design: &Design) -> Result<DesignBuilder, AllocError>
-    ensures { IfOk result (λ builder. builder ≡ empty_netlist design.now.name design.now.library) }
-{
-    let name = design.module().copy(alloc)?;
-    let library = design.library().copy(alloc)?;
-    Ok(DesignBuilder::new(alloc, name, library))
-}
 
 // Whether a pin is joined to the net.
 fn is_at(net: NetId, signal: Signal) -> bool

@@ -1,7 +1,6 @@
 //! The frame: the design with the added ports, and with scan cells whose scan inputs are open.
 
 ghost use Rattle.std.specs.Prelude.{◌≡◌, ◌≤◌, None, IfErr, IfOk, OnOk, length};
-ghost use Rattle.dft_netlist.specs.Building.{empty_netlist};
 ghost use Rattle.dft_stitch.specs.Chains.{plan_of};
 ghost use Rattle.dft_scan_frame.specs.Refusals.{IsRefusal};
 ghost use Rattle.dft_insert.specs.Frame.{frame};
@@ -14,7 +13,7 @@ use crate::ports::added_ports;
 use crate::style::Style;
 use dft_config::Config;
 use dft_netlist::{Counted, Design, DesignBuilder, MAX_NETS};
-use dft_scan_frame::{Gap, InsertError, carry_joins, carry_nets, carry_ports};
+use dft_scan_frame::{Gap, InsertError, bare_module, carry_joins, carry_nets, carry_ports};
 use dft_stitch::Chains;
 use std::alloc::{AllocError, Global};
 
@@ -43,15 +42,6 @@ fn bare_ports(alloc: Global, design: &Design) -> Result<DesignBuilder, AllocErro
     let mut builder = bare_module(alloc, design)?;
     carry_ports(alloc, &mut builder, design.ports())?;
     Ok(builder)
-}
-
-// A module of the design's name over its cells, with nothing in it.
-fn bare_module(alloc: Global, design: &Design) -> Result<DesignBuilder, AllocError>
-    ensures { IfOk result (λ builder. builder ≡ empty_netlist design.now.name design.now.library) }
-{
-    let name = design.module().copy(alloc)?;
-    let library = design.library().copy(alloc)?;
-    Ok(DesignBuilder::new(alloc, name, library))
 }
 
 // Adds to the ports of the design the added ports, and the rest of the design.

@@ -1,7 +1,7 @@
 -- Reports as their texts are read: line by line, to the first line that is not of the form.
 use Rattle.std.specs.Prelude.{ℕ, suc, ◌-◌, ◌==◌, ◌&&◌, ◌≡◌, Bool, List, [], ◌∷◌, ◌++◌, length, take, get_or, nat_le, is_none, is_some, Option, None, Some, Result, Ok, Err, if◌then◌else◌}
 use Rattle.dft_base.specs.Lexing.{Text}
-use Rattle.dft_base.specs.declared.place.Place.{Place}
+pub use Rattle.dft_word_lines.specs.Lines.{place_of_line}
 use Rattle.dft_report.specs.declared.report.Header.{Header}
 use Rattle.dft_report.specs.declared.report.ScannedLine.{ScannedLine}
 use Rattle.dft_report.specs.declared.report.UnscannedLine.{UnscannedLine}
@@ -92,9 +92,6 @@ with_said r (Some (Skipped name cell)) = with_cube r name (outcome.Skipped cell)
 with_said r (Some (Sum name bit variables)) = with_sum r r.owing name bit (variables_of variables)
 
 -- ---- the text
-
-abbrev pub place_of_line : (number : ℕ) → Place
-place_of_line number = record { line = number; column = 1 }
 
 abbrev pub then_lines : (number : ℕ) → Option Reading → (Reading → Result Reading ReadError) → Result Reading ReadError
 then_lines number None later = Err (K1 (place_of_line number))

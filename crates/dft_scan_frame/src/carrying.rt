@@ -3,6 +3,7 @@
 ghost use Rattle.std.specs.Prelude.{ℕ, ◌≡◌, ◌<◌, ◌≤◌, drop, map, length, OnOk, IfOk, slice_get, Some};
 ghost use Rattle.dft_netlist.specs.declared.instance.Join.{Join};
 ghost use Rattle.dft_netlist.specs.declared.limits.TheConstants.{MAX_NETS, MAX_PORTS};
+ghost use Rattle.dft_netlist.specs.Building.{empty_netlist};
 ghost use Rattle.dft_netlist.specs.Sound.{AreLive, IsAJoin, IsLive};
 ghost use Rattle.dft_scan_frame.specs.Growing.{AllFit, join_things, net_things, port_things, with_things};
 ghost use Rattle.dft_scan_frame.specs.Moves.{moved_join};
@@ -12,6 +13,15 @@ use crate::gap::Gap;
 use crate::growing::{add_net, add_port};
 use dft_netlist::{Design, DesignBuilder, Join, NetId, PinSignals, Port, Signal};
 use std::alloc::{AllocError, Global};
+
+/// A module of the design's name over its cells, with nothing in it.
+pub fn bare_module(alloc: Global, design: &Design) -> Result<DesignBuilder, AllocError>
+    ensures { IfOk result (λ builder. builder ≡ empty_netlist design.now.name design.now.library) }
+{
+    let name = design.module().copy(alloc)?;
+    let library = design.library().copy(alloc)?;
+    Ok(DesignBuilder::new(alloc, name, library))
+}
 
 /// Adds these ports.
 pub fn carry_ports(

@@ -11,7 +11,7 @@ mod growing;
 mod ids;
 mod outputs;
 
-pub use carrying::{carry_joins, carry_nets, carry_ports, moved_pins};
+pub use carrying::{bare_module, carry_joins, carry_nets, carry_ports, moved_pins};
 pub use cells::{own_name, pins_of, pins_taken, scan_cell, signal_at};
 pub use domains::domain_net;
 pub use error::InsertError;

@@ -6,7 +6,7 @@ use Rattle.std.proofs.lemmas.Bool.{eq-eqb, or_parts, or_right}
 use Rattle.std.proofs.lemmas.Option.{none-some, same_Some}
 use Rattle.dft_base.specs.declared.tri.Tri.{Tri}
 use Rattle.dft_base.specs.declared.tri.Tri.TheVariants.{Zero, One, Unknown}
-use Rattle.dft_base.specs.Tri.{known, AboveTri}
+use Rattle.dft_base.specs.Tri.{known, AboveTri, is_known}
 use Rattle.dft_base.proofs.BitLemmas.{true_false, and_second, and_first, or_more}
 use Rattle.dft_cells.proofs.Completions.{above_self}
 use Rattle.dft_netlist.specs.declared.ids.NetId.{NetId}
@@ -14,7 +14,7 @@ use Rattle.dft_netlist.specs.declared.ids.InstanceId.{InstanceId}
 use Rattle.dft_expect.specs.Captures.{output_bits}
 use Rattle.dft_expect.specs.Loaded.{or_unknown}
 use Rattle.dft_capture.proofs.Settling.{capture_over}
-use Rattle.dft_seek.specs.Searches.{AreBoth, Both, Completes, Given, IsFull, Point, Output, Response, Search, agree, cells_in, detects_at, differ, drivable_ports, faulty_at, good_at, has_cell, has_falling, input_bits, is_drivable, is_known, moving_of, points_of, port_values, takes_at}
+use Rattle.dft_seek.specs.Searches.{AreBoth, Both, Completes, Given, IsFull, Point, Output, Response, Search, agree, cells_in, detects_at, differ, drivable_ports, faulty_at, good_at, has_cell, has_falling, input_bits, is_drivable, moving_of, points_of, port_values, takes_at}
 use Rattle.dft_seek.specs.Walks.{Cell, Cone, IsCone, Port, Variable, candidates}
 use Rattle.dft_seek.specs.Trees.{Dead, Open, Looks, Tree, Miss, Right, agrees_at, bit_for, is_bit, is_found, is_whole, node_at, same_variable, site_stays, verdict_of}
 use Rattle.dft_seek.specs.Laws.{CanSeek, NoneDetects}

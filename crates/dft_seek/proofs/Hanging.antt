@@ -6,7 +6,7 @@ use Rattle.std.proofs.lemmas.Bool.{eqb-true, eq-eqb, or_right}
 use Rattle.std.proofs.lemmas.Bool.Decides.{eqb_tells}
 use Rattle.dft_base.specs.declared.tri.Tri.{Tri}
 use Rattle.dft_base.specs.declared.tri.Tri.TheVariants.{One}
-use Rattle.dft_base.specs.Tri.{known, AboveTri}
+use Rattle.dft_base.specs.Tri.{known, AboveTri, is_known}
 use Rattle.dft_netlist.specs.declared.ids.NetId.{NetId}
 use Rattle.dft_netlist.specs.declared.ids.InstanceId.{InstanceId}
 use Rattle.dft_netlist.specs.Netlist.{Netlist}
@@ -18,7 +18,7 @@ use Rattle.dft_faults.specs.Faulty.{faulty}
 use Rattle.dft_faults.proofs.Finished.{order_stays}
 use Rattle.dft_expect.specs.Loaded.{or_unknown}
 use Rattle.dft_capture.specs.Captures.{Settled, AreSettled, next_by_pins}
-use Rattle.dft_seek.specs.Searches.{AreBoth, Both, Completes, Given, Point, Output, Response, Search, cells_in, drivable_ports, faulty_at, good_at, has_cell, input_bits, is_drivable, is_known, moving_of, port_values, takes_at, value_at}
+use Rattle.dft_seek.specs.Searches.{AreBoth, Both, Completes, Given, Point, Output, Response, Search, cells_in, drivable_ports, faulty_at, good_at, has_cell, input_bits, is_drivable, moving_of, port_values, takes_at, value_at}
 use Rattle.dft_seek.specs.Walks.{Cell, Cone, IsCone, IsVariable, LeadsTo, Port, Variable, Walks, Here, Onward, candidates, is_among, is_output_of, shows, walked_from}
 use Rattle.dft_seek.specs.Trees.{bit_for, is_whole, node_at, same_variable}
 use Rattle.dft_seek.specs.Laws.{CanSeek}

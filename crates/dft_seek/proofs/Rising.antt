@@ -5,7 +5,7 @@ use Rattle.std.specs.List.{list_any}
 use Rattle.std.proofs.lemmas.Bool.{or_right}
 use Rattle.dft_base.specs.declared.tri.Tri.{Tri}
 use Rattle.dft_base.specs.declared.tri.Tri.TheVariants.{Zero, One, Unknown}
-use Rattle.dft_base.specs.Tri.{AboveTri}
+use Rattle.dft_base.specs.Tri.{AboveTri, is_known}
 use Rattle.dft_netlist.specs.Netlist.{Netlist}
 use Rattle.dft_netlist.specs.Drivers.{IsOrdered}
 use Rattle.dft_rules.specs.ConfigPorts.{config_ports}
@@ -13,7 +13,7 @@ use Rattle.dft_faults.specs.Faulty.{faulty}
 use Rattle.dft_faults.proofs.Finished.{order_stays}
 use Rattle.dft_capture.specs.Captures.{Settled, AreSettled}
 use Rattle.dft_capture.proofs.Settling.{capture_over}
-use Rattle.dft_seek.specs.Searches.{AreBoth, Both, Completes, Detects, Given, Point, Output, Response, Search, agree, detects_at, differ, faulty_at, good_at, is_known, moving_of, points_of, port_values, value_at}
+use Rattle.dft_seek.specs.Searches.{AreBoth, Both, Completes, Detects, Given, Point, Output, Response, Search, agree, detects_at, differ, faulty_at, good_at, moving_of, points_of, port_values, value_at}
 use Rattle.dft_seek.specs.Walks.{Cone, IsCone}
 use Rattle.dft_seek.specs.Trees.{Found, Looks, Hit, Left, Right, is_bit, is_dead, is_found, node_at, verdict_of}
 use Rattle.dft_seek.specs.Laws.{CanSeek, CubesDetect}

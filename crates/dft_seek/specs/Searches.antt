@@ -4,7 +4,7 @@ use Rattle.std.specs.Bool.{beq}
 use Rattle.std.specs.List.{list_any}
 use Rattle.dft_base.specs.declared.tri.Tri.{Tri}
 use Rattle.dft_base.specs.declared.tri.Tri.TheVariants.{Zero, One, Unknown}
-use Rattle.dft_base.specs.Tri.{AboveTri}
+use Rattle.dft_base.specs.Tri.{AboveTri, is_known}
 use Rattle.dft_base.specs.declared.dir.Dir.{Dir}
 use Rattle.dft_base.specs.declared.dir.Dir.TheVariants as dir
 use Rattle.dft_netlist.specs.declared.ids.NetId.{NetId}
@@ -138,10 +138,6 @@ Detects s g = (b : Both) × (AreBoth s g b × (list_any (detects_at s g b) (poin
 pub record Completes (g h : Given) : Type 0 where
   pub cells : (cell : ℕ) → AboveTri (g.cells cell) (h.cells cell)
   pub ports : (net : ℕ) → AboveTri (g.ports net) (h.ports net)
-
-abbrev pub is_known : Tri → Bool
-is_known Unknown = false
-is_known _ = true
 
 -- every scanned cell and every drivable port has a bit
 pub record IsFull (s : Search) (g : Given) : Type 0 where

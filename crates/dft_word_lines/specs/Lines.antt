@@ -3,6 +3,7 @@ use Rattle.std.specs.Prelude.{ℕ, ◌==◌, ◌||◌, Bool, true, false, List, 
 use Rattle.std.specs.List.{All, list_all}
 pub use Rattle.dft_base.specs.Bytes.{is_printed}
 use Rattle.dft_base.specs.Lexing.{Text}
+use Rattle.dft_base.specs.declared.place.Place.{Place}
 use Rattle.dft_word_lines.specs.declared.words.Span.{Span}
 
 -- a byte before the first of these texts
@@ -16,6 +17,10 @@ onto_first b (text ∷ texts) = (b ∷ text) ∷ texts
 unfoldable pub lines_of : Text → List Text
 lines_of [] = [] ∷ []
 lines_of (b ∷ text) = if b == 10 then [] ∷ lines_of text else onto_first b (lines_of text)
+
+-- where a line of this number begins
+abbrev pub place_of_line : (number : ℕ) → Place
+place_of_line number = record { line = number; column = 1 }
 
 -- ---- words
 

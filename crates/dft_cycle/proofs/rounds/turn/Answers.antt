@@ -2,11 +2,11 @@
 use Rattle.std.proofs.Common.{ℕ, List, ◌≡◌, ◌<◌, ◌∙◌, ap, sym, length, count_by, inl, inr, subst}
 use Rattle.std.specs.Vec.{with_items}
 use Rattle.dft_base.specs.declared.tri.Tri.{Tri}
-use Rattle.dft_base.specs.Tri.{AboveTri}
+use Rattle.dft_base.specs.Tri.{AboveTri, is_known}
 use Rattle.dft_base.proofs.ListLemmas.{refilled_length, refilled_items}
 use Rattle.dft_abstract.specs.Cycle.{AreViews}
 use Rattle.dft_cycle.specs.Machine.{value_at}
-use Rattle.dft_cycle.specs.Views.{StaysBelow, AreNext, is_known}
+use Rattle.dft_cycle.specs.Views.{StaysBelow, AreNext}
 use Rattle.dft_logic.specs.Circuit.{Circuit, IsCircuit, logic_at, pulse_at}
 use Rattle.dft_cycle.proofs.AloneLemmas.{turn_alone}
 use Rattle.dft_cycle.proofs.Risings.{turn_above, turn_below, turn_done}
