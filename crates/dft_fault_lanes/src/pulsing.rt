@@ -264,8 +264,7 @@ pub fn pulse(play: Play<'_>, wides: &[Wide], later: &mut [Wide], cells: &mut Cel
     ensures idle { AreSettledOn play.entry.circuit.now.ops (at_levels play.entry.ports.now [] cells.old.values play.entry.clamps.now) (needs_of (length play.entry.circuit.now.ops) play.entry.plan.now.marked.items) wides.now → AreIdleUnknown play.entry.circuit.now.flops cells.new.values }
     ensures pulsed { ArePulsed play.entry.circuit.now (needs_of (length play.entry.circuit.now.ops) play.entry.plan.now.marked.items) play.entry.ports.now play.entry.plan.now.pulsed.items play.entry.clamps.now wides.now cells.old.values cells.new.values live.old live.new }
 {
-    let circuit = play.circuit;
-    let _ = &circuit.order;
+    play.circuit.soundness();
     rise(play, wides, cells, live);
     fall(play, later, cells, live);
 }

@@ -1,7 +1,6 @@
 -- The rises and the falls give a round in each live lane.
 use Rattle.std.proofs.Common.{◌∙◌, length, sym, subst}
 use Rattle.dft_registers.specs.Layout.{Layout}
-use Rattle.dft_logic.specs.Circuit.{IsCircuit}
 use Rattle.dft_fault_lanes.specs.Made.{IsPlan}
 use Rattle.dft_fault_lanes.specs.Plans.{needs_of}
 use Rattle.dft_fault_lanes.specs.Seen.{knows, seen}
@@ -26,7 +25,7 @@ returns-clause-count c = c.fall.ensures.count ∙ c.rise.ensures.count
 pub returns-clause-pulsed : goal.returns-clause-pulsed
 returns-clause-pulsed c =
     seen_pulsed c.args.play.circuit.now c.args.play.plan.now.marked.items c.args.play.ports.now c.args.play.plan.now.pulsed.items c.args.play.clamps.now c.args.wides.now c.args.cells.now.values c.rise.new.cells.values c.fall.new.cells.values
-    c.args.live.now c.rise.new.live c.fall.new.live (subst IsCircuit c.circuit.view_is c.circuit.invariant) c.requires.plan.1.closed c.requires.strobe c.rise.ensures.phase c.fall.ensures.fall
+    c.args.live.now c.rise.new.live c.fall.new.live c.soundness.ensures c.requires.plan.1.closed c.requires.strobe c.rise.ensures.phase c.fall.ensures.fall
 
 pub returns-clause-idle : goal.returns-clause-idle
 returns-clause-idle c = λ settled.
