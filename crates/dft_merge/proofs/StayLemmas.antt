@@ -51,8 +51,8 @@ all_joined number pattern cube one none =
     entries_in number cube all one
     (covered number (HasEntry number all) pattern cube none (all_front (Has number (HasEntry number all)) pattern (missing number pattern cube) each) (all_back (Has number (HasEntry number all)) pattern (missing number pattern cube) each))
 
-all_front : {T : Type 0} (xs ys : List (T × Bool)) → AllIn xs (xs ++ ys)
-all_front xs ys k given at = (k, get_left xs ys k given at)
+in_front : {T : Type 0} (xs ys : List (T × Bool)) → AllIn xs (xs ++ ys)
+in_front xs ys k given at = (k, get_left xs ys k given at)
 
 all_then : {T : Type 0} (xs ys zs : List (T × Bool)) → AllIn xs ys → AllIn ys zs → AllIn xs zs
 all_then xs ys zs one two k given at = let there = one k given at in two there.0 given there.1
@@ -80,8 +80,8 @@ within_then a b c one two = record { domains = two.domains ∙ one.domains; cell
 within_joined : (pattern : Merged) (cube : Cube) → Within pattern (joined pattern cube)
 within_joined pattern cube = record {
   domains = refl;
-  cells = all_front pattern.cells (missing cell_number pattern.cells cube.cells);
-  ports = all_front pattern.ports (missing port_number pattern.ports cube.ports);
+  cells = in_front pattern.cells (missing cell_number pattern.cells cube.cells);
+  ports = in_front pattern.ports (missing port_number pattern.ports cube.ports);
 }
 
 record Later (new : List Merged) (p : ℕ) (now : Merged) : Type 0 where
