@@ -1,6 +1,5 @@
 -- A replay of compiled patterns on the scanned netlist passes, and how many bits it compares.
-use Rattle.std.specs.Prelude.{ℕ, ◌+◌, ◌*◌, ◌≡◌, Bool, true, false, List, length, count_by, sum_by, None}
-use Rattle.dft_base.specs.declared.tri.Tri.{Tri}
+use Rattle.std.specs.Prelude.{ℕ, ◌+◌, ◌*◌, ◌≡◌, List, length, count_by, sum_by, None}
 use Rattle.dft_base.specs.Tri.{is_known}
 use Rattle.dft_netlist.specs.Netlist.{Netlist}
 use Rattle.dft_netlist.specs.Orders.{IsOrder}
