@@ -3,7 +3,7 @@ use Rattle.std.proofs.Common.{ℕ, Bool, true, false, ◌≡◌, Option, None, S
 use Rattle.dft_base.specs.declared.tri.Tri.{Tri}
 use Rattle.dft_base.specs.declared.tri.Tri.TheVariants.{Zero, One, Unknown}
 use Rattle.dft_cells.specs.FlipFlops.{tri_forced}
-use Rattle.dft_netlist.specs.Logic.{Force}
+use Rattle.dft_behavior.specs.Logic.{Force}
 use Rattle.dft_abstract.specs.Cycle.{tri_forced_by}
 
 pub forced_twice : (value : Bool) (pin bit : Tri) → tri_forced value pin (tri_forced value pin bit) ≡ tri_forced value pin bit

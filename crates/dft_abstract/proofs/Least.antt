@@ -6,10 +6,10 @@ use Rattle.dft_base.specs.declared.tri.Tri.TheVariants.{Zero, One, Unknown}
 use Rattle.dft_base.specs.Tri.{AboveTri, join}
 use Rattle.dft_cells.proofs.Completions.{above_self, trans, join_least, join_over_left, join_over_right, forced_monotone, chosen_monotone}
 use Rattle.dft_netlist.specs.Drivers.{Source, nets_of, AreBelow}
-use Rattle.dft_netlist.specs.Logic.{Logic, Force, Scan, IsRanked}
-use Rattle.dft_netlist.specs.Settled.{TriSources, value_from, IsTriSettled}
-use Rattle.dft_netlist.specs.Runs.{Vector, takes}
-use Rattle.dft_netlist.proofs.Meanings.{source_monotone, source_over, meaning_monotone, at_nets}
+use Rattle.dft_behavior.specs.Logic.{Logic, Force, Scan, IsRanked}
+use Rattle.dft_behavior.specs.Settled.{TriSources, value_from, IsTriSettled}
+use Rattle.dft_behavior.specs.Runs.{Vector, takes}
+use Rattle.dft_behavior.proofs.Meanings.{source_monotone, source_over, meaning_monotone, at_nets}
 use Rattle.dft_abstract.specs.Cycle.{Pulse, tri_forced_by, tri_taken_by, changes, lockup_shown, view_sources, AreViews, next_value, IsLeast, after_pulse, rise_of, fall_of, strobe_sources, Halves, AreLeast, after_halves, Round, IsRound}
 use Rattle.dft_abstract.specs.Laws.{StepIsBelow, NoneChanges, RoundIsOne}
 use Rattle.dft_abstract.proofs.Views.{views_exist}

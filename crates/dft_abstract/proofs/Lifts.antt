@@ -4,8 +4,8 @@ use Rattle.dft_base.specs.declared.tri.Tri.{Tri}
 use Rattle.dft_base.specs.declared.tri.Tri.TheVariants.{Unknown}
 use Rattle.dft_base.specs.Tri.{known, Above, AboveTri}
 use Rattle.dft_cells.proofs.Completions.{above_known, above_self}
-use Rattle.dft_netlist.specs.Logic.{Logic, Force, IsRanked}
-use Rattle.dft_netlist.specs.Runs.{State, Now, Vector, Turn, IsTurn, after_turn, AreLow}
+use Rattle.dft_behavior.specs.Logic.{Logic, Force, IsRanked}
+use Rattle.dft_behavior.specs.Runs.{State, Now, Vector, Turn, IsTurn, after_turn, AreLow}
 use Rattle.dft_abstract.specs.Cycle.{level_before, tri_forced_by, rise_of, fall_of, Halves, AreClosed, after_halves}
 use Rattle.dft_abstract.specs.Laws.{Stands, StandsAt, IsForced, bits, after_rises, falls_from, KnownAfterTurn, KnownAfterFalls, KnownAtStrobe, LowAfterTurn}
 use Rattle.dft_abstract.proofs.Turns.{strobe_stands, rises_stand, rises_forced, falls_stand, turn_stands}

@@ -7,9 +7,9 @@ use Rattle.dft_base.specs.declared.tri.Tri.TheVariants.{Zero, Unknown}
 use Rattle.dft_base.specs.Tri.{AboveTri, join}
 use Rattle.dft_cells.proofs.Completions.{above_self, join_least, join_over_left, join_over_right}
 use Rattle.dft_netlist.specs.Drivers.{Source, Net, Tied, Loose}
-use Rattle.dft_netlist.specs.Logic.{Logic, Scan, IsRanked}
-use Rattle.dft_netlist.specs.Settled.{value_from, IsTriSettled}
-use Rattle.dft_netlist.specs.Runs.{Vector, takes}
+use Rattle.dft_behavior.specs.Logic.{Logic, Scan, IsRanked}
+use Rattle.dft_behavior.specs.Settled.{value_from, IsTriSettled}
+use Rattle.dft_behavior.specs.Runs.{Vector, takes}
 use Rattle.dft_abstract.specs.Cycle.{Pulse, tri_forced_by, tri_taken_by, changes, view_sources, AreViews, next_value, IsLeast, rise_of, fall_of, strobe_sources, Round}
 use Rattle.dft_abstract.specs.Laws.{HasNoLockup, next_from, OneDomain}
 use Rattle.dft_abstract.proofs.Views.{views_exist, settled_same}

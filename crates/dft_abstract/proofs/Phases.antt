@@ -8,10 +8,10 @@ use Rattle.dft_base.specs.Tri.{known, Above, AboveTri}
 use Rattle.dft_base.proofs.BitLemmas.{same_or_not, other_bit, first_false}
 use Rattle.dft_cells.proofs.Completions.{above_self, above_trans, join_left, join_right, forced_above, chosen_above, forced_again}
 use Rattle.dft_netlist.specs.Drivers.{Source}
-use Rattle.dft_netlist.specs.Logic.{Logic, Lockup, Cell, Force, Scan, IsRanked}
-use Rattle.dft_netlist.specs.Settled.{bit_from, is_wire, value_from}
-use Rattle.dft_netlist.specs.Runs.{State, Moment, Now, port_bits, sources_of, IsNow, forced_by, taken_by, takes, edge, after_event, event_of, at_moment, next_now, after, AreSteps, Edge, edge_step, times}
-use Rattle.dft_netlist.proofs.Meanings.{completed_above, source_above, source_all, meaning_above, at_net}
+use Rattle.dft_behavior.specs.Logic.{Logic, Lockup, Cell, Force, Scan, IsRanked}
+use Rattle.dft_behavior.specs.Settled.{bit_from, is_wire, value_from}
+use Rattle.dft_behavior.specs.Runs.{State, Moment, Now, port_bits, sources_of, IsNow, forced_by, taken_by, takes, edge, after_event, event_of, at_moment, next_now, after, AreSteps, Edge, edge_step, times}
+use Rattle.dft_behavior.proofs.Meanings.{completed_above, source_above, source_all, meaning_above, at_net}
 use Rattle.dft_abstract.specs.Cycle.{Pulse, tri_forced_by, tri_taken_by, changes, level_before, lockup_shown, view_sources, next_value, IsClosed, after_pulse}
 use Rattle.dft_abstract.specs.Laws.{IsForced, StandsAt, PhaseIsAbove}
 

@@ -4,9 +4,9 @@ use Rattle.std.specs.Prelude.{if◌then◌else◌}
 use Rattle.dft_base.specs.declared.tri.Tri.{Tri}
 use Rattle.dft_base.specs.Tri.{Above}
 use Rattle.dft_netlist.specs.Drivers.{Source}
-use Rattle.dft_netlist.specs.Logic.{Logic, IsRanked}
-use Rattle.dft_netlist.specs.Settled.{Sources, bit_from, is_wire, IsSettled, TriSources, IsTriSettled, value_from}
-use Rattle.dft_netlist.proofs.Meanings.{source_above, meaning_above, at_net}
+use Rattle.dft_behavior.specs.Logic.{Logic, IsRanked}
+use Rattle.dft_behavior.specs.Settled.{Sources, bit_from, is_wire, IsSettled, TriSources, IsTriSettled, value_from}
+use Rattle.dft_behavior.proofs.Meanings.{source_above, meaning_above, at_net}
 
 -- each source's value stands above its bit, all clocks are low, and lock-ups are wires but for high ones, which hold
 pub record SourcesAbove (s : Sources) (t : TriSources) (values : ℕ → Tri) : Type 0 where

@@ -5,11 +5,11 @@ use Rattle.dft_base.specs.declared.tri.Tri.{Tri}
 use Rattle.dft_base.specs.Tri.{Above, AboveTri}
 use Rattle.dft_base.proofs.SumLemmas.{and_false}
 use Rattle.dft_netlist.specs.Drivers.{Source}
-use Rattle.dft_netlist.specs.Logic.{Logic, Force, IsRanked}
-use Rattle.dft_netlist.specs.Settled.{value_from}
-use Rattle.dft_netlist.specs.Runs.{Now, sources_of, next_now, after, edge_step, Vector, Turn, IsTurn, after_turn, set_step}
-use Rattle.dft_netlist.proofs.Meanings.{completed_above}
-use Rattle.dft_netlist.proofs.Steps.{after-append, AreSteps-append}
+use Rattle.dft_behavior.specs.Logic.{Logic, Force, IsRanked}
+use Rattle.dft_behavior.specs.Settled.{value_from}
+use Rattle.dft_behavior.specs.Runs.{Now, sources_of, next_now, after, edge_step, Vector, Turn, IsTurn, after_turn, set_step}
+use Rattle.dft_behavior.proofs.Meanings.{completed_above}
+use Rattle.dft_behavior.proofs.Steps.{after-append, AreSteps-append}
 use Rattle.dft_abstract.specs.Cycle.{Pulse, changes, level_before, level_after, tri_forced_by, tri_taken_by, IsClosed, after_pulse, rise_of, falls_after, fall_of, strobe_sources}
 use Rattle.dft_abstract.specs.Laws.{Stands, StandsAt, IsForced, StrobeIsAbove, TurnIsAbove, after_rises, falls_from}
 use Rattle.dft_abstract.proofs.Strobe.{SourcesAbove, strobe_above}

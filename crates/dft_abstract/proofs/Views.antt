@@ -5,9 +5,9 @@ use Rattle.dft_base.specs.declared.tri.Tri.{Tri}
 use Rattle.dft_base.specs.declared.tri.Tri.TheVariants.{Unknown}
 use Rattle.dft_cells.specs.Gates.{tri_of}
 use Rattle.dft_netlist.specs.Drivers.{Source, nets_of, AreBelow}
-use Rattle.dft_netlist.specs.Logic.{Logic, Meaning, Input, Clock, Gate, Joined, Flop, Lockup, Free, reads, IsRanked}
-use Rattle.dft_netlist.specs.Settled.{TriSources, value_from, value_given, IsTriSettled}
-use Rattle.dft_netlist.proofs.Meanings.{source_same, inputs_same}
+use Rattle.dft_behavior.specs.Logic.{Logic, Meaning, Input, Clock, Gate, Joined, Flop, Lockup, Free, reads, IsRanked}
+use Rattle.dft_behavior.specs.Settled.{TriSources, value_from, value_given, IsTriSettled}
+use Rattle.dft_behavior.proofs.Meanings.{source_same, inputs_same}
 use Rattle.dft_abstract.specs.Cycle.{Pulse, lockup_shown, lockup_value, view_sources, AreViews, rise_of, strobe_sources}
 use Rattle.dft_abstract.specs.Laws.{ClosedExists, StrobeExists}
 

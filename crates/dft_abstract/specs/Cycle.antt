@@ -5,9 +5,9 @@ use Rattle.dft_base.specs.declared.tri.Tri.TheVariants.{Zero, Unknown}
 use Rattle.dft_base.specs.Tri.{known, AboveTri, join}
 use Rattle.dft_cells.specs.FlipFlops.{tri_forced, tri_chosen}
 use Rattle.dft_netlist.specs.Drivers.{Source}
-use Rattle.dft_netlist.specs.Logic.{Logic, Force, Scan}
-use Rattle.dft_netlist.specs.Settled.{TriSources, value_from, IsTriSettled}
-use Rattle.dft_netlist.specs.Runs.{Vector, takes}
+use Rattle.dft_behavior.specs.Logic.{Logic, Force, Scan}
+use Rattle.dft_behavior.specs.Settled.{TriSources, value_from, IsTriSettled}
+use Rattle.dft_behavior.specs.Runs.{Vector, takes}
 
 -- ---- flip-flops
 

@@ -4,9 +4,9 @@ use Rattle.dft_base.specs.declared.tri.Tri.{Tri}
 use Rattle.dft_base.specs.declared.tri.Tri.TheVariants.{Unknown}
 use Rattle.dft_base.specs.Tri.{known, Above, AboveTri, join}
 use Rattle.dft_netlist.specs.Drivers.{Source}
-use Rattle.dft_netlist.specs.Logic.{Logic, Lockup, IsRanked}
-use Rattle.dft_netlist.specs.Settled.{IsTriSettled, value_from}
-use Rattle.dft_netlist.specs.Runs.{State, Now, IsNow, after, AreSteps, Edge, edge_step, set_step, IsOrder, Vector, Turn, IsTurn, after_turn, AreLow}
+use Rattle.dft_behavior.specs.Logic.{Logic, Lockup, IsRanked}
+use Rattle.dft_behavior.specs.Settled.{IsTriSettled, value_from}
+use Rattle.dft_behavior.specs.Runs.{State, Now, IsNow, after, AreSteps, Edge, edge_step, set_step, IsOrder, Vector, Turn, IsTurn, after_turn, AreLow}
 use Rattle.dft_abstract.specs.Cycle.{Pulse, changes, level_before, level_after, AreViews, next_value, IsClosed, IsLeast, after_pulse, rise_of, strobe_sources, Half, Halves, AreHalves, AreClosed, after_halves, Round, IsRound, after_round, tri_forced_by, tri_taken_by}
 
 -- what holds between vectors: each value stands above its cell's bit, and all clocks are low

@@ -1,8 +1,8 @@
 -- Refusals, and what the errors of readers, of a scan, of a compilation and of a test of certificates come to.
 use Rattle.std.specs.Prelude.{ℕ, ℤ, pos, List, codes, Option, None, Some}
 use Rattle.dft_base.specs.declared.place.Place.{Place}
-use Rattle.dft_cells.specs.declared.refusal.LibraryError.{LibraryError}
-use Rattle.dft_cells.specs.declared.refusal.LibraryError.TheVariants as library
+use Rattle.dft_library_text.specs.declared.refusal.LibraryError.{LibraryError}
+use Rattle.dft_library_text.specs.declared.refusal.LibraryError.TheVariants as library
 use Rattle.dft_netlist.specs.declared.error.Counted.{Counted}
 use Rattle.dft_netlist.specs.declared.error.Counted.TheVariants as counted
 use Rattle.dft_netlist.specs.declared.error.NetlistError.{NetlistError}
@@ -17,8 +17,8 @@ use Rattle.dft_netlist_reader.specs.declared.error.DesignError.{DesignError}
 use Rattle.dft_netlist_reader.specs.declared.error.DesignError.TheVariants as design
 use Rattle.dft_stil_text.specs.declared.error.StilError.{StilError}
 use Rattle.dft_stil_text.specs.declared.error.StilError.TheVariants as stil
-use Rattle.dft_config.specs.declared.error.ConfigError.{ConfigError}
-use Rattle.dft_config.specs.declared.error.ConfigError.TheVariants as config
+use Rattle.dft_config_text.specs.declared.error.ConfigError.{ConfigError}
+use Rattle.dft_config_text.specs.declared.error.ConfigError.TheVariants as config
 use Rattle.dft_rules.specs.declared.error.RuleError.{RuleError}
 use Rattle.dft_rules.specs.declared.error.RuleError.TheVariants as rule
 use Rattle.dft_stitch.specs.declared.error.Counted.{Counted as Planned}

@@ -5,13 +5,13 @@ ghost use Rattle.dft_answers.specs.Refusals as spec;
 
 use crate::answer::{Code, Refusal};
 use dft_base::{Name, Place};
-use dft_cells::LibraryError;
 use dft_certify::CertifyError;
 use dft_compile::CompileError;
-use dft_config::ConfigError;
+use dft_config_text::ConfigError;
 use dft_configuring::{ConfigureError, Limited};
 use dft_cubes::{CubeError, MAX_CUBES};
 use dft_hier::HierError;
+use dft_library_text::LibraryError;
 use dft_netlist::{Counted, NetlistError};
 use dft_netlist_reader::DesignError;
 use dft_report::ReportError;

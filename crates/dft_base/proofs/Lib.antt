@@ -10,3 +10,5 @@ pub mod DigitLemmas
 pub mod OptionLemmas
 pub mod ListLemmas
 pub mod TextLemmas
+pub mod NameLemmas
+pub mod TextOrder

@@ -2,6 +2,7 @@ pub mod Tri
 pub mod Name
 pub mod Words
 pub mod Bytes
+pub mod Names
 pub mod Ranges
 pub mod Parser
 pub mod Lexing

@@ -2,54 +2,74 @@
 
 ghost use Rattle.std.specs.Prelude.{◌≡◌, ◌≤◌};
 
-use dft_config::Config;
+use dft_config::{Config, FillRule, Injector, Tap};
 use dft_equations::equations;
+use dft_test_configs::{Shape, config_of};
 use std::alloc::Global;
 use std::io;
 use std::rt::Clock;
 use std::time::Instant;
 
 // Sixteen chains of three stages each.
-const CONFIGURATION: &str = "version = 1
-domains = ['clk']
-chains = 16
-warm = 0
-window = 1
-[ring]
-stages = 16
-channels = 4
-taps = [[2, 10], [13, 4], [6, 1]]
-injectors = [[0, 0], [1, 4], [2, 8], [3, 12]]
-phase = [[0, 5, 11], [1, 6, 12], [2, 7, 13], [3, 8, 14], [4, 9, 15], [5, 10, 0], [6, 11, 1], [7, 12, 2],
-    [8, 13, 3], [9, 14, 4], [10, 15, 5], [11, 0, 6], [12, 1, 7], [13, 2, 8], [14, 3, 9], [15, 4, 10]]
-[compactor]
-groups = [[0, 1, 2, 3, 4, 5, 6, 7, 8, 9, 10, 11, 12, 13, 14, 15]]
-mask_inputs = 1
-";
+static CONFIGURATION: Shape = Shape {
+    domains: &["clk"],
+    resets: &[],
+    chains: 16,
+    warm: 0,
+    window: 1,
+    fill: FillRule::Zeros,
+    stages: 16,
+    channels: 4,
+    taps: &[
+        Tap { from: 2, to: 10 },
+        Tap { from: 13, to: 4 },
+        Tap { from: 6, to: 1 },
+    ],
+    injectors: &[
+        Injector {
+            channel: 0,
+            stage: 0,
+        },
+        Injector {
+            channel: 1,
+            stage: 4,
+        },
+        Injector {
+            channel: 2,
+            stage: 8,
+        },
+        Injector {
+            channel: 3,
+            stage: 12,
+        },
+    ],
+    phase: &[
+        &[0, 5, 11],
+        &[1, 6, 12],
+        &[2, 7, 13],
+        &[3, 8, 14],
+        &[4, 9, 15],
+        &[5, 10, 0],
+        &[6, 11, 1],
+        &[7, 12, 2],
+        &[8, 13, 3],
+        &[9, 14, 4],
+        &[10, 15, 5],
+        &[11, 0, 6],
+        &[12, 1, 7],
+        &[13, 2, 8],
+        &[14, 3, 9],
+        &[15, 4, 10],
+    ],
+    groups: &[&[0, 1, 2, 3, 4, 5, 6, 7, 8, 9, 10, 11, 12, 13, 14, 15]],
+    mask_inputs: 1,
+};
 
-/// Reads the configuration and times the equations of chains of so many cells, at most 4,096.
+/// Times the equations of chains of so many cells, at most 4,096.
 pub fn time_equations(rt: &(impl Clock + Eprint), alloc: Global, cells: u32) -> io::Result<()> {
     let cells = cells.min(4096) as u16;
-    match Config::read(alloc, CONFIGURATION.as_bytes()) {
-        Ok(config) => time_read(rt, alloc, &config, cells),
-        Err(_) => eprintln!(rt; "the configuration is not read"),
-    }
-}
-
-// The same, where the configuration is the one above.
-fn time_read(
-    rt: &(impl Clock + Eprint),
-    alloc: Global,
-    config: &Config,
-    cells: u16,
-) -> io::Result<()>
-    requires cells { cells ≤ 4096 }
-{
-    if config.chains() == 16 && config.ring().channels == 4 {
-        time_chains(rt, alloc, config, cells)
-    } else {
-        eprintln!(rt; "the configuration is not the one that is timed")
-    }
+    let config = config_of(alloc, &CONFIGURATION)?;
+    time_chains(rt, alloc, &config, cells)
 }
 
 // Times the equations of chains of so many cells.

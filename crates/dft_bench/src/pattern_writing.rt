@@ -1,9 +1,8 @@
 //! Times the writing of patterns with 50 signals.
 
-use dft_base::Dir;
+use dft_base::{Dir, name_of};
 use dft_patterns::{Act, Acts, PatternSet, StilSignal};
 use dft_stil_out::write;
-use dft_toml::name_of;
 use rand_core::utils::NextWord;
 use rand_pcg::Pcg32;
 use std::alloc::{AllocError, Global};

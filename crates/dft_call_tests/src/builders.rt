@@ -3,7 +3,7 @@
 ghost use Rattle.std.specs.Prelude.{◌<◌, length};
 
 use dft_base::{Dir, Name, Range};
-use dft_cells::{Kind, Library};
+use dft_cells::{Gate, Library};
 use dft_netlist::{CellRef, Design, DesignBuilder, NetId, NetlistError, Signal};
 use std::alloc::{AllocError, Global};
 use std::test::Fail;
@@ -35,7 +35,7 @@ fn add_inverter(
     requires output { output.0 < length builder.old.nets }
 {
     let pins = [Signal::Net(input), Signal::Net(output)];
-    builder.instance(None, CellRef::Gate(Kind::Inv, 1), &pins)?;
+    builder.instance(None, CellRef::Gate(Gate::Inv, 1), &pins)?;
     Ok(())
 }
 

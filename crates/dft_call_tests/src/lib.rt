@@ -6,8 +6,6 @@ mod builders;
 #[cfg(test)]
 mod given;
 #[cfg(test)]
-mod machines;
-#[cfg(test)]
 mod readers;
 #[cfg(test)]
 mod reports;

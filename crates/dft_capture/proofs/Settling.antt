@@ -9,9 +9,10 @@ use Rattle.dft_cells.proofs.Completions.{forced_monotone, chosen_monotone}
 use Rattle.dft_netlist.specs.Netlist.{Netlist}
 use Rattle.dft_netlist.specs.Drivers.{Source, Driver, Connection, pins_of, driver, nets_of, nets_read, AreBelow, IsOrdered}
 use Rattle.dft_netlist.specs.Drivers as drivers
-use Rattle.dft_netlist.specs.Logic.{Logic, Input, Clock, Flop, Lockup, Free, Scan, pin_of, or_loose, scan_of, reads}
-use Rattle.dft_netlist.specs.Settled.{value_from, value_given}
-use Rattle.dft_netlist.proofs.Meanings.{meaning_monotone, at_nets, source_over}
+use Rattle.dft_netlist.specs.Connections.{pin_of}
+use Rattle.dft_behavior.specs.Logic.{Logic, Input, Clock, Flop, Lockup, Free, Scan, or_loose, scan_of, reads}
+use Rattle.dft_behavior.specs.Settled.{value_from, value_given}
+use Rattle.dft_behavior.proofs.Meanings.{meaning_monotone, at_nets, source_over}
 use Rattle.dft_abstract.specs.Cycle.{tri_taken_by}
 use Rattle.dft_abstract.proofs.Views.{family, settled_same}
 use Rattle.dft_capture.specs.Captures.{Moving, IsSettledFrom, after_moves, capture_logic, forced_by_pin, meaning_in, next_at, next_by_pins, sources_at}

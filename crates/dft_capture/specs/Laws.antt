@@ -4,7 +4,7 @@ use Rattle.dft_base.specs.declared.tri.Tri.{Tri}
 use Rattle.dft_base.specs.Tri.{AboveTri}
 use Rattle.dft_netlist.specs.Netlist.{Netlist}
 use Rattle.dft_netlist.specs.Drivers.{IsOrdered}
-use Rattle.dft_netlist.specs.Logic.{IsRanked}
+use Rattle.dft_behavior.specs.Logic.{IsRanked}
 use Rattle.dft_capture.specs.Captures.{Moving, Settled, AreSettled, capture_logic, captured}
 
 -- An order of the design's nets is one of what they mean in a capture.

@@ -4,15 +4,6 @@ pub mod Finding
 pub mod StandardFits
 pub mod Pairs
 pub mod Bits
-pub mod RowLemmas
-pub mod Differing
-pub mod ScanLemmas
-pub mod LibraryLemmas
-pub mod FitLemmas
-pub mod Outcomes
-pub mod RoleLemmas
-pub mod PinNames
+pub mod KindLemmas
 pub mod CellNames
-pub mod Halving
-pub mod ReadingLemmas
 pub mod TriLemmas

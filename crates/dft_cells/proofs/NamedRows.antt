@@ -4,8 +4,8 @@ use Rattle.std.proofs.lemmas.Bool.{and_parts}
 use Rattle.std.proofs.lemmas.List.Sums.{AllPass-from_list_all}
 use Rattle.std.specs.List.{list_all}
 use Rattle.dft_base.specs.Name.{IsName}
-use Rattle.dft_toml.specs.Values.{is_name}
-use Rattle.dft_toml.proofs.NameLemmas.{name_tested}
+use Rattle.dft_base.specs.Names.{is_name}
+use Rattle.dft_base.proofs.NameLemmas.{name_tested}
 use Rattle.dft_cells.specs.declared.standard.Row.{Row}
 use Rattle.dft_cells.specs.Rows.{is_named}
 

@@ -8,7 +8,7 @@ use Rattle.dft_base.specs.declared.tri.Tri.TheVariants.{Zero, One, Unknown}
 use Rattle.dft_base.specs.Tri.{known, join}
 use Rattle.dft_cells.specs.Gates.{all_one, any_one, odd_ones, shared, bit_of, bit_of_number, number_of}
 use Rattle.dft_cells.specs.Tables.{not_tri, and_tri, or_tri, xor_tri, mux_tri}
-use Rattle.dft_cells.specs.declared.kind.Kind.TheVariants.{Buf, Inv, Mux2}
+use Rattle.dft_cells.specs.declared.kind.Gate.TheVariants.{Buf, Inv, Mux2}
 
 pub shared_same : (b : Bool) (ts : List Tri) → shared (λ bs. b) ts ≡ known b
 shared_same b [] = refl

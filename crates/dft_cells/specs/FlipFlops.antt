@@ -1,9 +1,11 @@
 -- The next bit of a flip-flop, over bits and over three-valued bits: reset, set, scan (Bushnell and Agrawal, Essentials of Electronic Testing).
-use Rattle.std.specs.Prelude.{Bool, true, false, if◌then◌else◌}
+use Rattle.std.specs.Prelude.{Bool, true, false, not, ◌&&◌, if◌then◌else◌}
 use Rattle.dft_base.specs.declared.tri.Tri.{Tri}
 use Rattle.dft_base.specs.Tri.{known}
 use Rattle.dft_cells.specs.declared.kind.Kind.{Kind}
-use Rattle.dft_cells.specs.declared.kind.Kind.TheVariants.{Buf, Inv, And, Nand, Or, Nor, Xor, Xnor, Mux2, Table, Tie0, Tie1, Dff, Dffr, Dffs, Sdff, Sdffr, Sdffs, Lockup, Opaque}
+use Rattle.dft_cells.specs.declared.kind.Kind.TheVariants as kind
+use Rattle.dft_cells.specs.declared.kind.Forcing.{Forcing}
+use Rattle.dft_cells.specs.declared.kind.Forcing.TheVariants as force
 use Rattle.dft_cells.specs.Gates.{completing}
 
 -- the bit that a reset (value 0) or a set (value 1) leaves: its value where its pin is 0, else the bit
@@ -23,23 +25,19 @@ tri_chosen enable scan_in data_in = completing (λ e. completing (λ s. completi
 
 -- whether a kind is a flip-flop
 abbrev pub is_flip_flop : Kind → Bool
-is_flip_flop Dff = true
-is_flip_flop Dffr = true
-is_flip_flop Dffs = true
-is_flip_flop Sdff = true
-is_flip_flop Sdffr = true
-is_flip_flop Sdffs = true
-is_flip_flop Buf = false
-is_flip_flop Inv = false
-is_flip_flop And = false
-is_flip_flop Nand = false
-is_flip_flop Or = false
-is_flip_flop Nor = false
-is_flip_flop Xor = false
-is_flip_flop Xnor = false
-is_flip_flop Mux2 = false
-is_flip_flop (Table number) = false
-is_flip_flop Tie0 = false
-is_flip_flop Tie1 = false
-is_flip_flop Lockup = false
-is_flip_flop Opaque = false
+is_flip_flop (kind.Flop flop) = true
+is_flip_flop (kind.Gate gate) = false
+is_flip_flop kind.Lockup = false
+is_flip_flop kind.Opaque = false
+
+-- whether the same acts on two flip-flops
+abbrev pub same_force : Forcing → Forcing → Bool
+same_force force.Nothing force.Nothing = true
+same_force force.Reset force.Reset = true
+same_force force.Set force.Set = true
+same_force _ _ = false
+
+-- whether a kind is dff: a flip-flop with no more than its clock and its data input
+abbrev pub is_dff : Kind → Bool
+is_dff (kind.Flop flop) = same_force flop.force force.Nothing && not flop.scan
+is_dff _ = false

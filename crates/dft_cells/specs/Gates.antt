@@ -3,8 +3,8 @@ use Rattle.std.specs.Prelude.{ℕ, Bool, true, false, not, List, [], ◌∷◌, 
 use Rattle.dft_base.specs.declared.tri.Tri.{Tri}
 use Rattle.dft_base.specs.declared.tri.Tri.TheVariants.{Zero, One, Unknown}
 use Rattle.dft_base.specs.Tri.{known, join}
-use Rattle.dft_cells.specs.declared.kind.Kind.{Kind}
-use Rattle.dft_cells.specs.declared.kind.Kind.TheVariants.{Buf, Inv, And, Nand, Or, Nor, Xor, Xnor, Mux2, Table, Tie0, Tie1, Dff, Dffr, Dffs, Sdff, Sdffr, Sdffs, Lockup, Opaque}
+use Rattle.dft_cells.specs.declared.kind.Gate.{Gate}
+use Rattle.dft_cells.specs.declared.kind.Gate.TheVariants.{Buf, Inv, And, Nand, Or, Nor, Xor, Xnor, Mux2, Table, Tie0, Tie1}
 
 -- whether all of the bits, any of them, or an odd number of them are 1
 abbrev pub all_one : List Bool → Bool
@@ -32,8 +32,8 @@ number_of (b ∷ bs) = (if b then 1 else 0) + 2 * number_of bs
 abbrev pub bit_of_number : ℕ → ℕ → Bool
 bit_of_number n i = (n / 2 ^ i) % 2 == 1
 
--- the output bit of a kind at its input bits; a kind that is no gate, table or tie has none, written 0
-abbrev pub bit_of : Kind → List Bool → Bool
+-- the output bit of a gate, a table or a tie at its input bits
+abbrev pub bit_of : Gate → List Bool → Bool
 bit_of Buf bits = bit_at bits 0
 bit_of Inv bits = not (bit_at bits 0)
 bit_of And bits = all_one bits
@@ -46,14 +46,6 @@ bit_of Mux2 bits = if bit_at bits 2 then bit_at bits 1 else bit_at bits 0
 bit_of (Table number) bits = bit_of_number number (number_of bits)
 bit_of Tie0 bits = false
 bit_of Tie1 bits = true
-bit_of Dff bits = false
-bit_of Dffr bits = false
-bit_of Dffs bits = false
-bit_of Sdff bits = false
-bit_of Sdffr bits = false
-bit_of Sdffs bits = false
-bit_of Lockup bits = false
-bit_of Opaque bits = false
 
 -- what a function of bits gives at a value: where it is unknown, what both completions share
 abbrev pub completing : (Bool → Tri) → Tri → Tri
@@ -66,6 +58,6 @@ abbrev pub shared : (List Bool → Bool) → List Tri → Tri
 shared f [] = known (f [])
 shared f (t ∷ ts) = completing (λ b. shared (λ bs. f (b ∷ bs)) ts) t
 
--- the three-valued output of a kind
-abbrev pub tri_of : Kind → List Tri → Tri
-tri_of kind values = shared (bit_of kind) values
+-- the three-valued output of a gate, a table or a tie
+abbrev pub tri_of : Gate → List Tri → Tri
+tri_of gate values = shared (bit_of gate) values

@@ -1,7 +1,7 @@
 -- A row of the table of the standard cells, and the cell that it stands for.
 use Rattle.std.specs.Prelude.{◌&&◌, Bool, map}
 use Rattle.std.specs.List.{list_all}
-use Rattle.dft_toml.specs.Values.{is_name}
+use Rattle.dft_base.specs.Names.{is_name}
 use Rattle.dft_cells.specs.declared.cell.Cell.{Cell}
 use Rattle.dft_cells.specs.declared.standard.Row.{Row}
 use Rattle.dft_cells.specs.Standard.{pin}

@@ -4,9 +4,13 @@ use Rattle.std.specs.Ordering.{nat_cmp, is_lt}
 use Rattle.std.specs.Cmp.Lexicographic.{slice_cmp}
 use Rattle.std.specs.List.{list_all}
 use Rattle.std.specs.Str.{bytes_eq}
-use Rattle.dft_toml.specs.Values.{is_name}
+use Rattle.dft_base.specs.Names.{is_name}
 use Rattle.dft_cells.specs.declared.kind.Kind.{Kind}
-use Rattle.dft_cells.specs.declared.kind.Kind.TheVariants.{Buf, Inv, And, Nand, Or, Nor, Xor, Xnor, Mux2, Table, Tie0, Tie1, Dff, Dffr, Dffs, Sdff, Sdffr, Sdffs, Lockup, Opaque}
+use Rattle.dft_cells.specs.declared.kind.Kind.TheVariants as kind
+use Rattle.dft_cells.specs.declared.kind.TheConstants.{DFF}
+use Rattle.dft_cells.specs.declared.kind.Flop.{Flop}
+use Rattle.dft_cells.specs.declared.kind.Forcing.{Forcing}
+use Rattle.dft_cells.specs.declared.kind.Forcing.TheVariants as force
 use Rattle.dft_cells.specs.declared.kind.Role.{Role}
 use Rattle.dft_cells.specs.declared.kind.Role.TheVariants.{Input, Clock, Din, Reset, Preset, ScanIn, ScanEnable, Output, Inverted}
 use Rattle.dft_cells.specs.declared.cell.CellId.{CellId}
@@ -23,28 +27,27 @@ GateRoles takes roles = (n : ℕ) × takes n × (roles ≡ replicate n Input ++ 
 abbrev pub FlipFlopRoles : List Role → List Role → Type 0
 FlipFlopRoles front roles = (roles ≡ front ++ Output ∷ []) ⊎ (roles ≡ front ++ Output ∷ Inverted ∷ [])
 
+-- the role of the pin of a reset or a set
+abbrev pub force_roles : Forcing → List Role
+force_roles force.Nothing = []
+force_roles force.Reset = Reset ∷ []
+force_roles force.Set = Preset ∷ []
+
+-- the roles of the scan pins
+abbrev pub scan_roles : (scan : Bool) → List Role
+scan_roles true = ScanIn ∷ ScanEnable ∷ []
+scan_roles false = []
+
+-- the roles of a flip-flop's pins before its outputs
+abbrev pub front_roles : Flop → List Role
+front_roles flop = Clock ∷ Din ∷ force_roles flop.force ++ scan_roles flop.scan
+
 -- the roles of the pins of a kind, in order
 abbrev pub HasRoles : Kind → List Role → Type 0
-HasRoles Buf = GateRoles (TakesInputs Buf)
-HasRoles Inv = GateRoles (TakesInputs Inv)
-HasRoles And = GateRoles (TakesInputs And)
-HasRoles Nand = GateRoles (TakesInputs Nand)
-HasRoles Or = GateRoles (TakesInputs Or)
-HasRoles Nor = GateRoles (TakesInputs Nor)
-HasRoles Xor = GateRoles (TakesInputs Xor)
-HasRoles Xnor = GateRoles (TakesInputs Xnor)
-HasRoles Mux2 = GateRoles (TakesInputs Mux2)
-HasRoles (Table number) = GateRoles (TakesInputs (Table number))
-HasRoles Tie0 = GateRoles (TakesInputs Tie0)
-HasRoles Tie1 = GateRoles (TakesInputs Tie1)
-HasRoles Dff = FlipFlopRoles (Clock ∷ Din ∷ [])
-HasRoles Dffr = FlipFlopRoles (Clock ∷ Din ∷ Reset ∷ [])
-HasRoles Dffs = FlipFlopRoles (Clock ∷ Din ∷ Preset ∷ [])
-HasRoles Sdff = FlipFlopRoles (Clock ∷ Din ∷ ScanIn ∷ ScanEnable ∷ [])
-HasRoles Sdffr = FlipFlopRoles (Clock ∷ Din ∷ Reset ∷ ScanIn ∷ ScanEnable ∷ [])
-HasRoles Sdffs = FlipFlopRoles (Clock ∷ Din ∷ Preset ∷ ScanIn ∷ ScanEnable ∷ [])
-HasRoles Lockup = λ roles. roles ≡ Clock ∷ Din ∷ Output ∷ []
-HasRoles Opaque = λ roles. (n m : ℕ) × (roles ≡ replicate n Input ++ replicate m Output)
+HasRoles (kind.Gate gate) = GateRoles (TakesInputs gate)
+HasRoles (kind.Flop flop) = FlipFlopRoles (front_roles flop)
+HasRoles kind.Lockup = λ roles. roles ≡ Clock ∷ Din ∷ Output ∷ []
+HasRoles kind.Opaque = λ roles. (n m : ℕ) × (roles ≡ replicate n Input ++ replicate m Output)
 
 -- the role and the name of a pin
 abbrev pub role_of : Pin → Role
@@ -84,9 +87,7 @@ pub record IsCell (cell : Cell) : Type 0 where
 
 -- the scan kind that replaces a flip-flop's kind
 abbrev pub scan_kind : Kind → Option Kind
-scan_kind Dff = Some Sdff
-scan_kind Dffr = Some Sdffr
-scan_kind Dffs = Some Sdffs
+scan_kind (kind.Flop flop) = if flop.scan then None else Some (kind.Flop (record flop { scan = true }))
 scan_kind _ = None
 
 -- whether a pin is there for scan alone
@@ -121,5 +122,5 @@ pub record IsWellFormed (cells : List Cell) : Type 0 where
   pub names : IsTrue (ascend (map cell_name cells))
   pub each : (place : ℕ) (cell : Cell) → slice_get cells place ≡ Some cell → IsCell cell
   pub scans : (place : ℕ) (cell : Cell) → slice_get cells place ≡ Some cell → HasScanCell cells cell
-  pub dff : HasKind cells Dff
-  pub lockup : HasKind cells Lockup
+  pub dff : HasKind cells DFF
+  pub lockup : HasKind cells kind.Lockup

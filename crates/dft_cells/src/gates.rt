@@ -5,35 +5,27 @@ ghost use Rattle.dft_cells.specs.Gates as spec;
 ghost use Rattle.dft_cells.specs.Tables as pairs;
 ghost use Rattle.dft_cells.specs.WellFormed.{TakesInputs};
 
-use crate::kind::Kind;
+use crate::kind::Gate;
 use dft_base::Tri;
 
-/// The output bit of a kind at its input bits (IEEE 1364 gate tables).
-pub fn bit_of(kind: Kind, inputs: &[bool]) -> bool
-    requires { TakesInputs kind (length inputs.now) }
-    ensures { result ≡ spec.bit_of kind inputs.now }
+/// The output bit of a gate, a table or a tie at its input bits (IEEE 1364 gate tables).
+pub fn bit_of(gate: Gate, inputs: &[bool]) -> bool
+    requires { TakesInputs gate (length inputs.now) }
+    ensures { result ≡ spec.bit_of gate inputs.now }
 {
-    match kind {
-        Kind::Buf => inputs[0],
-        Kind::Inv => !inputs[0],
-        Kind::And => are_all_one(inputs),
-        Kind::Nand => !are_all_one(inputs),
-        Kind::Or => is_one_there(inputs),
-        Kind::Nor => !is_one_there(inputs),
-        Kind::Xor => are_odd(inputs),
-        Kind::Xnor => !are_odd(inputs),
-        Kind::Mux2 => if inputs[2] { inputs[1] } else { inputs[0] },
-        Kind::Table(table) => bit_of_table(table, inputs),
-        Kind::Tie0 => false,
-        Kind::Tie1 => true,
-        Kind::Dff
-        | Kind::Dffr
-        | Kind::Dffs
-        | Kind::Sdff
-        | Kind::Sdffr
-        | Kind::Sdffs
-        | Kind::Lockup
-        | Kind::Opaque => unreachable!(),
+    match gate {
+        Gate::Buf => inputs[0],
+        Gate::Inv => !inputs[0],
+        Gate::And => are_all_one(inputs),
+        Gate::Nand => !are_all_one(inputs),
+        Gate::Or => is_one_there(inputs),
+        Gate::Nor => !is_one_there(inputs),
+        Gate::Xor => are_odd(inputs),
+        Gate::Xnor => !are_odd(inputs),
+        Gate::Mux2 => if inputs[2] { inputs[1] } else { inputs[0] },
+        Gate::Table(table) => bit_of_table(table, inputs),
+        Gate::Tie0 => false,
+        Gate::Tie1 => true,
     }
 }
 
@@ -97,31 +89,23 @@ fn weighed(bit: bool, weight: u32) -> u32
 }
 
 /// The bit that all completions of the unknown inputs share, and otherwise `Unknown`.
-pub fn tri_of(kind: Kind, inputs: &[Tri]) -> Tri
-    requires { TakesInputs kind (length inputs.now) }
-    ensures { result ≡ spec.tri_of kind inputs.now }
+pub fn tri_of(gate: Gate, inputs: &[Tri]) -> Tri
+    requires { TakesInputs gate (length inputs.now) }
+    ensures { result ≡ spec.tri_of gate inputs.now }
 {
-    match kind {
-        Kind::Buf => inputs[0],
-        Kind::Inv => not(inputs[0]),
-        Kind::And => and_of(inputs),
-        Kind::Nand => not(and_of(inputs)),
-        Kind::Or => or_of(inputs),
-        Kind::Nor => not(or_of(inputs)),
-        Kind::Xor => xor_of(inputs),
-        Kind::Xnor => not(xor_of(inputs)),
-        Kind::Mux2 => mux(inputs[0], inputs[1], inputs[2]),
-        Kind::Table(table) => tri_of_table(table, inputs, 0, 1),
-        Kind::Tie0 => Tri::Zero,
-        Kind::Tie1 => Tri::One,
-        Kind::Dff
-        | Kind::Dffr
-        | Kind::Dffs
-        | Kind::Sdff
-        | Kind::Sdffr
-        | Kind::Sdffs
-        | Kind::Lockup
-        | Kind::Opaque => unreachable!(),
+    match gate {
+        Gate::Buf => inputs[0],
+        Gate::Inv => not(inputs[0]),
+        Gate::And => and_of(inputs),
+        Gate::Nand => not(and_of(inputs)),
+        Gate::Or => or_of(inputs),
+        Gate::Nor => not(or_of(inputs)),
+        Gate::Xor => xor_of(inputs),
+        Gate::Xnor => not(xor_of(inputs)),
+        Gate::Mux2 => mux(inputs[0], inputs[1], inputs[2]),
+        Gate::Table(table) => tri_of_table(table, inputs, 0, 1),
+        Gate::Tie0 => Tri::Zero,
+        Gate::Tie1 => Tri::One,
     }
 }
 

@@ -1,9 +1,9 @@
 ghost use Rattle.std.specs.Prelude.{◌≡◌};
 ghost use Rattle.dft_cells.specs.Pins as pins;
 
-/// What a cell does (IEEE 1364 gate tables; flip-flops as their library cells are named).
+/// What a gate, a table or a tie computes (IEEE 1364 gate tables).
 #[derive(Clone, Copy, Debug, PartialEq, Eq)]
-pub enum Kind {
+pub enum Gate {
     /// The input.
     Buf,
     /// The inverse of the input.
@@ -24,21 +24,43 @@ pub enum Kind {
     Tie0,
     /// Constant 1.
     Tie1,
-    /// A flip-flop, which takes D at the rise of its clock.
-    Dff,
-    /// A flip-flop with a reset that acts at 0, at once.
-    Dffr,
-    /// A flip-flop with a set that acts at 0, at once.
-    Dffs,
-    /// A flip-flop with a scan input, which it takes where its scan enable is 1.
-    Sdff,
-    Sdffr,
-    Sdffs,
+}
+
+/// What acts on a flip-flop at once.
+#[derive(Clone, Copy, Debug, PartialEq, Eq)]
+pub enum Forcing {
+    Nothing,
+    /// A reset that acts at 0.
+    Reset,
+    /// A set that acts at 0.
+    Set,
+}
+
+/// What a flip-flop has. It takes D at the rise of its clock.
+#[derive(Clone, Copy, Debug, PartialEq, Eq)]
+pub struct Flop {
+    pub force: Forcing,
+    /// Whether it has a scan input, which it takes where its scan enable is 1.
+    pub scan: bool,
+}
+
+/// What a cell does (flip-flops as their library cells are named).
+#[derive(Clone, Copy, Debug, PartialEq, Eq)]
+pub enum Kind {
+    /// A gate, a table or a tie.
+    Gate(Gate),
+    Flop(Flop),
     /// A latch that is a wire while its clock is low and holds while it is high.
     Lockup,
     /// A cell that is not modelled: its outputs may have any bit at any moment.
     Opaque,
 }
+
+/// The kind dff: a flip-flop with no more than its clock and its data input.
+pub const DFF: Kind = Kind::Flop(Flop {
+    force: Forcing::Nothing,
+    scan: false,
+});
 
 /// What a pin is for.
 #[derive(Clone, Copy, Debug, PartialEq, Eq)]
@@ -63,29 +85,40 @@ pub enum Role {
     Inverted,
 }
 
-impl Kind {
-    /// Whether a cell of this kind may have so many inputs (IEEE 1364: gates have one or more; at most eight are read here). A flip-flop,
-    /// a lock-up, a tie or an opaque cell has pins of its own, so that any number will do.
+impl Gate {
+    /// Whether this may have so many inputs (IEEE 1364: gates have one or more; at most eight are read here). A tie has none of its own, so
+    /// that any number will do.
     pub fn takes_inputs(self, inputs: usize) -> bool
         ensures { result ≡ pins.takes_inputs self inputs }
     {
         match self {
-            Kind::Buf | Kind::Inv => inputs == 1,
-            Kind::And | Kind::Nand | Kind::Or | Kind::Nor | Kind::Xor | Kind::Xnor => {
+            Gate::Buf | Gate::Inv => inputs == 1,
+            Gate::And | Gate::Nand | Gate::Or | Gate::Nor | Gate::Xor | Gate::Xnor => {
                 1 <= inputs && inputs <= 8
             },
-            Kind::Mux2 => inputs == 3,
-            Kind::Table(_) => 1 <= inputs && inputs <= 6,
-            Kind::Tie0
-            | Kind::Tie1
-            | Kind::Dff
-            | Kind::Dffr
-            | Kind::Dffs
-            | Kind::Sdff
-            | Kind::Sdffr
-            | Kind::Sdffs
-            | Kind::Lockup
-            | Kind::Opaque => true,
+            Gate::Mux2 => inputs == 3,
+            Gate::Table(_) => 1 <= inputs && inputs <= 6,
+            Gate::Tie0 | Gate::Tie1 => true,
+        }
+    }
+
+    /// Whether this is a tie.
+    pub fn is_tie(self) -> bool
+        ensures { result ≡ pins.is_tie self }
+    {
+        matches!(self, Gate::Tie0 | Gate::Tie1)
+    }
+}
+
+impl Kind {
+    /// Whether a cell of this kind may have so many inputs. A flip-flop, a lock-up or an opaque cell has pins of its own, so that any number
+    /// will do.
+    pub fn takes_inputs(self, inputs: usize) -> bool
+        ensures { result ≡ pins.kind_takes_inputs self inputs }
+    {
+        match self {
+            Kind::Gate(gate) => gate.takes_inputs(inputs),
+            Kind::Flop(_) | Kind::Lockup | Kind::Opaque => true,
         }
     }
 }

@@ -2,20 +2,14 @@
 #![tactic(auto)]
 
 mod cell;
-mod draft;
 mod gates;
-mod keys;
 mod kind;
 mod laws;
 mod library;
-mod reader;
-mod refusal;
-mod scans;
 mod standard;
 
 pub use cell::{Cell, CellId, Pin, Pins};
 pub use gates::{and, bit_of, mux, not, or, tri_of, xor};
-pub use kind::{Kind, Role};
+pub use kind::{DFF, Flop, Forcing, Gate, Kind, Role};
 pub use laws::{completions_are_above, next_values_are_above};
 pub use library::{Library, MAX_CELLS};
-pub use refusal::LibraryError;

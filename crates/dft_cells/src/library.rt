@@ -1,13 +1,12 @@
-ghost use Rattle.std.specs.Prelude.{◌≡◌, ◌<◌, ◌≤◌, IfOk, IfErr, IsSome, MatchOption, Some, length, slice_get};
+ghost use Rattle.std.specs.Prelude.{◌≡◌, ◌<◌, ◌≤◌, IfOk, IsSome, MatchOption, Some, length, slice_get};
 ghost use Rattle.dft_cells.specs.Cells.{find_cell, NoneNamed, IsNamed, NoneBefore, IsFirstOf};
-ghost use Rattle.dft_cells.specs.Reading.{IsLibraryOf, IsRefusedAs};
 ghost use Rattle.dft_cells.specs.Standard.{standard_cells};
 ghost use Rattle.dft_cells.specs.WellFormed.{IsWellFormed};
+ghost use Rattle.dft_cells.specs.declared.kind.TheConstants.{DFF};
 
 use crate::cell::{Cell, CellId};
 use crate::kind::Kind;
-use crate::refusal::LibraryError;
-use crate::{reader, standard};
+use crate::standard;
 use std::alloc::{AllocError, Global};
 use std::marker::Model;
 
@@ -48,17 +47,12 @@ impl Library {
         Ok(Library { cells })
     }
 
-    /// The library that a TOML text stands for, with its cells in byte order of their names. Otherwise the first check
-    /// that fails: first the table `cells`; then each cell by its keys, its kind, its pins and its name; then the scan
-    /// cells; then that a dff and a lockup stand there.
-    pub fn read(alloc: Global, bytes: &[u8]) -> Result<Library, LibraryError>
-        requires { length bytes.now ≤ 67108864 }
-        ensures library { IfOk result (IsLibraryOf bytes.now) }
-        ensures refused { IfErr result (IsRefusedAs bytes.now) }
+    /// The library of these cells.
+    pub fn of_cells(cells: Vec<Cell>) -> Library
+        requires { IsWellFormed cells.items }
+        ensures { result ≡ cells.items }
     {
-        let table = reader::table_of(alloc, bytes)?;
-        let cells = reader::cells(alloc, &table)?;
-        Ok(Library { cells })
+        Library { cells }
     }
 
     /// All cells.
@@ -90,7 +84,7 @@ impl Library {
     /// The first cell of this kind, in byte order of the names.
     pub fn first_of(&self, kind: Kind) -> Option<CellId>
         ensures first { MatchOption result (NoneBefore self.now kind (length self.now)) (IsFirstOf self.now kind) }
-        ensures dff { kind ≡ Kind.Dff → IsSome result }
+        ensures dff { kind ≡ DFF → IsSome result }
         ensures lockup { kind ≡ Kind.Lockup → IsSome result }
         ensures well_formed { IsWellFormed self.now }
     {

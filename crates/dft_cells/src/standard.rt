@@ -2,12 +2,12 @@
 
 ghost use Rattle.std.specs.Prelude.{◌≡◌, IfOk, IsTrue, map};
 ghost use Rattle.std.specs.List.{list_all};
-ghost use Rattle.dft_toml.specs.Values.{is_name};
+ghost use Rattle.dft_base.specs.Names.{is_name};
 ghost use Rattle.dft_cells.specs.Rows as spec;
 ghost use Rattle.dft_cells.specs.Standard.{pin, standard_cells};
 
 use crate::cell::{Cell, CellId, Pin, Pins};
-use crate::kind::{Kind, Role};
+use crate::kind::{Flop, Forcing, Gate, Kind, Role};
 use dft_base::Name;
 use std::alloc::{AllocError, Global};
 
@@ -56,25 +56,25 @@ const FOUR_INPUTS: &[(&str, Role)] = &[A, B, C, ("D", Role::Input), Y];
 static ROWS: [Row; 28] = [
     Row {
         name: "AND2",
-        kind: Kind::And,
+        kind: Kind::Gate(Gate::And),
         pins: TWO_INPUTS,
         scan: None,
     },
     Row {
         name: "AND3",
-        kind: Kind::And,
+        kind: Kind::Gate(Gate::And),
         pins: THREE_INPUTS,
         scan: None,
     },
     Row {
         name: "AND4",
-        kind: Kind::And,
+        kind: Kind::Gate(Gate::And),
         pins: FOUR_INPUTS,
         scan: None,
     },
     Row {
         name: "BUF",
-        kind: Kind::Buf,
+        kind: Kind::Gate(Gate::Buf),
         pins: ONE_INPUT,
         scan: None,
     },
@@ -90,25 +90,34 @@ static ROWS: [Row; 28] = [
     },
     Row {
         name: "DFF",
-        kind: Kind::Dff,
+        kind: Kind::Flop(Flop {
+            force: Forcing::Nothing,
+            scan: false,
+        }),
         pins: &[CLOCK, DATA, Q, QN],
         scan: Some(CellId(21)),
     },
     Row {
         name: "DFFR",
-        kind: Kind::Dffr,
+        kind: Kind::Flop(Flop {
+            force: Forcing::Reset,
+            scan: false,
+        }),
         pins: &[CLOCK, DATA, RESET, Q, QN],
         scan: Some(CellId(22)),
     },
     Row {
         name: "DFFS",
-        kind: Kind::Dffs,
+        kind: Kind::Flop(Flop {
+            force: Forcing::Set,
+            scan: false,
+        }),
         pins: &[CLOCK, DATA, SET, Q, QN],
         scan: Some(CellId(23)),
     },
     Row {
         name: "INV",
-        kind: Kind::Inv,
+        kind: Kind::Gate(Gate::Inv),
         pins: ONE_INPUT,
         scan: None,
     },
@@ -126,103 +135,112 @@ static ROWS: [Row; 28] = [
     },
     Row {
         name: "MUX2",
-        kind: Kind::Mux2,
+        kind: Kind::Gate(Gate::Mux2),
         pins: &[A, B, ("S", Role::Input), Y],
         scan: None,
     },
     Row {
         name: "NAND2",
-        kind: Kind::Nand,
+        kind: Kind::Gate(Gate::Nand),
         pins: TWO_INPUTS,
         scan: None,
     },
     Row {
         name: "NAND3",
-        kind: Kind::Nand,
+        kind: Kind::Gate(Gate::Nand),
         pins: THREE_INPUTS,
         scan: None,
     },
     Row {
         name: "NAND4",
-        kind: Kind::Nand,
+        kind: Kind::Gate(Gate::Nand),
         pins: FOUR_INPUTS,
         scan: None,
     },
     Row {
         name: "NOR2",
-        kind: Kind::Nor,
+        kind: Kind::Gate(Gate::Nor),
         pins: TWO_INPUTS,
         scan: None,
     },
     Row {
         name: "NOR3",
-        kind: Kind::Nor,
+        kind: Kind::Gate(Gate::Nor),
         pins: THREE_INPUTS,
         scan: None,
     },
     Row {
         name: "NOR4",
-        kind: Kind::Nor,
+        kind: Kind::Gate(Gate::Nor),
         pins: FOUR_INPUTS,
         scan: None,
     },
     Row {
         name: "OR2",
-        kind: Kind::Or,
+        kind: Kind::Gate(Gate::Or),
         pins: TWO_INPUTS,
         scan: None,
     },
     Row {
         name: "OR3",
-        kind: Kind::Or,
+        kind: Kind::Gate(Gate::Or),
         pins: THREE_INPUTS,
         scan: None,
     },
     Row {
         name: "OR4",
-        kind: Kind::Or,
+        kind: Kind::Gate(Gate::Or),
         pins: FOUR_INPUTS,
         scan: None,
     },
     Row {
         name: "SDFF",
-        kind: Kind::Sdff,
+        kind: Kind::Flop(Flop {
+            force: Forcing::Nothing,
+            scan: true,
+        }),
         pins: &[CLOCK, DATA, SCAN_IN, SCAN_ENABLE, Q, QN],
         scan: None,
     },
     Row {
         name: "SDFFR",
-        kind: Kind::Sdffr,
+        kind: Kind::Flop(Flop {
+            force: Forcing::Reset,
+            scan: true,
+        }),
         pins: &[CLOCK, DATA, RESET, SCAN_IN, SCAN_ENABLE, Q, QN],
         scan: None,
     },
     Row {
         name: "SDFFS",
-        kind: Kind::Sdffs,
+        kind: Kind::Flop(Flop {
+            force: Forcing::Set,
+            scan: true,
+        }),
         pins: &[CLOCK, DATA, SET, SCAN_IN, SCAN_ENABLE, Q, QN],
         scan: None,
     },
     Row {
         name: "TIE0",
-        kind: Kind::Tie0,
+        kind: Kind::Gate(Gate::Tie0),
         pins: &[Y],
         scan: None,
     },
     Row {
         name: "TIE1",
-        kind: Kind::Tie1,
+        kind: Kind::Gate(Gate::Tie1),
         pins: &[Y],
         scan: None,
     },
     Row {
         name: "XNOR2",
-        kind: Kind::Xnor,
+        kind: Kind::Gate(Gate::Xnor),
         pins: TWO_INPUTS,
         scan: None,
     },
     Row {
         name: "XOR2",
-        kind: Kind::Xor,
+        kind: Kind::Gate(Gate::Xor),
         pins: TWO_INPUTS,
         scan: None,
     },

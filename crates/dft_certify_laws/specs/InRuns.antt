@@ -1,6 +1,6 @@
 -- What a certified report tells of runs (Rajski and others, 2004).
 use Rattle.std.specs.Prelude.{ℕ, ◌≡◌, List, None, Some, slice_get}
-use Rattle.dft_netlist.specs.Logic.{Ports}
+use Rattle.dft_behavior.specs.Logic.{Ports}
 use Rattle.dft_netlist.specs.Netlist.{Netlist}
 use Rattle.dft_config.specs.Config.{Config}
 use Rattle.dft_config.specs.Ring.{Table}

@@ -7,9 +7,9 @@ use Rattle.dft_base.specs.Tri.{completed}
 use Rattle.dft_cells.specs.Gates.{bit_of}
 use Rattle.dft_cells.specs.FlipFlops.{forced, chosen}
 use Rattle.dft_netlist.specs.Drivers.{Source, Net, Tied, Loose, nets_of, AreBelow}
-use Rattle.dft_netlist.specs.Logic.{Logic, Meaning, Input, Clock, Gate, Joined, Flop, Lockup, Free, Force, Scan, Cell, reads, IsRanked}
-use Rattle.dft_netlist.specs.Settled.{Sources, bit_from, bit_given}
-use Rattle.dft_netlist.specs.Runs.{State, Moment, Now, port_bits, sources_of, IsNow, forced_by, taken_by, next_bit, Event, Set, after_event, at_moment, Step, next_now, AreSteps, takes, edge}
+use Rattle.dft_behavior.specs.Logic.{Logic, Meaning, Input, Clock, Gate, Joined, Flop, Lockup, Free, Force, Scan, Cell, reads, IsRanked}
+use Rattle.dft_behavior.specs.Settled.{Sources, bit_from, bit_given}
+use Rattle.dft_behavior.specs.Runs.{State, Moment, Now, port_bits, sources_of, IsNow, forced_by, taken_by, next_bit, Event, Set, after_event, at_moment, Step, next_now, AreSteps, takes, edge}
 use Rattle.dft_chains.specs.ScanOff.{moved_source, moved_force, moved_meaning, Places, IsWithin, IsForceWithin, IsEnabledBy, KeepsFlop, Contains, IsSameEvent, SameSet, SameRise, SameFall, AddedRise, AddedFall, AreFreeAlike, AreSameSteps, AllAgree, set_to, ScanOff}
 
 -- what both have in common at a moment, but for free bits

@@ -11,10 +11,10 @@ use Rattle.dft_cells.specs.FlipFlops.{tri_forced, tri_chosen}
 use Rattle.dft_cells.proofs.TriLemmas.{forced_one, chosen_one}
 use Rattle.dft_netlist.specs.declared.ids.InstanceId.{InstanceId}
 use Rattle.dft_netlist.specs.Drivers.{Source, Net}
-use Rattle.dft_netlist.specs.Logic.{Logic, Ports, Force, Scan, Input, Flop, Lockup, IsRanked}
-use Rattle.dft_netlist.specs.Settled.{value_from, bit_given}
-use Rattle.dft_netlist.specs.Runs.{Now, Moment, State, next_now, set_step, sources_of, port_bits, forced_by, Vector, Turn, after_turn, AreTurns, AreLow, takes}
-use Rattle.dft_netlist.proofs.SettledLemmas.{value_at}
+use Rattle.dft_behavior.specs.Logic.{Logic, Ports, Force, Scan, Input, Flop, Lockup, IsRanked}
+use Rattle.dft_behavior.specs.Settled.{value_from, bit_given}
+use Rattle.dft_behavior.specs.Runs.{Now, Moment, State, next_now, set_step, sources_of, port_bits, forced_by, Vector, Turn, after_turn, AreTurns, AreLow, takes}
+use Rattle.dft_behavior.proofs.SettledLemmas.{value_at}
 use Rattle.dft_abstract.specs.Cycle.{Pulse, tri_forced_by, tri_taken_by, changes, closing, opening, view_sources, AreViews, next_value, after_pulse, rise_of, fall_of, Halves, AreHalves, after_halves}
 use Rattle.dft_abstract.specs.Laws.{bits}
 use Rattle.dft_abstract.proofs.Halves.{rises_change, rises_rest, falls_change, rising_after, falling_old}

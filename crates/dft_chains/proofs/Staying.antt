@@ -2,7 +2,7 @@
 use Rattle.std.proofs.Common.{ℕ, suc, ◌≡◌, false, Some, inl, inr, sym, subst, ap, ◌∙◌}
 use Rattle.std.proofs.lemmas.Option.{none-some}
 use Rattle.dft_netlist.specs.Drivers.{Source, Net}
-use Rattle.dft_netlist.specs.Logic.{Logic, Ports, Meaning, Cell, Scan, Input, Flop, Lockup, Free}
+use Rattle.dft_behavior.specs.Logic.{Logic, Ports, Meaning, Cell, Scan, Input, Flop, Lockup, Free}
 use Rattle.dft_runs.specs.WiderPorts.{MeansMore}
 use Rattle.dft_chains.specs.Hardware.{ActsByPort, IsScanCell, Leads, Directly, AcrossEdges, ByLockup, ChainsStay}
 

@@ -1,9 +1,9 @@
 -- What it is for a design to have scan chains: facts about its scan cells and about what leads into them.
 use Rattle.std.specs.Prelude.{ℕ, zero, suc, ◌≡◌, Bool, true, false, List, [], ◌∷◌, Option, None, Some}
-use Rattle.dft_cells.specs.declared.kind.Kind.TheVariants.{Buf}
+use Rattle.dft_cells.specs.declared.kind.Gate.TheVariants.{Buf}
 use Rattle.dft_netlist.specs.declared.ids.InstanceId.{InstanceId}
 use Rattle.dft_netlist.specs.Drivers.{Source, Net}
-use Rattle.dft_netlist.specs.Logic.{Logic, Ports, Force, Input, Gate, Flop, Lockup}
+use Rattle.dft_behavior.specs.Logic.{Logic, Ports, Force, Input, Gate, Flop, Lockup}
 use Rattle.dft_runs.specs.WiderPorts.{MeansMore}
 use Rattle.dft_stitch.specs.Plans.{cell_at}
 

@@ -3,8 +3,8 @@ use Rattle.std.specs.Prelude.{ℕ, ◌<◌, ◌≡◌, ◌==◌, Bool, true, fal
 use Rattle.dft_base.specs.declared.tri.Tri.{Tri}
 use Rattle.dft_base.specs.declared.tri.Tri.TheVariants.{Zero}
 use Rattle.dft_netlist.specs.Drivers.{Source, Net, Tied, Loose, AreBelow}
-use Rattle.dft_netlist.specs.Logic.{Logic, Meaning, Input, Clock, Gate, Joined, Flop, Lockup, Free, Force, Scan, Cell, reads, IsRanked}
-use Rattle.dft_netlist.specs.Runs.{Moment, Now, Event, Set, Rise, Fall, Step, next_now, AreSteps, AreLow}
+use Rattle.dft_behavior.specs.Logic.{Logic, Meaning, Input, Clock, Gate, Joined, Flop, Lockup, Free, Force, Scan, Cell, reads, IsRanked}
+use Rattle.dft_behavior.specs.Runs.{Moment, Now, Event, Set, Rise, Fall, Step, next_now, AreSteps, AreLow}
 
 -- ---- what a net means, where nets have other numbers
 

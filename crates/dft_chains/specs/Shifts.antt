@@ -4,8 +4,8 @@ use Rattle.dft_base.specs.declared.tri.Tri.{Tri}
 use Rattle.dft_base.specs.declared.tri.Tri.TheVariants.{One}
 use Rattle.dft_base.specs.Tri.{Above}
 use Rattle.dft_netlist.specs.declared.ids.InstanceId.{InstanceId}
-use Rattle.dft_netlist.specs.Logic.{Logic, Ports, IsRanked}
-use Rattle.dft_netlist.specs.Runs.{State, Now, next_now, set_step, Vector, Turn, IsTurn, after_turn, AreTurns, AreLow, IsRun}
+use Rattle.dft_behavior.specs.Logic.{Logic, Ports, IsRanked}
+use Rattle.dft_behavior.specs.Runs.{State, Now, next_now, set_step, Vector, Turn, IsTurn, after_turn, AreTurns, AreLow, IsRun}
 use Rattle.dft_abstract.specs.Cycle.{Halves, AreHalves, after_halves}
 use Rattle.dft_abstract.specs.Laws.{shown}
 use Rattle.dft_runs.specs.Passes.{after_turns}

@@ -2,7 +2,7 @@
 use Rattle.std.proofs.Common.{ℕ, zero, suc, ◌+◌, ◌≡◌, List, [], ◌∷◌, ◌++◌, length, map, Option, refl, sym, ap, subst, arith, ◌∙◌}
 use Rattle.std.specs.List.{range_with_len}
 use Rattle.dft_base.specs.declared.tri.Tri.{Tri}
-use Rattle.dft_netlist.specs.Logic.{Logic}
+use Rattle.dft_behavior.specs.Logic.{Logic}
 use Rattle.dft_abstract.specs.Cycle.{Round, after_round}
 use Rattle.dft_runs.specs.Passes.{AreRounds}
 use Rattle.dft_patterns.specs.declared.act.Act.{Act}

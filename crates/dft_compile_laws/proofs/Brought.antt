@@ -6,7 +6,7 @@ use Rattle.std.proofs.lemmas.Option.{none-some, same_Some, slice_get-map}
 use Rattle.dft_base.specs.Solutions.{bit_at}
 use Rattle.dft_netlist.specs.declared.ids.NetId.{NetId}
 use Rattle.dft_netlist.specs.Netlist.{Netlist}
-use Rattle.dft_netlist.specs.Runs.{Vector}
+use Rattle.dft_behavior.specs.Runs.{Vector}
 use Rattle.dft_config.specs.Config.{Config}
 use Rattle.dft_equations.specs.LoadRows.{LoadRows}
 use Rattle.dft_cubes.specs.declared.cube.Cube.{Cube}

@@ -3,9 +3,9 @@ use Rattle.std.proofs.Common.{ℕ, suc, ◌+◌, ◌≡◌, ◌==◌, ◌||◌, 
 use Rattle.std.specs.Prelude.{if◌then◌else◌}
 use Rattle.dft_base.specs.declared.tri.Tri.{Tri}
 use Rattle.dft_netlist.specs.Drivers.{IsOrdered}
-use Rattle.dft_netlist.specs.Logic.{Logic, Ports, logic_of}
+use Rattle.dft_behavior.specs.Logic.{Logic, Ports, logic_of}
 use Rattle.dft_netlist.specs.Netlist.{Netlist}
-use Rattle.dft_netlist.specs.Runs.{Vector}
+use Rattle.dft_behavior.specs.Runs.{Vector}
 use Rattle.dft_abstract.specs.Cycle.{Round, after_round, all_unknown}
 use Rattle.dft_runs.specs.Passes.{AreRounds}
 use Rattle.dft_patterns.specs.Patterns.{Patterns}

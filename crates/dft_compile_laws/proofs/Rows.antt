@@ -14,7 +14,7 @@ use Rattle.dft_netlist.specs.declared.port.Port as design_port
 use Rattle.dft_netlist.specs.Names.{find_net}
 use Rattle.dft_netlist.specs.NetNumbers.{nets_from}
 use Rattle.dft_netlist.specs.Netlist.{Netlist}
-use Rattle.dft_netlist.specs.Runs.{Vector}
+use Rattle.dft_behavior.specs.Runs.{Vector}
 use Rattle.dft_netlist.specs.Sound.{IsNetlist, bits_of}
 use Rattle.dft_netlist.proofs.FindLemmas.{not_found}
 use Rattle.dft_patterns.specs.declared.act.Act.{Act}

@@ -4,14 +4,14 @@ use Rattle.std.specs.Prelude.{if◌then◌else◌}
 use Rattle.std.proofs.lemmas.Bool.{eqb-true}
 use Rattle.dft_base.specs.declared.tri.Tri.{Tri}
 use Rattle.dft_abstract.specs.Cycle.{all_unknown}
-use Rattle.dft_netlist.specs.Logic.{Ports, logic_of}
+use Rattle.dft_behavior.specs.Logic.{Ports, logic_of}
 use Rattle.dft_netlist.specs.Netlist.{Netlist}
 use Rattle.dft_netlist.specs.Drivers.{IsOrdered}
 use Rattle.dft_netlist.specs.Orders.{IsOrder}
-use Rattle.dft_netlist.specs.Runs.{Now, Turn, AreLow, IsRun}
+use Rattle.dft_behavior.specs.Runs.{Now, Turn, AreLow, IsRun}
 use Rattle.dft_netlist.specs.Sound.{IsNetlist}
 use Rattle.dft_netlist.proofs.RankLemmas.{order_ranks}
-use Rattle.dft_netlist.proofs.Ranks.{order_is_rank}
+use Rattle.dft_behavior.proofs.Ranks.{order_is_rank}
 use Rattle.dft_patterns.specs.declared.act.Act.{Act}
 use Rattle.dft_patterns.specs.Patterns.{Patterns}
 use Rattle.dft_replay.specs.Laws.{vectors_of as vectors_in}

@@ -10,7 +10,7 @@ use Rattle.dft_base.specs.Solutions.{bit_at}
 use Rattle.dft_base.proofs.BitLemmas.{true_false}
 use Rattle.dft_netlist.specs.declared.ids.NetId.{NetId}
 use Rattle.dft_netlist.specs.Netlist.{Netlist}
-use Rattle.dft_netlist.specs.Runs.{Vector}
+use Rattle.dft_behavior.specs.Runs.{Vector}
 use Rattle.dft_config.specs.Config.{Config}
 use Rattle.dft_config.specs.Range.{IsInRange}
 use Rattle.dft_config.specs.Ring.{Table}

@@ -1,8 +1,8 @@
 -- A run over listed vectors is, up to a capture, a run of a load.
 use Rattle.std.proofs.Common.{ℕ, zero, suc, ◌≡◌, List, [], ◌∷◌, ◌++◌, take, refl, sym, ap, subst, ◌∙◌}
-use Rattle.dft_netlist.specs.Logic.{Logic, Ports}
+use Rattle.dft_behavior.specs.Logic.{Logic, Ports}
 use Rattle.dft_netlist.specs.Netlist.{Netlist}
-use Rattle.dft_netlist.specs.Runs.{Now, Vector, Turn, IsRun, AreTurns, AreLow, after_turn}
+use Rattle.dft_behavior.specs.Runs.{Now, Vector, Turn, IsRun, AreTurns, AreLow, after_turn}
 use Rattle.dft_config.specs.Config.{Config}
 use Rattle.dft_runs.specs.Passes.{after_turns}
 use Rattle.dft_scan_behavior.specs.EdtVectors.{edt_logic}

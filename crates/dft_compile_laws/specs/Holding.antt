@@ -1,10 +1,10 @@
 -- What holds of test cubes that are compiled into patterns (Rajski and others, 2004).
 use Rattle.std.specs.Prelude.{ℕ, ◌≡◌, ◌<◌, ◌^◌, List, [], length, None, Some, slice_get}
 use Rattle.dft_netlist.specs.declared.ids.InstanceId.{InstanceId}
-use Rattle.dft_netlist.specs.Logic.{Logic, Ports}
+use Rattle.dft_behavior.specs.Logic.{Logic, Ports}
 use Rattle.dft_netlist.specs.Netlist.{Netlist}
 use Rattle.dft_netlist.specs.Orders.{IsOrder}
-use Rattle.dft_netlist.specs.Runs.{Now, Vector, Turn, AreLow, IsRun}
+use Rattle.dft_behavior.specs.Runs.{Now, Vector, Turn, AreLow, IsRun}
 use Rattle.dft_netlist.specs.Sound.{IsNetlist}
 use Rattle.dft_config.specs.Config.{Config}
 use Rattle.dft_config.specs.Ring.{Table}

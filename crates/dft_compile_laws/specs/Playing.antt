@@ -1,8 +1,8 @@
 -- Where the vectors of compiled patterns load and capture a pattern (Rajski and others, 2004).
 use Rattle.std.specs.Prelude.{ℕ, ◌+◌, ◌≡◌, Bool, List, ◌∷◌, ◌++◌, map, Some, slice_get, take, drop}
-use Rattle.dft_netlist.specs.Logic.{Logic, Ports}
+use Rattle.dft_behavior.specs.Logic.{Logic, Ports}
 use Rattle.dft_netlist.specs.Netlist.{Netlist}
-use Rattle.dft_netlist.specs.Runs.{Now, Vector, Turn, IsRun}
+use Rattle.dft_behavior.specs.Runs.{Now, Vector, Turn, IsRun}
 use Rattle.dft_config.specs.Config.{Config}
 use Rattle.dft_config.specs.Ring.{Table}
 use Rattle.dft_runs.specs.Passes.{after_turns}

@@ -2,9 +2,9 @@
 use Rattle.std.specs.Prelude.{ℕ, ◌≡◌, ◌↔◌, List, [], None, Some, slice_get}
 use Rattle.dft_base.specs.Lexing.{Text}
 use Rattle.dft_netlist.specs.declared.ids.InstanceId.{InstanceId}
-use Rattle.dft_netlist.specs.Logic.{Ports}
+use Rattle.dft_behavior.specs.Logic.{Ports}
 use Rattle.dft_netlist.specs.Netlist.{Netlist}
-use Rattle.dft_netlist.specs.Runs.{Now, Turn}
+use Rattle.dft_behavior.specs.Runs.{Now, Turn}
 use Rattle.dft_netlist.specs.Sound.{IsNetlist}
 use Rattle.dft_config.specs.Config.{Config}
 use Rattle.dft_config.specs.Ring.{Table}

@@ -3,7 +3,7 @@ use Rattle.std.specs.Prelude.{ℕ, ◌+◌, ◌*◌, ◌≡◌, List, length, co
 use Rattle.dft_base.specs.Tri.{is_known}
 use Rattle.dft_netlist.specs.Netlist.{Netlist}
 use Rattle.dft_netlist.specs.Orders.{IsOrder}
-use Rattle.dft_netlist.specs.Runs.{Now, Turn}
+use Rattle.dft_behavior.specs.Runs.{Now, Turn}
 use Rattle.dft_netlist.specs.Sound.{IsNetlist}
 use Rattle.dft_config.specs.Config.{Config}
 use Rattle.dft_stitch.specs.Chains.{plan_of}

@@ -3,15 +3,6 @@ pub mod Cycles
 pub mod Segments
 pub mod Range
 pub mod Shown
-pub mod Keys
-pub mod Faults
-pub mod Ports
-pub mod Settings
-pub mod Sections
-pub mod Unknown
-pub mod Checks
-pub mod Reading
-pub mod Refusals
 pub mod Ring
 pub mod Loads
 pub mod LoadExamples

@@ -3,8 +3,7 @@ ghost use Rattle.dft_config.specs.Range.{IsInRange};
 ghost use Rattle.dft_config.specs.Shown.{drafted};
 
 use crate::draft::Draft;
-use dft_base::{Listed, Name};
-use dft_toml::Names;
+use dft_base::{Listed, Name, Names};
 use std::marker::Model;
 
 /// The bits of channels that no equation decides.
@@ -142,8 +141,8 @@ impl Model for Config {
 }
 
 impl Config {
-    // The configuration of a draft.
-    pub(crate) fn from_draft(draft: Draft) -> Config
+    /// The configuration of a draft.
+    pub fn of_draft(draft: Draft) -> Config
         requires { IsInRange (drafted draft) }
         ensures { result ≡ drafted draft }
     {

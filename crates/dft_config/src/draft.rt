@@ -1,6 +1,5 @@
 use crate::config::{CompactorConfig, FillRule, PortNames, RingConfig};
-use dft_base::Listed;
-use dft_toml::Names;
+use dft_base::{Listed, Names};
 
 /// What is read first: the domains, the resets and the kept cells.
 #[derive(Drop)]

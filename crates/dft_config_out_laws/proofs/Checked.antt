@@ -6,7 +6,7 @@ use Rattle.std.specs.Str.{bytes_eq}
 use Rattle.std.proofs.lemmas.Bool.Decides.{nat_tests}
 use Rattle.std.proofs.lemmas.List.Elements.{recursion_from_All}
 use Rattle.dft_config.specs.Config.{Config}
-use Rattle.dft_config.specs.Checks.{Test, are_apart, each_differs, emptiness_tests, repetition_tests, resets_differ, first_empty, first_failing, first_not, first_repeated, first_unreached, have_items, is_reached}
+use Rattle.dft_config_text.specs.Checks.{Test, are_apart, each_differs, emptiness_tests, repetition_tests, resets_differ, first_empty, first_failing, first_not, first_repeated, first_unreached, have_items, is_reached}
 use Rattle.dft_config.specs.Range.{IsInRange, IsSet, has}
 
 -- ---- tests in their order

@@ -9,25 +9,25 @@ use Rattle.std.proofs.lemmas.Bool.{eq-eqb}
 use Rattle.dft_base.specs.Name.{IsName}
 use Rattle.dft_base.specs.Words.{is_later_reserved, is_simple_name}
 use Rattle.toml.specs.Data.{string}
-use Rattle.dft_toml.specs.Values.{name_of}
+use Rattle.dft_base.specs.Names.{name_of}
 use Rattle.dft_config.specs.declared.config.FillRule.TheVariants.{Seed}
 use Rattle.dft_config.specs.declared.config.Injector.{Injector}
 use Rattle.dft_config.specs.declared.config.Tap.{Tap}
-use Rattle.dft_config.specs.declared.fault.Fault.{Fault}
-use Rattle.dft_config.specs.declared.fault.Fault.TheVariants as fault
-use Rattle.dft_config.specs.declared.fault.Key.{Key}
-use Rattle.dft_config.specs.declared.fault.Key.TheVariants as key
-use Rattle.dft_config.specs.declared.lists.Pair.{Pair}
-use Rattle.dft_config.specs.declared.port.Port.{Port}
-use Rattle.dft_config.specs.declared.port.Port.TheVariants as port
+use Rattle.dft_config_text.specs.declared.fault.Fault.{Fault}
+use Rattle.dft_config_text.specs.declared.fault.Fault.TheVariants as fault
+use Rattle.dft_config_text.specs.declared.fault.Key.{Key}
+use Rattle.dft_config_text.specs.declared.fault.Key.TheVariants as key
+use Rattle.dft_config_text.specs.declared.lists.Pair.{Pair}
+use Rattle.dft_config_text.specs.declared.port.Port.{Port}
+use Rattle.dft_config_text.specs.declared.port.Port.TheVariants as port
 use Rattle.dft_config.specs.Config.{Config}
-use Rattle.dft_config.specs.Faults.{after, needed, unless}
-use Rattle.dft_config.specs.Ports.{key_of}
+use Rattle.dft_config_text.specs.Faults.{after, needed, unless}
+use Rattle.dft_config_text.specs.Ports.{key_of}
 use Rattle.dft_config.specs.Range.{IsSet, names_of}
-use Rattle.dft_config.specs.Reading.{carrying_of, checked, clocking_of, compactor_of, keys_of, loading_of, names_of_ports, reading, ring_of, steering_of}
-use Rattle.dft_config.specs.Settings.{counted, domains, fill, groups, injectors, injectors_of, keep, lists_below, name_or_default, number, numbers, of_length, pairs_of, phase, port_name, resets, taps, taps_of, within}
-use Rattle.dft_config.specs.Unknown.{first_unknown}
-use Rattle.dft_config.specs.Sections.{has_key, is_always_key}
+use Rattle.dft_config_text.specs.Reading.{carrying_of, checked, clocking_of, compactor_of, keys_of, loading_of, names_of_ports, reading, ring_of, steering_of}
+use Rattle.dft_config_text.specs.Settings.{counted, domains, fill, groups, injectors, injectors_of, keep, lists_below, name_or_default, number, numbers, of_length, pairs_of, phase, port_name, resets, taps, taps_of, within}
+use Rattle.dft_config_text.specs.Unknown.{first_unknown}
+use Rattle.dft_config_text.specs.Sections.{has_key, is_always_key}
 use Rattle.dft_config_out.specs.declared.made.Made.{Made}
 use Rattle.dft_config_out.specs.Written.{config_of}
 use Rattle.dft_config_out_laws.specs.Tables.{IsWritable, TableIsRead, compactor_table, injector_numbers, injectors_data, lists_data, names_data, names_table, number_data, ring_table, table_of, tap_numbers, taps_data}

@@ -9,11 +9,11 @@ use Rattle.toml.specs.Parse.{lines, parse_document, skip_bom}
 use Rattle.toml.specs.Tables.{Expression, close, no_nodes}
 use Rattle.toml.proofs.ReadLines.{run}
 use Rattle.dft_toml.specs.Text.{IsTable}
-use Rattle.dft_config.specs.declared.error.ConfigError.{ConfigError}
-use Rattle.dft_config.specs.declared.error.ConfigError.TheVariants.{C1, C2, C3, C4, C5, C6, Memory}
+use Rattle.dft_config_text.specs.declared.error.ConfigError.{ConfigError}
+use Rattle.dft_config_text.specs.declared.error.ConfigError.TheVariants.{C1, C2, C3, C4, C5, C6, Memory}
 use Rattle.dft_config.specs.Config.{Config}
-use Rattle.dft_config.specs.Reading.{reading}
-use Rattle.dft_config.specs.Refusals.{IsConfig, IsRefused, TellsFault}
+use Rattle.dft_config_text.specs.Reading.{reading}
+use Rattle.dft_config_text.specs.Refusals.{IsConfig, IsRefused, TellsFault}
 use Rattle.dft_config_out.specs.declared.made.Made.{Made}
 use Rattle.dft_config_out.specs.Written.{config_of, head_text, made_text}
 use Rattle.dft_config_out_laws.specs.Tables.{IsWritable, table_of}

@@ -8,13 +8,14 @@ use Rattle.std.proofs.lemmas.List.Elements.{recursion_from_All}
 use Rattle.dft_base.proofs.TextLemmas.{printed_byte}
 use Rattle.dft_base.specs.Name.{IsName}
 use Rattle.toml.specs.Data.{string}
-use Rattle.dft_toml.specs.Values.{all_printed, name_of, names_in, with_first}
-use Rattle.dft_config.specs.declared.fault.Key.{Key}
-use Rattle.dft_config.specs.declared.fault.Key.TheVariants as key
+use Rattle.dft_base.specs.Names.{all_printed, name_of}
+use Rattle.dft_toml.specs.Values.{names_in, with_first}
+use Rattle.dft_config_text.specs.declared.fault.Key.{Key}
+use Rattle.dft_config_text.specs.declared.fault.Key.TheVariants as key
 use Rattle.dft_config.specs.declared.config.Tap.{Tap}
 use Rattle.dft_config.specs.declared.config.Injector.{Injector}
-use Rattle.dft_config.specs.Faults.{after, cons_ok, or_outside}
-use Rattle.dft_config.specs.Settings.{all_below, below, injectors_of, integers_in, lists_below, lists_in, number, pairs_of, taps_of, within}
+use Rattle.dft_config_text.specs.Faults.{after, cons_ok, or_outside}
+use Rattle.dft_config_text.specs.Settings.{all_below, below, injectors_of, integers_in, lists_below, lists_in, number, pairs_of, taps_of, within}
 use Rattle.dft_config_out_laws.specs.Tables.{injector_numbers, items_of, number_data, numbers_data, tap_numbers}
 
 -- ---- numbers

@@ -9,7 +9,7 @@ use Rattle.dft_config.specs.declared.config.RingConfig.{RingConfig}
 use Rattle.dft_config.specs.declared.config.CompactorConfig.{CompactorConfig}
 use Rattle.dft_config.specs.declared.config.PortNames.{PortNames}
 use Rattle.dft_config.specs.Range.{IsInRange, names_of}
-use Rattle.dft_config.specs.Reading.{reading}
+use Rattle.dft_config_text.specs.Reading.{reading}
 use Rattle.dft_config_out.specs.declared.made.Made.{Made}
 use Rattle.dft_config_out.specs.Written.{config_of}
 

@@ -1,9 +1,9 @@
 -- The text of a made configuration, as it is read.
 use Rattle.std.specs.Prelude.{◌≡◌, ℕ, ◌<◌, ◌^◌}
-use Rattle.dft_config.specs.declared.error.ConfigError.{ConfigError}
-use Rattle.dft_config.specs.declared.error.ConfigError.TheVariants.{C1, C2, C3, C4, C5, C6, Memory}
+use Rattle.dft_config_text.specs.declared.error.ConfigError.{ConfigError}
+use Rattle.dft_config_text.specs.declared.error.ConfigError.TheVariants.{C1, C2, C3, C4, C5, C6, Memory}
 use Rattle.dft_config.specs.Config.{Config}
-use Rattle.dft_config.specs.Refusals.{IsConfig, IsRefused}
+use Rattle.dft_config_text.specs.Refusals.{IsConfig, IsRefused}
 use Rattle.dft_config_out.specs.declared.made.Made.{Made}
 use Rattle.dft_config_out.specs.Written.{config_of, made_text}
 use Rattle.dft_config_out_laws.specs.Tables.{IsWritable}

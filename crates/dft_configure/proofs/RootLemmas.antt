@@ -11,19 +11,18 @@ use Rattle.dft_cells.specs.declared.kind.Role.TheVariants.{Clock, Reset, Preset}
 use Rattle.dft_netlist.specs.declared.ids.NetId.{NetId}
 use Rattle.dft_netlist.specs.declared.instance.Instance.{Instance}
 use Rattle.dft_netlist.specs.declared.instance.Signal.{Signal}
-use Rattle.dft_netlist.specs.declared.clock_roots.ClockRoot.{ClockRoot}
-use Rattle.dft_netlist.specs.declared.root.Root as declared
+use Rattle.dft_behavior.specs.declared.clock_roots.ClockRoot.{ClockRoot}
+use Rattle.dft_behavior.specs.declared.root.Root as declared
 use Rattle.dft_netlist.specs.Netlist.{Netlist}
-use Rattle.dft_netlist.specs.Connections.{signal_of}
+use Rattle.dft_netlist.specs.Connections.{signal_of, pin_of}
 use Rattle.dft_netlist.specs.Drivers.{Connection, Net, Source, connections_of, source_of}
-use Rattle.dft_netlist.specs.Logic.{pin_of}
-use Rattle.dft_netlist.specs.ClockSteps.{shown_clock}
-use Rattle.dft_netlist.specs.ClockTables.{AreClocks, clock_in}
-use Rattle.dft_netlist.specs.Roots.{shown_root}
-use Rattle.dft_netlist.specs.RootTables.{AreRoots, root_in}
-use Rattle.dft_netlist.specs.Traces.{root_of}
-use Rattle.dft_netlist.proofs.ClockTables.{shown_in as clock_shown_in}
-use Rattle.dft_netlist.proofs.RootTables.{shown_in}
+use Rattle.dft_behavior.specs.ClockSteps.{shown_clock}
+use Rattle.dft_behavior.specs.ClockTables.{AreClocks, clock_in}
+use Rattle.dft_behavior.specs.Roots.{shown_root}
+use Rattle.dft_behavior.specs.RootTables.{AreRoots, root_in}
+use Rattle.dft_behavior.specs.Traces.{root_of}
+use Rattle.dft_behavior.proofs.ClockTables.{shown_in as clock_shown_in}
+use Rattle.dft_behavior.proofs.RootTables.{shown_in}
 use Rattle.dft_rules.specs.Findings.{AreUsed}
 use Rattle.dft_rules.proofs.JudgeLemmas.{same_pin, same_then}
 use Rattle.dft_configure.specs.Found.{AreClean, hold_at, marked_only, number, numbers_of, port_at, shown_hold}

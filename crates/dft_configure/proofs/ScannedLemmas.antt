@@ -12,12 +12,12 @@ use Rattle.dft_base.proofs.OptionLemmas.{some_mapped}
 use Rattle.dft_cells.specs.declared.kind.Role.TheVariants as role
 use Rattle.dft_config.specs.Config.{Config}
 use Rattle.dft_netlist.specs.declared.ids.NetId.{NetId}
-use Rattle.dft_netlist.specs.declared.root.Root.TheVariants as declared
+use Rattle.dft_behavior.specs.declared.root.Root.TheVariants as declared
 use Rattle.dft_netlist.specs.Netlist.{Netlist}
 use Rattle.dft_netlist.specs.Drivers.{Source, kind_at, pins_of}
-use Rattle.dft_netlist.specs.Logic.{pin_of}
-use Rattle.dft_netlist.specs.Traces.{Root, Port, Constant, Other, root_of}
-use Rattle.dft_netlist.specs.ClockRoots.{ClockRoot, clock_root_of}
+use Rattle.dft_netlist.specs.Connections.{pin_of}
+use Rattle.dft_behavior.specs.Traces.{Root, Port, Constant, Other, root_of}
+use Rattle.dft_behavior.specs.ClockRoots.{ClockRoot, clock_root_of}
 use Rattle.dft_rules.specs.Findings.{AreNets}
 use Rattle.dft_rules.specs.Refusals.{is_scanned}
 use Rattle.dft_rules.specs.Rules.{are_held, are_held_at, clock_of_source, clocked_by, is_held, is_kept, judged, judged_by, may_be_scanned, place_of_clock, place_of_port, scan_cell_of}

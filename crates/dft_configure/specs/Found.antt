@@ -2,14 +2,14 @@
 use Rattle.std.specs.Prelude.{ℕ, ◌≡◌, Bool, false, List, length, map, Option, None, Some, option_map, option_and_then, slice_index_or, if◌then◌else◌}
 use Rattle.dft_netlist.specs.declared.ids.NetId.{NetId}
 use Rattle.dft_netlist.specs.declared.instance.Signal.{Signal}
-use Rattle.dft_netlist.specs.declared.clock_roots.ClockRoot.{ClockRoot}
-use Rattle.dft_netlist.specs.declared.root.Root.{Root}
+use Rattle.dft_behavior.specs.declared.clock_roots.ClockRoot.{ClockRoot}
+use Rattle.dft_behavior.specs.declared.root.Root.{Root}
 use Rattle.dft_netlist.specs.Netlist.{Netlist}
-use Rattle.dft_netlist.specs.ClockSteps.{shown_clock}
-use Rattle.dft_netlist.specs.ClockTables.{AreClocks, clock_in}
-use Rattle.dft_netlist.specs.Roots.{shown_root}
-use Rattle.dft_netlist.specs.RootTables.{AreRoots, root_in}
-use Rattle.dft_netlist.specs.Traces as traces
+use Rattle.dft_behavior.specs.ClockSteps.{shown_clock}
+use Rattle.dft_behavior.specs.ClockTables.{AreClocks, clock_in}
+use Rattle.dft_behavior.specs.Roots.{shown_root}
+use Rattle.dft_behavior.specs.RootTables.{AreRoots, root_in}
+use Rattle.dft_behavior.specs.Traces as traces
 use Rattle.dft_configure.specs.declared.opening.Tables.{Tables}
 use Rattle.dft_configure.specs.declared.roots.Roots.{Roots}
 use Rattle.dft_configure.specs.Roots.{domains_of, is_clean, port_of_clock, resets_of}

@@ -4,9 +4,9 @@ use Rattle.std.specs.List.{list_any, range_with_len}
 use Rattle.dft_cells.specs.declared.kind.Role.TheVariants as role
 use Rattle.dft_netlist.specs.Netlist.{Netlist}
 use Rattle.dft_netlist.specs.Drivers.{Source, Net, pins_of, kind_at}
-use Rattle.dft_netlist.specs.Logic.{pin_of}
-use Rattle.dft_netlist.specs.Traces.{Root, Port, Constant, Other, root_of}
-use Rattle.dft_netlist.specs.ClockRoots.{ClockRoot, clock_root_of}
+use Rattle.dft_netlist.specs.Connections.{pin_of}
+use Rattle.dft_behavior.specs.Traces.{Root, Port, Constant, Other, root_of}
+use Rattle.dft_behavior.specs.ClockRoots.{ClockRoot, clock_root_of}
 use Rattle.dft_rules.specs.Refusals.{is_data_of}
 use Rattle.dft_rules.specs.Rules.{may_be_scanned, scan_cell_of}
 

@@ -1,12 +1,13 @@
 //! Which nets are clean: no instance takes their clocks as data.
 
 ghost use Rattle.std.specs.Prelude.{ℕ, ◌≡◌, ◌<◌, ◌&&◌, not, false, IfOk, length, slice_index_or};
-ghost use Rattle.dft_netlist.specs.ClockSteps.{shown_clock};
-ghost use Rattle.dft_netlist.specs.ClockTables.{AreClocks};
+ghost use Rattle.dft_behavior.specs.ClockSteps.{shown_clock};
+ghost use Rattle.dft_behavior.specs.ClockTables.{AreClocks};
 ghost use Rattle.dft_configure.specs.Roots.{is_port, port_of_clock};
 ghost use Rattle.dft_configure.specs.Found.{AreClean};
 
-use dft_netlist::{ClockRoot, Design};
+use dft_behavior::ClockRoot;
+use dft_netlist::Design;
 use dft_rules::data_nets;
 use std::alloc::{AllocError, Global};
 

@@ -8,11 +8,9 @@ ghost use Rattle.dft_configure.specs.Found as at;
 ghost use Rattle.dft_configure.specs.Found.{AreTables, number, numbers, numbers_of, shown_hold};
 
 use crate::cleaning::clean_nets;
+use dft_behavior::{ClockRoot, Root, clock_in, find_clocks, find_roots, root_in};
 use dft_cells::{Cell, Role};
-use dft_netlist::{
-    CellRef, ClockRoot, Design, Instance, NetId, Root, Signal, clock_in, kind_of, root_in,
-    signal_of,
-};
+use dft_netlist::{CellRef, Design, Instance, NetId, Signal, kind_of, signal_of};
 use dft_rules::{has_scan_cell, may_be_scanned};
 use std::alloc::{AllocError, Global};
 
@@ -43,11 +41,11 @@ impl Tables {
     pub(crate) fn of(alloc: Global, design: &Design) -> Result<Tables, AllocError>
         ensures { IfOk result (AreTables design.now) }
     {
-        let clocks = design.clocks(alloc)?;
+        let clocks = find_clocks(alloc, design)?;
         let clean = clean_nets(alloc, design, &clocks)?;
         Ok(Tables {
             clocks,
-            roots: design.roots(alloc)?,
+            roots: find_roots(alloc, design)?,
             clean,
         })
     }

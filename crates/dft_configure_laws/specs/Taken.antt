@@ -1,9 +1,9 @@
 -- A made configuration is taken: its text is read, and no check of a compilation before its cubes fails.
 use Rattle.std.specs.Prelude.{ℕ, ◌≡◌, List, [], ◌∷◌, None, option_map}
 use Rattle.dft_netlist.specs.Netlist.{Netlist}
-use Rattle.dft_config.specs.declared.error.ConfigError.{ConfigError}
+use Rattle.dft_config_text.specs.declared.error.ConfigError.{ConfigError}
 use Rattle.dft_config.specs.Config.{Config}
-use Rattle.dft_config.specs.Refusals.{IsConfig, IsRefused}
+use Rattle.dft_config_text.specs.Refusals.{IsConfig, IsRefused}
 use Rattle.dft_config_out_laws.specs.Texts.{IsForMemory}
 use Rattle.dft_stitch.specs.Chains.{plan_of}
 use Rattle.dft_insert.specs.declared.style.Style.TheVariants.{Plain}

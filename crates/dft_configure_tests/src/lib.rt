@@ -1,9 +1,9 @@
-//! Made configurations worked by hand or by another program, as tests of the calls that make them.
+//! Texts of configurations, and configurations that are made, worked by hand.
 #![tactic(auto)]
 
 #[cfg(test)]
-mod long;
+mod configurations;
 #[cfg(test)]
-mod rings;
+mod long;
 #[cfg(test)]
 mod texts;

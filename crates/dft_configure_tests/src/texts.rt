@@ -9,7 +9,7 @@ use std::test::Fail;
 
 // A name of a text; `x` where it is none.
 fn name(alloc: Global, text: &str) -> Result<Name, AllocError> {
-    match dft_toml::name_of(alloc, text.as_bytes())? {
+    match dft_base::name_of(alloc, text.as_bytes())? {
         Some(name) => Ok(name),
         None => name_x(alloc),
     }
@@ -99,7 +99,7 @@ fn is_read(alloc: Global, clock: &str) -> Result<bool, AllocError> {
     if text.len() > 4096 {
         return Ok(false);
     }
-    match Config::read(alloc, &text).ok() {
+    match dft_config_text::read(alloc, &text).ok() {
         Some(config) => Ok(has_clock(&config, clock)),
         None => Ok(false),
     }

@@ -8,18 +8,18 @@ use Rattle.std.proofs.lemmas.List.Elements.{All-from_recursion}
 use Rattle.std.proofs.lemmas.Map.Keys.{any_passes_from_place}
 use Rattle.dft_base.proofs.BitLemmas.{and_first}
 use Rattle.dft_cells.specs.declared.kind.Kind.{Kind}
-use Rattle.dft_cells.specs.declared.kind.Kind.TheVariants.{Buf, Inv, And, Nand, Or, Nor, Xor, Xnor, Mux2, Table, Tie0, Tie1, Dff, Dffr, Dffs, Sdff, Sdffr, Sdffs, Lockup, Opaque}
+use Rattle.dft_cells.specs.declared.kind.Kind.TheVariants as cell_kind
 use Rattle.dft_cells.specs.declared.kind.Role.{Role}
 use Rattle.dft_cells.specs.declared.kind.Role.TheVariants as role
 use Rattle.dft_config.specs.Range.{has}
 use Rattle.dft_netlist.specs.declared.instance.Instance.{Instance}
 use Rattle.dft_netlist.specs.Netlist.{Netlist}
 use Rattle.dft_netlist.specs.Drivers.{Connection, Loose, Net, Source, Tied, connections_of, kind_at, kind_of, pins_at, pins_of, shape_of, source_of}
-use Rattle.dft_netlist.specs.ClockRoots.{ClockRoot}
-use Rattle.dft_netlist.specs.Logic.{pin_of, same_role}
+use Rattle.dft_behavior.specs.ClockRoots.{ClockRoot}
+use Rattle.dft_netlist.specs.Connections.{pin_of, same_role}
 use Rattle.dft_netlist.specs.Sound.{IsNetlist}
-use Rattle.dft_netlist.specs.Traces.{Root, Port, Constant, Other, root_of, root_of_driver, root_within}
-use Rattle.dft_netlist.proofs.ClockWalks.{traced_clock}
+use Rattle.dft_behavior.specs.Traces.{Root, Port, Constant, Other, root_of, root_of_driver, root_within}
+use Rattle.dft_behavior.proofs.ClockWalks.{traced_clock}
 use Rattle.dft_netlist.proofs.GateDrivers.{driven_live}
 use Rattle.dft_rules.specs.Refusals.{is_data_of, takes, takes_data, uses_data}
 use Rattle.dft_rules.specs.Rules.{may_be_scanned}
@@ -33,26 +33,8 @@ use Rattle.dft_configuring.proofs.RootsRange.{among_first, among_later, domains_
 -- ---- a reset pin takes its net as data
 
 scanned_uses : (kind : Kind) → may_be_scanned kind ≡ true → uses_data kind ≡ true
-scanned_uses Buf is = absurd cc
-scanned_uses Inv is = absurd cc
-scanned_uses And is = absurd cc
-scanned_uses Nand is = absurd cc
-scanned_uses Or is = absurd cc
-scanned_uses Nor is = absurd cc
-scanned_uses Xor is = absurd cc
-scanned_uses Xnor is = absurd cc
-scanned_uses Mux2 is = absurd cc
-scanned_uses (Table number) is = absurd cc
-scanned_uses Tie0 is = absurd cc
-scanned_uses Tie1 is = absurd cc
-scanned_uses Dff is = refl
-scanned_uses Dffr is = refl
-scanned_uses Dffs is = refl
-scanned_uses Sdff is = absurd cc
-scanned_uses Sdffr is = absurd cc
-scanned_uses Sdffs is = absurd cc
-scanned_uses Lockup is = absurd cc
-scanned_uses Opaque is = absurd cc
+scanned_uses (cell_kind.Flop flop) is = refl
+scanned_uses _ is = absurd cc
 
 reset_data : (r : Role) → same_role role.Reset r ≡ true → takes_data r ≡ true
 reset_data role.Input is = absurd cc

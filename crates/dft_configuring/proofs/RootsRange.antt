@@ -18,13 +18,12 @@ use Rattle.dft_netlist.specs.declared.named.Named.{Named}
 use Rattle.dft_netlist.specs.declared.named.Named.TheVariants as named
 use Rattle.dft_netlist.specs.Netlist.{Netlist}
 use Rattle.dft_netlist.specs.Drivers.{Input, Source, driver, pins_of}
-use Rattle.dft_netlist.specs.Connections.{input_net, is_input}
-use Rattle.dft_netlist.specs.ClockRoots.{ClockRoot, clock_root_of}
-use Rattle.dft_netlist.specs.Logic.{pin_of}
+use Rattle.dft_netlist.specs.Connections.{input_net, is_input, pin_of}
+use Rattle.dft_behavior.specs.ClockRoots.{ClockRoot, clock_root_of}
 use Rattle.dft_netlist.specs.Names.{find_net}
 use Rattle.dft_netlist.specs.Sound.{IsNetlist}
-use Rattle.dft_netlist.specs.Traces.{Root, Port, Constant, Other, root_of}
-use Rattle.dft_netlist.proofs.ClockWalks.{clock_driven, clock_found, traced_clock}
+use Rattle.dft_behavior.specs.Traces.{Root, Port, Constant, Other, root_of}
+use Rattle.dft_behavior.proofs.ClockWalks.{clock_driven, clock_found, traced_clock}
 use Rattle.dft_netlist.proofs.FindLemmas.{not_found}
 use Rattle.dft_rules.proofs.NamedPorts.{name_at}
 use Rattle.dft_configure.specs.Found.{numbers}

@@ -3,7 +3,7 @@ use Rattle.std.specs.Prelude.{◌≡◌, ◌≤◌, length, None}
 use Rattle.dft_netlist.specs.Netlist.{Netlist}
 use Rattle.dft_config.specs.Config.{Config}
 use Rattle.dft_config.specs.Range.{IsInRange}
-use Rattle.dft_config.specs.Refusals.{IsConfig}
+use Rattle.dft_config_text.specs.Refusals.{IsConfig}
 use Rattle.dft_config_out.specs.declared.made.Made.{Made}
 use Rattle.dft_config_out.specs.Written.{config_of, made_text}
 use Rattle.dft_rules.specs.Refusals as rules

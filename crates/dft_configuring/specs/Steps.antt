@@ -2,7 +2,7 @@
 use Rattle.std.specs.Prelude.{ℕ, ◌≡◌, ◌<◌, ◌≤◌, Bool, true, false, length, Option, None, Some}
 use Rattle.dft_netlist.specs.Netlist.{Netlist}
 use Rattle.dft_config.specs.Config.{Config}
-use Rattle.dft_config.specs.Refusals.{IsConfig}
+use Rattle.dft_config_text.specs.Refusals.{IsConfig}
 use Rattle.dft_config_out.specs.declared.made.Made.{Made}
 use Rattle.dft_config_out.specs.Written.{config_of, made_text}
 use Rattle.dft_rules.specs.Refusals as rules

@@ -1,16 +1,17 @@
 //! Texts of made configurations, and what they are read as.
 
 ghost use Rattle.std.specs.Prelude.{◌≡◌, ◌≤◌, IfErr, IfOk, OnOk, length};
-ghost use Rattle.dft_config.specs.Refusals.{IsConfig};
+ghost use Rattle.dft_config_text.specs.Refusals.{IsConfig};
 ghost use Rattle.dft_config_out.specs.Written as spec;
 ghost use Rattle.dft_config_out_laws.specs.Tables.{IsWritable};
 ghost use Rattle.dft_configuring.specs.Causes.{IsLong};
 ghost use Rattle.dft_configuring.specs.Steps.{IsWritten};
 
 use crate::error::ConfigureError;
-use dft_config::{Config, ConfigError};
+use dft_config::Config;
 use dft_config_out::{Made, made_text};
 use dft_config_out_laws::text_is_read;
+use dft_config_text::ConfigError;
 use std::alloc::{AllocError, Global};
 
 // The longest text that is read as a configuration.
@@ -67,7 +68,7 @@ fn read_text(alloc: Global, text: &[u8]) -> Result<Config, ConfigureError>
     ensures refused { IfErr result (IsLong text.now) }
 {
     check_length(text)?;
-    match Config::read(alloc, text) {
+    match dft_config_text::read(alloc, text) {
         Ok(config) => Ok(config),
         Err(error) => Err(ConfigureError::Memory(for_memory(error))),
     }

@@ -13,7 +13,10 @@ use dft_netlist::{Design, InstanceId};
 fn may_be_scanned(kind: Kind) -> bool
     ensures { result ≡ rules.may_be_scanned kind }
 {
-    matches!(kind, Kind::Dff | Kind::Dffr | Kind::Dffs)
+    match kind {
+        Kind::Flop(flop) => !flop.scan,
+        _ => false,
+    }
 }
 
 #[tactic(auto, using(dft_netlist::proofs::LookUpLemmas::instance_there))]

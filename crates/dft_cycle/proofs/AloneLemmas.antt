@@ -10,15 +10,15 @@ use Rattle.dft_base.specs.declared.tri.Tri.{Tri}
 use Rattle.dft_base.specs.declared.tri.Tri.TheVariants.{Zero, One, Unknown}
 use Rattle.dft_base.specs.Tri.{AboveTri}
 use Rattle.dft_netlist.specs.declared.ids.NetId.{NetId}
-use Rattle.dft_netlist.specs.Logic.{Logic, IsRanked}
-use Rattle.dft_netlist.specs.Settled.{value_from}
-use Rattle.dft_netlist.specs.Runs.{takes}
+use Rattle.dft_behavior.specs.Logic.{Logic, IsRanked}
+use Rattle.dft_behavior.specs.Settled.{value_from}
+use Rattle.dft_behavior.specs.Runs.{takes}
 use Rattle.dft_abstract.specs.Cycle.{Pulse, tri_forced_by, tri_taken_by, changes, next_value, view_sources, AreViews}
 use Rattle.dft_cycle.specs.Machine.{value_at}
 use Rattle.dft_logic.specs.Circuit.{Circuit, logic_at, flag_at, IsCircuit}
 use Rattle.dft_cycle.specs.Views.{raised_by, rank_of, Among, PulsesAmong, HasNext, AreNext, IsAlone}
 use Rattle.dft_abstract.proofs.Views.{settled_same, views_exist}
-use Rattle.dft_logic.proofs.CircuitRanks.{circuit_ranked}
+use Rattle.dft_takings.proofs.CircuitRanks.{circuit_ranked}
 use Rattle.dft_cycle.proofs.RoundLemmas.{no_latch}
 use Rattle.dft_cycle.proofs.Risings.{IsRaised, past_next, pulses}
 

@@ -8,16 +8,17 @@ use Rattle.dft_base.specs.declared.tri.Tri.TheVariants.{Zero, Unknown}
 use Rattle.dft_netlist.specs.Drivers.{Source}
 use Rattle.dft_base.specs.Tri.{known}
 use Rattle.dft_cells.specs.FlipFlops.{tri_forced}
-use Rattle.dft_netlist.specs.Logic.{Cell, Force, Meaning, Input, Clock, Gate, Joined, Flop, Lockup, Free}
-use Rattle.dft_netlist.specs.Settled.{value_from, value_given, inverse}
+use Rattle.dft_behavior.specs.Logic.{Cell, Force, Meaning, Input, Clock, Gate, Joined, Flop, Lockup, Free}
+use Rattle.dft_behavior.specs.Settled.{value_from, value_given, inverse}
 use Rattle.dft_netlist.specs.Orders.{Has}
 use Rattle.dft_netlist.proofs.ListingLemmas.{has_front}
 use Rattle.dft_logic.specs.declared.circuit.Op.{Op}
 use Rattle.dft_logic.specs.declared.circuit.Op.TheVariants as op
-use Rattle.dft_logic.specs.declared.settling.View.{View}
+use Rattle.dft_takings.specs.declared.settling.View.{View}
 use Rattle.dft_abstract.specs.Cycle.{Pulse, lockup_shown}
 use Rattle.dft_cycle.specs.Machine.{value_at, acted}
-use Rattle.dft_logic.specs.Circuit.{Circuit, Supply, base_of, view_base, changed, IsGivenIn, GivenIn, IsReady, source_places, flag_at, meaning, op_at, cell_of, cell_at, latch_at, latch_domains, force_nets, leaf_domains, leaves_from, IsCircuit}
+use Rattle.dft_logic.specs.Circuit.{Circuit, Supply, source_places, flag_at, meaning, op_at, cell_of, cell_at, latch_at, latch_domains, force_nets, leaf_domains, leaves_from, IsCircuit}
+use Rattle.dft_takings.specs.Views.{base_of, view_base, changed, IsGivenIn, GivenIn, IsReady}
 use Rattle.dft_logic.specs.Tables.{list_at}
 use Rattle.dft_cycle.specs.Views.{next_at, next_by, held_by}
 use Rattle.dft_abstract.proofs.Forces.{forced_twice}

@@ -10,34 +10,35 @@ use Rattle.dft_base.specs.declared.tri.Tri.TheVariants.{Unknown}
 use Rattle.dft_base.proofs.BitLemmas.{or_later, or_false}
 use Rattle.dft_netlist.specs.declared.ids.NetId.{NetId}
 use Rattle.dft_netlist.specs.Drivers.{Source}
-use Rattle.dft_netlist.specs.Logic.{Logic, Cell, Force}
-use Rattle.dft_netlist.specs.Settled.{TriSources, value_from, IsTriSettled}
-use Rattle.dft_netlist.specs.Runs.{takes}
+use Rattle.dft_behavior.specs.Logic.{Logic, Cell, Force}
+use Rattle.dft_behavior.specs.Settled.{TriSources, value_from, IsTriSettled}
+use Rattle.dft_behavior.specs.Runs.{takes}
 use Rattle.dft_logic.specs.declared.circuit.FlipFlop.{FlipFlop}
 use Rattle.dft_abstract.specs.Cycle.{Pulse, Half, tri_forced_by, tri_taken_by, next_value, falls_after, changes, AreViews, after_pulse, IsLeast}
 use Rattle.dft_cycle.specs.Machine.{Machine, value_at, is_one_of, ports_of, logic, acted, IsSet, at_strobe, IsStrobed, pulses, phase_from, pulse_from, IsPhase, IsPulsed}
-use Rattle.dft_logic.specs.Circuit.{Circuit, IsReady, logic_at, cell_of, cell_at, flag_at, base_of, leaves_from, IsCircuit}
+use Rattle.dft_logic.specs.Circuit.{Circuit, logic_at, cell_of, cell_at, flag_at, leaves_from, IsCircuit}
+use Rattle.dft_takings.specs.Views.{IsReady, base_of}
 use Rattle.dft_cycle.specs.Views.{AreFalling, Rises, rank_of, Among, AreNext}
 use Rattle.std.proofs.lemmas.Option.{slice_get-get_or}
 use Rattle.dft_base.proofs.ListLemmas.{refilled_items}
 use Rattle.dft_registers.specs.declared.moves.Move.{Move}
 use Rattle.dft_registers.specs.Cells.{Contents, course}
-use Rattle.dft_logic.specs.declared.takings.Taking.{Taking}
-use Rattle.dft_logic.specs.Takings.{ArePut}
+use Rattle.dft_takings.specs.declared.takings.Taking.{Taking}
+use Rattle.dft_takings.specs.Takings.{ArePut}
 use Rattle.dft_cycle.specs.declared.plans.Plan.{Plan}
 use Rattle.dft_cycle.specs.Plans.{IsPassed, IsFound, IsFoundAt, LooseAreUnknown}
 use Rattle.dft_logic.specs.Compiling.{ports_by}
-use Rattle.dft_logic.specs.Needs.{AreSeen, IsStrobe}
-use Rattle.dft_logic.specs.Takings.{is_loose_input, is_loose}
-use Rattle.dft_logic.proofs.LookLemmas.{look_of_all}
+use Rattle.dft_takings.specs.Needs.{AreSeen, IsStrobe}
+use Rattle.dft_takings.specs.Takings.{is_loose_input, is_loose}
+use Rattle.dft_takings.proofs.LookLemmas.{look_of_all}
 use Rattle.dft_abstract.proofs.Halves.{falls_rest}
 use Rattle.dft_abstract.proofs.Least.{none_changes}
 use Rattle.dft_abstract.proofs.Views.{views_exist}
-use Rattle.dft_logic.proofs.CircuitRanks.{circuit_ranked}
-use Rattle.dft_logic.proofs.Strobes.{no_falls, strobe_holds, strobe_leaves}
+use Rattle.dft_takings.proofs.CircuitRanks.{circuit_ranked}
+use Rattle.dft_takings.proofs.Strobes.{no_falls, strobe_holds, strobe_leaves}
 use Rattle.dft_cycle.proofs.MachineRounds.{same_logic}
 use Rattle.dft_logic.proofs.Writings.{cell_past}
-use Rattle.dft_logic.proofs.TakingLemmas.{next_loose}
+use Rattle.dft_takings.proofs.TakingLemmas.{next_loose}
 
 -- ---- the elements of a vector that was filled anew
 

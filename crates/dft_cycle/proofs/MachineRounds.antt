@@ -5,9 +5,9 @@ use Rattle.std.proofs.lemmas.Bool.Decides.{eqb_tells}
 use Rattle.dft_base.specs.declared.tri.Tri.{Tri}
 use Rattle.dft_base.specs.declared.tri.Tri.TheVariants.{Zero, Unknown}
 use Rattle.dft_cells.specs.FlipFlops.{tri_forced}
-use Rattle.dft_netlist.specs.Logic.{Logic, Force}
-use Rattle.dft_netlist.specs.Settled.{TriSources, value_from, IsTriSettled}
-use Rattle.dft_netlist.specs.Runs.{Vector}
+use Rattle.dft_behavior.specs.Logic.{Logic, Force}
+use Rattle.dft_behavior.specs.Settled.{TriSources, value_from, IsTriSettled}
+use Rattle.dft_behavior.specs.Runs.{Vector}
 use Rattle.dft_abstract.specs.Cycle.{Pulse, tri_forced_by, tri_taken_by, changes, next_value, IsLeast, after_pulse, rise_of, falls_after, fall_of, strobe_sources, Halves, after_halves, Round}
 use Rattle.dft_abstract.proofs.Forces.{by_twice}
 use Rattle.dft_cycle.specs.Machine.{Machine, value_at, logic, acted, at_strobe, pulses, pulse_from}

@@ -5,15 +5,15 @@ use Rattle.std.proofs.lemmas.Bool.Decides.{eqb_tells, leb_tells}
 use Rattle.std.proofs.lemmas.List.{get_or_past}
 use Rattle.dft_base.specs.declared.tri.Tri.{Tri}
 use Rattle.dft_netlist.specs.declared.ids.NetId.{NetId}
-use Rattle.dft_netlist.specs.Logic.{Cell}
-use Rattle.dft_netlist.specs.Settled.{TriSources, value_given, IsTriSettled}
+use Rattle.dft_behavior.specs.Logic.{Cell}
+use Rattle.dft_behavior.specs.Settled.{TriSources, value_given, IsTriSettled}
 use Rattle.dft_logic.specs.declared.circuit.Op.{Op}
 use Rattle.dft_logic.specs.declared.circuit.Op.TheVariants.{Free}
 use Rattle.dft_abstract.specs.Cycle.{Pulse, view_sources, AreViews}
 use Rattle.dft_cycle.specs.Machine.{value_at}
 use Rattle.dft_logic.specs.Circuit.{Circuit, logic_at, meaning, IsCircuit}
 use Rattle.dft_cycle.specs.Views.{next_at, next_by, rank_of, IsHeld, HasNext}
-use Rattle.dft_logic.proofs.CircuitRanks.{rank_lower}
+use Rattle.dft_takings.proofs.CircuitRanks.{rank_lower}
 use Rattle.dft_cycle.proofs.RoundLemmas.{IsHeldView, agree, among_before}
 
 -- the settled values are the view

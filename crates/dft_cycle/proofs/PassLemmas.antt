@@ -8,26 +8,26 @@ use Rattle.dft_base.specs.declared.tri.Tri.{Tri}
 use Rattle.dft_base.specs.declared.tri.Tri.TheVariants.{Unknown}
 use Rattle.dft_netlist.specs.declared.ids.NetId.{NetId}
 use Rattle.dft_netlist.specs.Drivers.{Source, Net, Tied, Loose}
-use Rattle.dft_netlist.specs.Logic.{Cell, Force, Scan, Free}
-use Rattle.dft_netlist.specs.Settled.{value_from, value_given}
+use Rattle.dft_behavior.specs.Logic.{Cell, Force, Scan, Free}
+use Rattle.dft_behavior.specs.Settled.{value_from, value_given}
 use Rattle.dft_netlist.specs.Orders.{Has, numbers_of}
-use Rattle.dft_netlist.specs.Runs.{takes}
+use Rattle.dft_behavior.specs.Runs.{takes}
 use Rattle.dft_abstract.specs.Cycle.{Pulse, level_before}
-use Rattle.dft_logic.specs.declared.takings.Taking.{Taking}
-use Rattle.dft_logic.specs.Needs.{strobe_from, before_from, AreSeen}
-use Rattle.dft_logic.specs.Shows.{Shown, IsShownOn}
-use Rattle.dft_logic.specs.Takes.{AreOrigins}
-use Rattle.dft_logic.specs.Entries.{Entry, entry_value}
+use Rattle.dft_takings.specs.declared.takings.Taking.{Taking}
+use Rattle.dft_takings.specs.Needs.{strobe_from, before_from, AreSeen}
+use Rattle.dft_takings.specs.Shows.{Shown, IsShownOn}
+use Rattle.dft_takings.specs.Takes.{AreOrigins}
+use Rattle.dft_takings.specs.Entries.{Entry, entry_value}
 use Rattle.dft_logic.specs.Values.{value_at}
 use Rattle.dft_logic.specs.Circuit.{Circuit, meaning, op_at, logic_at, cell_of, cell_at, force_nets, next_at, IsCircuit}
-use Rattle.dft_logic.specs.EntryTables.{scan_needs, entry_for}
+use Rattle.dft_takings.specs.EntryTables.{scan_needs, entry_for}
 use Rattle.dft_registers.specs.Layout.{Layout}
 use Rattle.dft_registers.specs.declared.moves.Move.{Move}
 use Rattle.dft_registers.specs.Cells.{Course, Rests, Enters, Follows, course, CanMove, IsCarried}
-use Rattle.dft_logic.specs.Takings.{taking_at, taken_by, is_loose, IsLeft, ArePut, AreTakings}
-use Rattle.dft_logic.proofs.EntryLemmas.{entry_stays}
-use Rattle.dft_logic.proofs.PlanLemmas.{planned}
-use Rattle.dft_logic.proofs.TakingLemmas.{idle_value}
+use Rattle.dft_takings.specs.Takings.{taking_at, taken_by, is_loose, IsLeft, ArePut, AreTakings}
+use Rattle.dft_takings.proofs.EntryLemmas.{entry_stays}
+use Rattle.dft_takings.proofs.PlanLemmas.{planned}
+use Rattle.dft_takings.proofs.TakingLemmas.{idle_value}
 use Rattle.dft_cycle.specs.declared.plans.Pins.{Pins}
 use Rattle.dft_cycle.specs.declared.plans.Plan.{Plan}
 use Rattle.dft_cycle.specs.declared.plans.Stage.TheVariants.{Noted, Made, Barred}
@@ -36,8 +36,8 @@ use Rattle.dft_cycle.specs.Views.{Among}
 use Rattle.dft_cycle.specs.declared.steps.Step.{Step}
 use Rattle.dft_cycle.specs.Steps.{IsStep, step_nets}
 use Rattle.dft_cycle.specs.Looks.{IsListed}
-use Rattle.dft_logic.proofs.LookLemmas.{look_of_marked}
-use Rattle.dft_logic.specs.ShownTables.{edges_of}
+use Rattle.dft_takings.proofs.LookLemmas.{look_of_marked}
+use Rattle.dft_takings.specs.ShownTables.{edges_of}
 use Rattle.dft_cycle.specs.Plans.{row_of, flags_of, IsNeedList, IsPins, IsMade, IsPlan, IsNoted, IsFilled, LooseAreUnknown, IsPassed}
 
 -- ---- the same key is the same at each pin

@@ -10,15 +10,15 @@ use Rattle.dft_base.specs.declared.tri.Tri.TheVariants.{Zero, One, Unknown}
 use Rattle.dft_base.specs.Tri.{AboveTri, join, is_known}
 use Rattle.dft_cells.proofs.Completions.{above_self, trans}
 use Rattle.dft_netlist.specs.declared.ids.NetId.{NetId}
-use Rattle.dft_netlist.specs.Logic.{Logic, Cell}
-use Rattle.dft_netlist.specs.Runs.{takes}
+use Rattle.dft_behavior.specs.Logic.{Logic, Cell}
+use Rattle.dft_behavior.specs.Runs.{takes}
 use Rattle.dft_abstract.specs.Cycle.{Pulse, changes, next_value, AreViews, IsClosed, IsLeast}
 use Rattle.dft_cycle.specs.Machine.{value_at}
 use Rattle.dft_logic.specs.Circuit.{Circuit, logic_at, IsCircuit}
 use Rattle.dft_cycle.specs.Views.{raised_by, rank_of, Among, HasNext, StaysBelow, AreNext}
 use Rattle.dft_abstract.proofs.Views.{views_exist}
 use Rattle.dft_abstract.proofs.Least.{step_below}
-use Rattle.dft_logic.proofs.CircuitRanks.{circuit_ranked}
+use Rattle.dft_takings.proofs.CircuitRanks.{circuit_ranked}
 use Rattle.dft_logic.proofs.Writings.{write_same, cell_past}
 
 -- ---- known values are lost

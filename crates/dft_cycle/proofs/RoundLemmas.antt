@@ -6,16 +6,16 @@ use Rattle.std.proofs.lemmas.Bool.Decides.{eqb_tells}
 use Rattle.dft_base.specs.declared.tri.Tri.{Tri}
 use Rattle.dft_netlist.specs.declared.ids.NetId.{NetId}
 use Rattle.dft_netlist.specs.Drivers.{Source, nets_of, AreBelow}
-use Rattle.dft_netlist.specs.Logic.{Meaning, Lockup, reads}
-use Rattle.dft_netlist.specs.Settled.{TriSources, value_from, IsTriSettled}
-use Rattle.dft_netlist.proofs.Meanings.{source_same}
+use Rattle.dft_behavior.specs.Logic.{Meaning, Lockup, reads}
+use Rattle.dft_behavior.specs.Settled.{TriSources, value_from, IsTriSettled}
+use Rattle.dft_behavior.proofs.Meanings.{source_same}
 use Rattle.dft_logic.specs.declared.circuit.Latch.{Latch}
 use Rattle.dft_abstract.specs.Cycle.{Pulse, lockup_shown, view_sources, AreViews}
 use Rattle.dft_cycle.specs.Machine.{value_at}
 use Rattle.dft_logic.specs.Circuit.{Circuit, logic_at, latch_at, IsCircuit}
 use Rattle.dft_cycle.specs.Views.{held_by, Among, rank_of, IsHeld, OwnsLatches}
 use Rattle.dft_abstract.proofs.Views.{given_same}
-use Rattle.dft_logic.proofs.CircuitRanks.{circuit_ranked}
+use Rattle.dft_takings.proofs.CircuitRanks.{circuit_ranked}
 use Rattle.dft_logic.proofs.Compiled.{latch_live}
 
 -- sources of a view whose lock-ups show held values

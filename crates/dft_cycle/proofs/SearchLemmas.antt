@@ -2,7 +2,7 @@
 use Rattle.std.proofs.Common.{ℕ, List, ◌≡◌, ◌<◌, ◌&&◌, length, map, sym, subst}
 use Rattle.dft_base.specs.declared.tri.Tri.{Tri}
 use Rattle.dft_netlist.specs.declared.ids.NetId.{NetId}
-use Rattle.dft_netlist.specs.Runs.{takes}
+use Rattle.dft_behavior.specs.Runs.{takes}
 use Rattle.dft_abstract.specs.Cycle.{Pulse, AreViews}
 use Rattle.dft_logic.specs.declared.circuit.FlipFlop.{FlipFlop}
 use Rattle.dft_logic.specs.Circuit.{Circuit, logic_at, cell_of, cell_at}

@@ -3,10 +3,10 @@ use Rattle.std.proofs.Common.{ℕ, zero, suc, List, [], ◌∷◌, ◌++◌, All
 use Rattle.std.proofs.lemmas.List.{map-append, get_or-map, length-map}
 use Rattle.dft_base.specs.declared.tri.Tri.{Tri}
 use Rattle.dft_netlist.specs.declared.ids.NetId.{NetId}
-use Rattle.dft_netlist.specs.Settled.{value_given}
+use Rattle.dft_behavior.specs.Settled.{value_given}
 use Rattle.dft_logic.specs.Values.{value_at}
 use Rattle.dft_logic.specs.Circuit.{Circuit, meaning, op_at, Supply, leaves_from}
-use Rattle.dft_logic.proofs.Listings.{Listed, net_live, one_more}
+use Rattle.dft_takings.proofs.Listings.{Listed, net_live, one_more}
 use Rattle.dft_cycle.specs.declared.steps.Step.{Step}
 use Rattle.dft_cycle.specs.Steps.{told_by, step_nets, IsWithin, IsStep}
 

@@ -4,8 +4,8 @@ use Rattle.std.proofs.lemmas.Bool.Decides.{eqb_tells}
 use Rattle.std.proofs.lemmas.List.{drop_all}
 use Rattle.dft_base.specs.declared.tri.Tri.{Tri}
 use Rattle.dft_base.specs.declared.tri.Tri.TheVariants.{Unknown}
-use Rattle.dft_netlist.specs.Logic.{reads}
-use Rattle.dft_netlist.specs.Settled.{value_given}
+use Rattle.dft_behavior.specs.Logic.{reads}
+use Rattle.dft_behavior.specs.Settled.{value_given}
 use Rattle.dft_netlist.specs.Orders.{Has}
 use Rattle.dft_netlist.proofs.ListingLemmas.{has_item, has_front, all_other}
 use Rattle.dft_logic.specs.declared.circuit.Op.{Op}

@@ -5,8 +5,8 @@ use Rattle.dft_base.specs.declared.tri.Tri.TheVariants.{Zero, Unknown}
 use Rattle.dft_cells.specs.FlipFlops.{tri_forced}
 use Rattle.dft_netlist.specs.declared.ids.NetId.{NetId}
 use Rattle.dft_netlist.specs.Netlist.{Netlist}
-use Rattle.dft_netlist.specs.Logic.{Ports, Logic, Force, logic_of}
-use Rattle.dft_netlist.specs.Settled.{TriSources, value_from, IsTriSettled}
+use Rattle.dft_behavior.specs.Logic.{Ports, Logic, Force, logic_of}
+use Rattle.dft_behavior.specs.Settled.{TriSources, value_from, IsTriSettled}
 use Rattle.dft_abstract.specs.Cycle.{Pulse, IsLeast, after_pulse, falls_after, Half, Halves}
 pub use Rattle.dft_logic.specs.Values.{value_at}
 

@@ -6,17 +6,17 @@ use Rattle.dft_base.specs.declared.tri.Tri.TheVariants.{Unknown}
 use Rattle.dft_netlist.specs.declared.ids.NetId.{NetId}
 use Rattle.dft_netlist.specs.Orders.{Has, numbers_of}
 use Rattle.dft_abstract.specs.Cycle.{Pulse, level_before, IsLeast, after_pulse}
-use Rattle.dft_logic.specs.Needs.{IsStrobeClosed}
-use Rattle.dft_logic.specs.Shows.{Shown, IsShownOn}
-use Rattle.dft_logic.specs.Takes.{AreOrigins}
-use Rattle.dft_logic.specs.Entries.{Entry}
+use Rattle.dft_takings.specs.Needs.{IsStrobeClosed}
+use Rattle.dft_takings.specs.Shows.{Shown, IsShownOn}
+use Rattle.dft_takings.specs.Takes.{AreOrigins}
+use Rattle.dft_takings.specs.Entries.{Entry}
 use Rattle.dft_logic.specs.Values.{value_at}
 use Rattle.dft_logic.specs.Circuit.{Circuit, logic_at, cell_of, cell_at, flag_at, force_nets, AreOrdered}
-use Rattle.dft_logic.specs.EntryTables.{scan_needs, entry_for, entry_needs}
+use Rattle.dft_takings.specs.EntryTables.{scan_needs, entry_for, entry_needs}
 use Rattle.dft_registers.specs.Layout.{Layout}
 use Rattle.dft_registers.specs.Cells.{Contents, course, CanMove}
-use Rattle.dft_logic.specs.Takings.{AreTakings, ArePut, taking_at, is_loose}
-use Rattle.dft_logic.specs.ShownTables.{edges_of}
+use Rattle.dft_takings.specs.Takings.{AreTakings, ArePut, taking_at, is_loose}
+use Rattle.dft_takings.specs.ShownTables.{edges_of}
 use Rattle.dft_cycle.specs.declared.plans.Pins.{Pins}
 use Rattle.dft_cycle.specs.declared.plans.Plan.{Plan}
 use Rattle.dft_cycle.specs.declared.plans.Sketch.{Sketch}

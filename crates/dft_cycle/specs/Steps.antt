@@ -1,10 +1,10 @@
 -- Steps: what the nets of a list take their values from, packed.
 use Rattle.std.specs.Prelude.{ℕ, true, false, ◌≡◌, ◌<◌, List, [], ◌∷◌, map, length}
-use Rattle.dft_cells.specs.declared.kind.Kind.TheVariants as kind
+use Rattle.dft_cells.specs.declared.kind.Gate.TheVariants as gate
 use Rattle.dft_netlist.specs.declared.ids.NetId.{NetId}
 use Rattle.dft_netlist.specs.Drivers.{Net}
-use Rattle.dft_netlist.specs.Logic.{Meaning}
-use Rattle.dft_netlist.specs.Logic as meanings
+use Rattle.dft_behavior.specs.Logic.{Meaning}
+use Rattle.dft_behavior.specs.Logic as meanings
 use Rattle.dft_logic.specs.Circuit.{Circuit, meaning, op_at}
 use Rattle.dft_cycle.specs.declared.steps.What.{What}
 use Rattle.dft_cycle.specs.declared.steps.What.TheVariants.{Buf, Inv, And, Nand, Or, Nor, Xor, Xnor, Mux2, Joined, Flop, Inverse, Low, High, Other}
@@ -12,15 +12,15 @@ use Rattle.dft_cycle.specs.declared.steps.Step.{Step}
 
 -- what a net takes its value from where a step has these numbers; some steps leave that as it is
 abbrev pub told : What → (a b c : ℕ) → Meaning → Meaning
-told Buf a b c m = meanings.Gate kind.Buf (Net a ∷ [])
-told Inv a b c m = meanings.Gate kind.Inv (Net a ∷ [])
-told And a b c m = meanings.Gate kind.And (Net a ∷ Net b ∷ [])
-told Nand a b c m = meanings.Gate kind.Nand (Net a ∷ Net b ∷ [])
-told Or a b c m = meanings.Gate kind.Or (Net a ∷ Net b ∷ [])
-told Nor a b c m = meanings.Gate kind.Nor (Net a ∷ Net b ∷ [])
-told Xor a b c m = meanings.Gate kind.Xor (Net a ∷ Net b ∷ [])
-told Xnor a b c m = meanings.Gate kind.Xnor (Net a ∷ Net b ∷ [])
-told Mux2 a b c m = meanings.Gate kind.Mux2 (Net a ∷ Net b ∷ Net c ∷ [])
+told Buf a b c m = meanings.Gate gate.Buf (Net a ∷ [])
+told Inv a b c m = meanings.Gate gate.Inv (Net a ∷ [])
+told And a b c m = meanings.Gate gate.And (Net a ∷ Net b ∷ [])
+told Nand a b c m = meanings.Gate gate.Nand (Net a ∷ Net b ∷ [])
+told Or a b c m = meanings.Gate gate.Or (Net a ∷ Net b ∷ [])
+told Nor a b c m = meanings.Gate gate.Nor (Net a ∷ Net b ∷ [])
+told Xor a b c m = meanings.Gate gate.Xor (Net a ∷ Net b ∷ [])
+told Xnor a b c m = meanings.Gate gate.Xnor (Net a ∷ Net b ∷ [])
+told Mux2 a b c m = meanings.Gate gate.Mux2 (Net a ∷ Net b ∷ Net c ∷ [])
 told Joined a b c m = meanings.Joined (Net a)
 told Flop a b c m = meanings.Flop a false
 told Inverse a b c m = meanings.Flop a true

@@ -4,18 +4,19 @@ use Rattle.dft_base.specs.declared.tri.Tri.{Tri}
 use Rattle.dft_base.specs.Tri.{join, AboveTri}
 use Rattle.dft_netlist.specs.declared.ids.NetId.{NetId}
 use Rattle.dft_netlist.specs.Drivers.{Source}
-use Rattle.dft_netlist.specs.Logic.{Logic, Lockup, Cell}
-use Rattle.dft_netlist.specs.Settled.{value_from}
+use Rattle.dft_behavior.specs.Logic.{Logic, Lockup, Cell}
+use Rattle.dft_behavior.specs.Settled.{value_from}
 use Rattle.dft_cycle.specs.declared.phases.Search.{Search}
 use Rattle.dft_cycle.specs.declared.phases.Room.{Room}
 use Rattle.dft_abstract.specs.Cycle.{next_value, changes, IsClosed}
 use Rattle.dft_abstract.specs.Cycle as Cycle
 use Rattle.dft_logic.specs.Values.{value_at}
-pub use Rattle.dft_logic.specs.Ranks.{rank_of}
+pub use Rattle.dft_takings.specs.Ranks.{rank_of}
 pub use Rattle.dft_logic.specs.Circuit.{taken_at, next_at}
 use Rattle.dft_logic.specs.Tables.{list_at}
 use Rattle.dft_netlist.specs.Orders.{Has}
-use Rattle.dft_logic.specs.Circuit.{Circuit, IsReady, cell_of, cell_at, logic_at, latch_at, flag_at}
+use Rattle.dft_logic.specs.Circuit.{Circuit, cell_of, cell_at, logic_at, latch_at, flag_at}
+use Rattle.dft_takings.specs.Views.{IsReady}
 
 -- ---- a flip-flop and a lock-up, from the values of a view
 

@@ -3,7 +3,7 @@
 ghost use Rattle.std.specs.Prelude.{◌≡◌, ℕ, ◌<◌, ◌==◌, length, map, true, false, if◌then◌else◌};
 ghost use Rattle.dft_base.specs.Tri.{join};
 ghost use Rattle.dft_cells.specs.FlipFlops.{tri_forced, tri_chosen};
-ghost use Rattle.dft_netlist.specs.Settled.{value_from};
+ghost use Rattle.dft_behavior.specs.Settled.{value_from};
 ghost use Rattle.dft_abstract.specs.Cycle.{tri_forced_by};
 ghost use Rattle.dft_cycle.specs.Machine as spec;
 ghost use Rattle.dft_logic.specs.Circuit as circuits;

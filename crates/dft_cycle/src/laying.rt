@@ -3,9 +3,10 @@
 ghost use Rattle.std.specs.Prelude.{◌≡◌, length, replicate, IfOk};
 
 use dft_base::Tri;
-use dft_logic::{Circuit, FlipFlop, Operand, Pulse, find_origins};
+use dft_logic::{Circuit, FlipFlop, Operand};
 use dft_netlist::InstanceId;
 use dft_registers::Cells;
+use dft_takings::{Pulse, find_origins};
 use std::alloc::{AllocError, Global};
 
 // The flip-flop whose bit one takes as it shifts.

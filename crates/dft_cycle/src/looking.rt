@@ -3,7 +3,7 @@
 ghost use Rattle.std.specs.Prelude.{◌≡◌, ℕ, ◌<◌, length, true, false};
 ghost use Rattle.dft_logic.specs.Values as spec;
 ghost use Rattle.dft_logic.specs.Circuit.{logic_at, flag_at as is_up};
-ghost use Rattle.dft_logic.specs.Needs.{AreSeen};
+ghost use Rattle.dft_takings.specs.Needs.{AreSeen};
 ghost use Rattle.dft_cycle.specs.Looks.{AreLooks};
 
 use crate::looks::{Look, find_look};

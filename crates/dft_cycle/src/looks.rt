@@ -5,15 +5,16 @@ ghost use Rattle.std.specs.Vec.{vec_capacity};
 ghost use Rattle.dft_netlist.specs.Orders.{Has, numbers_of};
 ghost use Rattle.dft_logic.specs.Values as spec;
 ghost use Rattle.dft_logic.specs.Circuit.{logic_at, flag_at as is_up};
-ghost use Rattle.dft_logic.specs.Needs.{AreSeen};
+ghost use Rattle.dft_takings.specs.Needs.{AreSeen};
 ghost use Rattle.dft_cycle.specs.Plans.{IsNeedList};
 ghost use Rattle.dft_cycle.specs.Looks.{IsLook, IsListed, IsAt};
 
 use crate::phases::Strobe;
 use crate::steps::{Step, list_steps, strobe_steps};
 use dft_base::Tri;
-use dft_logic::{Circuit, list_marked, lower, mark_needed, mark_nets, read_list};
+use dft_logic::Circuit;
 use dft_netlist::NetId;
+use dft_takings::{list_marked, lower, mark_needed, mark_nets, read_list};
 
 // The nets that are asked for; and once they were asked for again, how what they are settled from gets its values.
 #[derive(Drop)]

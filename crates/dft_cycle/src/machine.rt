@@ -7,8 +7,8 @@ ghost use Rattle.dft_cycle.specs.Views.{AreFalling, Rises, IsRoom};
 ghost use Rattle.dft_cycle.specs.Looks.{AreLooks};
 ghost use Rattle.dft_cycle.specs.Plans.{ArePlans};
 ghost use Rattle.dft_registers.specs.Layout.{Layout};
-ghost use Rattle.dft_netlist.specs.Runs.{takes};
-ghost use Rattle.dft_logic.specs.Needs.{AreSeen};
+ghost use Rattle.dft_behavior.specs.Runs.{takes};
+ghost use Rattle.dft_takings.specs.Needs.{AreSeen};
 ghost use Rattle.dft_logic.specs.Circuit.{cell_of, cell_at, force_at, flag_at as is_up};
 
 use crate::laying::lay_out;
@@ -18,12 +18,10 @@ use crate::planning::Plans;
 use crate::rounds::find_least;
 use crate::sweeping::settle_again;
 use dft_base::Tri;
-use dft_logic::{
-    Acting, Circuit, FlipFlop, Pulse, compile, forced, list_of, put_all, read_list, settle,
-    strobe_view, value_at,
-};
+use dft_logic::{Acting, Circuit, FlipFlop, compile, forced, list_of, value_at};
 use dft_netlist::{Design, NetId};
 use dft_registers::Cells;
+use dft_takings::{Pulse, put_all, read_list, settle, strobe_view};
 use std::alloc::{AllocError, Global};
 use std::marker::Model;
 

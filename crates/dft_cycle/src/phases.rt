@@ -3,9 +3,10 @@
 ghost use Rattle.std.specs.Prelude.{◌≡◌, replicate, false, IfOk};
 
 use dft_base::Tri;
-use dft_logic::{Circuit, Pulse};
+use dft_logic::Circuit;
 use dft_netlist::NetId;
 use dft_registers::Cells;
+use dft_takings::Pulse;
 use std::alloc::{AllocError, Global};
 
 // A phase of a pulse in a circuit whose clocks are these.

@@ -2,15 +2,16 @@
 
 ghost use Rattle.std.specs.Prelude.{◌≡◌, ℕ, ◌<◌, length, true, false, IfSome};
 ghost use Rattle.dft_logic.specs.Values as spec;
-ghost use Rattle.dft_logic.specs.Circuit.{pulse_at, flag_at as is_up};
+ghost use Rattle.dft_logic.specs.Circuit.{flag_at as is_up};
+ghost use Rattle.dft_takings.specs.Views.{pulse_at};
 ghost use Rattle.dft_cycle.specs.Views.{PulsesAmong};
 ghost use Rattle.dft_cycle.specs.Plans.{ArePlans, LooseAreUnknown, IsFoundAt};
 
 use crate::phases::Phase;
 use crate::plans::{Pins, Plan, Sketch, Stage, draw};
 use dft_base::Tri;
-use dft_logic::{Pulse, settle_list};
 use dft_netlist::NetId;
+use dft_takings::{Pulse, settle_list};
 
 // The plans of the last phases that came again, and what they are made from, with room for a list. Then the places of the plan that was noted
 // last and of the one that was taken last.

@@ -4,12 +4,13 @@ ghost use Rattle.std.specs.Prelude.{◌≡◌, ℕ, ◌<◌, ◌≤◌, [], leng
 ghost use Rattle.std.specs.Vec.{vec_capacity};
 ghost use Rattle.dft_netlist.specs.Orders.{Has, numbers_of};
 ghost use Rattle.dft_logic.specs.Values as spec;
-ghost use Rattle.dft_logic.specs.Circuit.{logic_at, cell_of, cell_at, flag_at as is_up, pulse_at};
-ghost use Rattle.dft_logic.specs.Shows.{IsShownOn};
+ghost use Rattle.dft_logic.specs.Circuit.{logic_at, cell_of, cell_at, flag_at as is_up};
+ghost use Rattle.dft_takings.specs.Views.{pulse_at};
+ghost use Rattle.dft_takings.specs.Shows.{IsShownOn};
 ghost use Rattle.dft_abstract.specs.Cycle.{level_before};
-ghost use Rattle.dft_logic.specs.Takes.{AreOrigins};
-ghost use Rattle.dft_logic.specs.ShownTables.{shown_at, edges_of};
-ghost use Rattle.dft_logic.specs.EntryTables.{origin_at, entry_for, entry_needs, entry_at};
+ghost use Rattle.dft_takings.specs.Takes.{AreOrigins};
+ghost use Rattle.dft_takings.specs.ShownTables.{shown_at, edges_of};
+ghost use Rattle.dft_takings.specs.EntryTables.{origin_at, entry_for, entry_needs, entry_at};
 ghost use Rattle.dft_cycle.specs.declared.plans.Stage.TheVariants.{Noted, Made};
 ghost use Rattle.dft_cycle.specs.Views.{PulsesAmong};
 ghost use Rattle.dft_cycle.specs.Plans.{row_of, flags_of, IsPins, IsSketch, IsNeedList, IsPlan, IsNoted, IsFilled, LooseAreUnknown, IsFound};
@@ -17,13 +18,14 @@ ghost use Rattle.dft_cycle.specs.Plans.{row_of, flags_of, IsPins, IsSketch, IsNe
 use crate::phases::Phase;
 use crate::steps::{Step, list_steps, settle_steps};
 use dft_base::Tri;
-use dft_logic::{
-    Circuit, Entry, Pulse, Shown, Sights, Taking, find_entries, find_moves, find_origins,
-    find_values, flag_at, has_row, list_marked, list_takings, lower, mark_entries, mark_needed,
-    read_list, settle_list, show_all,
-};
+use dft_logic::{Circuit, flag_at};
 use dft_netlist::{InstanceId, NetId};
 use dft_registers::{Cells, Move};
+use dft_takings::{
+    Entry, Pulse, Shown, Sights, Taking, find_entries, find_moves, find_origins, find_values,
+    has_row, list_marked, list_takings, lower, mark_entries, mark_needed, read_list, settle_list,
+    show_all,
+};
 
 // How far a plan got.
 #[derive(Clone, Copy)]

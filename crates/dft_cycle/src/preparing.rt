@@ -3,8 +3,8 @@
 ghost use Rattle.std.specs.Prelude.{◌≡◌, ℕ, ◌<◌, ◌≤◌, All, length, map, replicate, take, true, false, IfOk};
 ghost use Rattle.dft_netlist.specs.Orders.{Has, numbers_of};
 ghost use Rattle.dft_logic.specs.Circuit.{force_nets, cell_of, cell_at, flag_at as is_up};
-ghost use Rattle.dft_logic.specs.EntryTables.{scan_needs, entry_at};
-ghost use Rattle.dft_logic.specs.Entries.{Keeps};
+ghost use Rattle.dft_takings.specs.EntryTables.{scan_needs, entry_at};
+ghost use Rattle.dft_takings.specs.Entries.{Keeps};
 ghost use Rattle.dft_registers.specs.Layout.{Layout};
 ghost use Rattle.dft_cycle.specs.Plans.{IsPins, IsPlan, ArePlans};
 ghost use Rattle.dft_cycle.specs.Looks.{IsLook, AreLooks};
@@ -14,11 +14,10 @@ use crate::looks::Look;
 use crate::planning::Plans;
 use crate::plans::{Pins, Plan, Sketch, Stage};
 use dft_base::Tri;
-use dft_logic::{
-    Circuit, Entry, Shown, list_marked, lower, mark_entries, mark_forces, mark_needed,
-};
+use dft_logic::Circuit;
 use dft_netlist::NetId;
 use dft_registers::Move;
+use dft_takings::{Entry, Shown, list_marked, lower, mark_entries, mark_forces, mark_needed};
 use std::alloc::{AllocError, Global};
 
 // How many plans are kept: each has room for every net and every instance.

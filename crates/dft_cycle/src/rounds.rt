@@ -3,19 +3,21 @@
 ghost use Rattle.std.specs.Prelude.{◌≡◌, ◌⊎◌, ◌&&◌, ℕ, suc, ◌<◌, length, map, count_by, is_some, true, false};
 ghost use Rattle.std.specs.List.{list_any};
 ghost use Rattle.dft_base.specs.Tri.{AboveTri, is_known};
-ghost use Rattle.dft_netlist.specs.Runs.{takes};
+ghost use Rattle.dft_behavior.specs.Runs.{takes};
 ghost use Rattle.dft_abstract.specs.Cycle.{AreViews, IsLeast};
 ghost use Rattle.dft_cycle.specs.Machine.{AreNets};
 ghost use Rattle.dft_cycle.specs.Machine as spec;
-ghost use Rattle.dft_logic.specs.Circuit.{IsReady, logic_at, cell_of, cell_at, flag_at as is_up, pulse_at};
+ghost use Rattle.dft_logic.specs.Circuit.{logic_at, cell_of, cell_at, flag_at as is_up};
+ghost use Rattle.dft_takings.specs.Views.{IsReady, pulse_at};
 ghost use Rattle.dft_cycle.specs.Views.{IsHeld, OwnsLatches, PulsesAmong, HasNext, raised_by, StaysBelow, AreNext, IsAlone, IsSearch};
 
 use crate::flops::{hold, take_next};
 use crate::phases::{Phase, Search, Views};
 use crate::sweeping::{change_view, enter, settle_again};
 use dft_base::Tri;
-use dft_logic::{Circuit, FlipFlop, Latch, Pulse, View, differ, flag_at};
+use dft_logic::{Circuit, FlipFlop, Latch, differ, flag_at};
 use dft_netlist::NetId;
+use dft_takings::{Pulse, View};
 
 // The first clock.
 fn first(clocks: &[NetId]) -> NetId

@@ -3,20 +3,22 @@
 ghost use Rattle.std.specs.Prelude.{◌≡◌, ℕ, ◌<◌, ◌≤◌, true, [], ◌∷◌, All, length, map};
 ghost use Rattle.std.specs.Vec.{vec_capacity};
 ghost use Rattle.dft_netlist.specs.Drivers as drivers;
-ghost use Rattle.dft_netlist.specs.Logic as meanings;
+ghost use Rattle.dft_behavior.specs.Logic as meanings;
 ghost use Rattle.dft_netlist.specs.Orders.{Has, numbers_of};
-ghost use Rattle.dft_netlist.specs.Settled.{value_given};
+ghost use Rattle.dft_behavior.specs.Settled.{value_given};
 ghost use Rattle.dft_abstract.specs.Cycle.{level_before};
-ghost use Rattle.dft_logic.specs.Needs.{before_from, strobe_from};
+ghost use Rattle.dft_takings.specs.Needs.{before_from, strobe_from};
 ghost use Rattle.dft_logic.specs.Values as spec;
-ghost use Rattle.dft_logic.specs.Circuit.{AreOrdered, Fits, meaning, op_at, pulse_at, source_at};
+ghost use Rattle.dft_logic.specs.Circuit.{AreOrdered, Fits, meaning, op_at, source_at};
+ghost use Rattle.dft_takings.specs.Views.{pulse_at};
 ghost use Rattle.dft_cycle.specs.Steps.{told, told_by, step_nets, IsWithin, IsStep};
 
 use dft_base::Tri;
-use dft_cells::{Kind, and, mux, not, or, xor};
-use dft_logic::{Circuit, Op, Operand, Pulse, flag_at, inverted, is_wire, op_before, value_at};
+use dft_cells::{Gate, and, mux, not, or, xor};
+use dft_logic::{Circuit, Op, Operand, flag_at, value_at};
 use dft_netlist::NetId;
 use dft_registers::Cells;
+use dft_takings::{Pulse, inverted, is_wire, op_before};
 
 // What a step's net takes its value from.
 #[derive(Clone, Copy)]
@@ -56,43 +58,43 @@ pub(crate) struct Step {
 // ---- making steps
 
 // A gate of this kind with one input.
-fn gate_of_one(kind: Kind) -> What
+fn gate_of_one(kind: Gate) -> What
     ensures { (a b c : ℕ) → meanings.Gate kind (drivers.Net a ∷ []) ≡ told result a b c (meanings.Gate kind (drivers.Net a ∷ [])) }
 {
     match kind {
-        Kind::Buf => What::Buf,
-        Kind::Inv => What::Inv,
+        Gate::Buf => What::Buf,
+        Gate::Inv => What::Inv,
         _ => What::Other,
     }
 }
 
 // A gate of this kind with two inputs.
-fn gate_of_two(kind: Kind) -> What
+fn gate_of_two(kind: Gate) -> What
     ensures { (a b c : ℕ) → meanings.Gate kind (drivers.Net a ∷ drivers.Net b ∷ []) ≡ told result a b c (meanings.Gate kind (drivers.Net a ∷ drivers.Net b ∷ [])) }
 {
     match kind {
-        Kind::And => What::And,
-        Kind::Nand => What::Nand,
-        Kind::Or => What::Or,
-        Kind::Nor => What::Nor,
-        Kind::Xor => What::Xor,
-        Kind::Xnor => What::Xnor,
+        Gate::And => What::And,
+        Gate::Nand => What::Nand,
+        Gate::Or => What::Or,
+        Gate::Nor => What::Nor,
+        Gate::Xor => What::Xor,
+        Gate::Xnor => What::Xnor,
         _ => What::Other,
     }
 }
 
 // A gate of this kind with three inputs.
-fn gate_of_three(kind: Kind) -> What
+fn gate_of_three(kind: Gate) -> What
     ensures { (a b c : ℕ) → meanings.Gate kind (drivers.Net a ∷ drivers.Net b ∷ drivers.Net c ∷ []) ≡ told result a b c (meanings.Gate kind (drivers.Net a ∷ drivers.Net b ∷ drivers.Net c ∷ [])) }
 {
     match kind {
-        Kind::Mux2 => What::Mux2,
+        Gate::Mux2 => What::Mux2,
         _ => What::Other,
     }
 }
 
 // The step of a net that a gate drives.
-fn step_of_gate(net: NetId, kind: Kind, inputs: &[Operand]) -> Step
+fn step_of_gate(net: NetId, kind: Gate, inputs: &[Operand]) -> Step
     ensures net { result.net ≡ net }
     ensures told { meanings.Gate kind (map source_at inputs.now) ≡ told_by result (meanings.Gate kind (map source_at inputs.now)) }
 {

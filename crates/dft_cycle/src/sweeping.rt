@@ -1,14 +1,16 @@
 //! From the settled values of one view to those of another: what differs is marked and evaluated.
 
 ghost use Rattle.std.specs.Prelude.{◌≡◌, ◌⊎◌, ℕ, List, ◌<◌, length, true, false};
-ghost use Rattle.dft_netlist.specs.Logic.{reads};
+ghost use Rattle.dft_behavior.specs.Logic.{reads};
 ghost use Rattle.dft_netlist.specs.Orders.{Has};
-ghost use Rattle.dft_logic.specs.Circuit.{meaning, op_at, IsGivenIn, IsGiven, IsReady, flag_at as is_up};
+ghost use Rattle.dft_logic.specs.Circuit.{meaning, op_at, flag_at as is_up};
+ghost use Rattle.dft_takings.specs.Views.{IsGivenIn, IsGiven, IsReady};
 ghost use Rattle.dft_logic.specs.Tables.{list_at};
 
 use dft_base::Tri;
-use dft_logic::{Circuit, View, differ, list_of, op_value};
+use dft_logic::{Circuit, differ, list_of};
 use dft_netlist::NetId;
+use dft_takings::{View, op_value};
 
 // Marks these nets.
 fn mark_all(nets: &[u32], marked: &mut [bool])

@@ -10,11 +10,11 @@ use Rattle.dft_cells.specs.FlipFlops.{tri_chosen}
 use Rattle.dft_cells.proofs.Completions.{above_self, trans, AllOver, shared_monotone, forced_monotone}
 use Rattle.dft_cells.proofs.TriLemmas.{chosen_zero}
 use Rattle.dft_netlist.specs.Drivers.{Source, Net, Tied, Loose, nets_of, AreBelow}
-use Rattle.dft_netlist.specs.Logic.{Logic, Meaning, Input, Clock, Gate, Joined, Flop, Lockup, Free, Force, Scan, reads, IsRanked}
-use Rattle.dft_netlist.specs.Settled.{TriSources, value_from, value_given, IsTriSettled}
-use Rattle.dft_netlist.specs.Runs.{Vector, takes}
-use Rattle.dft_netlist.proofs.SettledLemmas.{value_at}
-use Rattle.dft_netlist.proofs.Meanings.{pin_monotone}
+use Rattle.dft_behavior.specs.Logic.{Logic, Meaning, Input, Clock, Gate, Joined, Flop, Lockup, Free, Force, Scan, reads, IsRanked}
+use Rattle.dft_behavior.specs.Settled.{TriSources, value_from, value_given, IsTriSettled}
+use Rattle.dft_behavior.specs.Runs.{Vector, takes}
+use Rattle.dft_behavior.proofs.SettledLemmas.{value_at}
+use Rattle.dft_behavior.proofs.Meanings.{pin_monotone}
 use Rattle.dft_abstract.specs.Cycle.{Pulse, tri_forced_by, tri_taken_by, changes, clock_value, view_sources, AreViews, next_value, after_pulse, rise_of, fall_of, strobe_sources}
 use Rattle.dft_abstract.specs.Laws.{next_from}
 use Rattle.dft_abstract.proofs.Forces.{by_twice}

@@ -2,11 +2,11 @@
 use Rattle.std.proofs.Common.{ℕ, zero, suc, ◌+◌, ◌*◌, ◌-◌, ◌<◌, ◌≡◌, List, [], ◌∷◌, ◌++◌, length, map, refl, sym, subst, ap, arith, ◌∙◌}
 use Rattle.std.specs.List.{range_with_len}
 use Rattle.std.proofs.lemmas.List.{length-map}
-use Rattle.dft_cells.specs.declared.kind.Kind.TheVariants.{And, Buf, Inv}
+use Rattle.dft_cells.specs.declared.kind.Gate.TheVariants.{Buf, Inv, And}
 use Rattle.dft_cells.specs.WellFormed.{IsWellFormed}
 use Rattle.dft_netlist.specs.declared.ids.NetId.{NetId}
 use Rattle.dft_netlist.specs.Drivers.{Net}
-use Rattle.dft_netlist.specs.Logic.{Logic, Ports, Gate, logic_of}
+use Rattle.dft_behavior.specs.Logic.{Logic, Ports, Gate, logic_of}
 use Rattle.dft_netlist.specs.Netlist.{Netlist}
 use Rattle.dft_netlist.specs.NetDrivers.{IsSingle}
 use Rattle.dft_config.specs.Config.{Config}

@@ -2,12 +2,12 @@
 use Rattle.std.proofs.Common.{ℕ, Bool, [], ◌∷◌, ◌≡◌, ap, map, ◌∙◌}
 use Rattle.std.specs.Prelude.{not, ◌&&◌, if◌then◌else◌}
 use Rattle.dft_base.specs.declared.tri.Tri.{Tri}
-use Rattle.dft_cells.specs.declared.kind.Kind.TheVariants.{Buf, Inv, And, Or}
+use Rattle.dft_cells.specs.declared.kind.Gate.TheVariants.{Buf, Inv, And, Or}
 use Rattle.dft_cells.specs.Gates.{bit_of, tri_of}
 use Rattle.dft_netlist.specs.Drivers.{Net}
-use Rattle.dft_netlist.specs.Logic.{Logic, Cell, Gate}
-use Rattle.dft_netlist.specs.Settled.{Sources, bit_from, IsSettled, TriSources, value_from, IsTriSettled}
-use Rattle.dft_netlist.proofs.SettledLemmas.{value_at}
+use Rattle.dft_behavior.specs.Logic.{Logic, Cell, Gate}
+use Rattle.dft_behavior.specs.Settled.{Sources, bit_from, IsSettled, TriSources, value_from, IsTriSettled}
+use Rattle.dft_behavior.proofs.SettledLemmas.{value_at}
 use Rattle.dft_parts.specs.SumTrees.{sum_bits, tri_sum}
 use Rattle.dft_parts.proofs.Trees.{bit_at, sum_value, sum_bit}
 use Rattle.dft_edt.specs.Hardware.{EdtNets, HasHold, HasOutput, group_of}

@@ -7,7 +7,7 @@ use Rattle.std.specs.List.{All, list_any}
 use Rattle.dft_base.specs.Words.{is_simple_name, is_later_reserved, reserved_words, later_reserved_words}
 use Rattle.dft_config.specs.declared.config.Injector.{Injector}
 use Rattle.dft_config.specs.Range.{has, same_number, names_of, IsSet, IsInRange}
-use Rattle.dft_netlist.specs.Logic.{IsRanked, Meaning, Lockup, lockup_cell, reads}
+use Rattle.dft_behavior.specs.Logic.{IsRanked, Meaning, Lockup, lockup_cell, reads}
 use Rattle.dft_netlist.specs.Drivers.{Source, Net, AreBelow}
 use Rattle.dft_stitch.specs.Plans.{cell_at}
 use Rattle.dft_chains.specs.Hardware.{IsScanCell, Leads, ByLockup}

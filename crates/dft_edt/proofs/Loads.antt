@@ -5,8 +5,8 @@ use Rattle.std.proofs.lemmas.Option.{none-some, slice_get_within, slice_get-get_
 use Rattle.dft_base.specs.declared.tri.Tri.{Tri}
 use Rattle.dft_base.specs.Tri.{known}
 use Rattle.dft_netlist.specs.declared.ids.InstanceId.{InstanceId}
-use Rattle.dft_netlist.specs.Logic.{Logic, Ports, Cell, IsRanked}
-use Rattle.dft_netlist.specs.Runs.{Now, Vector, Turn, IsTurn, AreLow, after_turn}
+use Rattle.dft_behavior.specs.Logic.{Logic, Ports, Cell, IsRanked}
+use Rattle.dft_behavior.specs.Runs.{Now, Vector, Turn, IsTurn, AreLow, after_turn}
 use Rattle.dft_abstract.specs.Cycle.{Halves, AreHalves, after_halves, after_round}
 use Rattle.dft_abstract.specs.Laws.{bits, after_rises, falls_from}
 use Rattle.dft_abstract.proofs.Halves.{rests}

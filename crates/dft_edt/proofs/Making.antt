@@ -1,7 +1,7 @@
 -- The compactor as it is made.
 use Rattle.std.proofs.Common.{ℕ, ◌≡◌, List, [], ◌∷◌, length, map, Result, Ok, sym, subst, ◌∙◌}
 use Rattle.std.specs.List.{range_with_len}
-use Rattle.dft_cells.specs.declared.kind.Kind.TheVariants.{And, Buf, Inv}
+use Rattle.dft_cells.specs.declared.kind.Gate.TheVariants.{Buf, Inv, And}
 use Rattle.dft_netlist.specs.declared.ids.NetId.{NetId}
 use Rattle.dft_netlist.specs.declared.error.NetlistError.{NetlistError}
 use Rattle.dft_config.specs.Config.{Config}

@@ -1,10 +1,10 @@
 -- The parts of the masks are their hardware.
 use Rattle.std.proofs.Common.{ℕ, zero, suc, ◌+◌, ◌*◌, ◌-◌, ◌<◌, ◌≤◌, ◌≡◌, List, [], ◌∷◌, ◌++◌, length, refl, sym, subst, ap, arith, ◌∙◌, length-append}
-use Rattle.dft_cells.specs.declared.kind.Kind.TheVariants.{And, Or}
+use Rattle.dft_cells.specs.declared.kind.Gate.TheVariants.{And, Or}
 use Rattle.dft_cells.specs.WellFormed.{IsWellFormed}
 use Rattle.dft_netlist.specs.declared.ids.NetId.{NetId}
 use Rattle.dft_netlist.specs.Drivers.{Net}
-use Rattle.dft_netlist.specs.Logic.{Logic, Ports, Gate, logic_of}
+use Rattle.dft_behavior.specs.Logic.{Logic, Ports, Gate, logic_of}
 use Rattle.dft_netlist.specs.Netlist.{Netlist}
 use Rattle.dft_netlist.specs.NetDrivers.{IsSingle}
 use Rattle.dft_config.specs.Config.{Config}

@@ -1,7 +1,7 @@
 -- Masks as they are made.
 use Rattle.std.proofs.Common.{ℕ, zero, suc, ◌+◌, ◌-◌, ◌<◌, ◌≤◌, ◌≡◌, List, [], ◌∷◌, ◌++◌, length, Result, Ok, sym, subst, ap, arith, ◌∙◌, length-append}
 use Rattle.std.proofs.lemmas.List.Elements.{All-append}
-use Rattle.dft_cells.specs.declared.kind.Kind.TheVariants.{And, Or}
+use Rattle.dft_cells.specs.declared.kind.Gate.TheVariants.{And, Or}
 use Rattle.dft_netlist.specs.declared.ids.NetId.{NetId}
 use Rattle.dft_netlist.specs.declared.error.NetlistError.{NetlistError}
 use Rattle.dft_netlist.specs.Netlist.{Netlist}

@@ -3,12 +3,12 @@ use Rattle.std.proofs.Common.{ℕ, zero, suc, ◌+◌, ◌-◌, ◌<◌, ◌≡�
 use Rattle.std.specs.List.{range_with_len}
 use Rattle.std.proofs.lemmas.List.{length-map}
 use Rattle.dft_base.proofs.ListLemmas.{range_last}
-use Rattle.dft_cells.specs.declared.kind.Kind.TheVariants.{And, Inv}
+use Rattle.dft_cells.specs.declared.kind.Gate.TheVariants.{Inv, And}
 use Rattle.dft_cells.specs.declared.cell.Cell.{Cell}
 use Rattle.dft_cells.specs.WellFormed.{IsWellFormed}
 use Rattle.dft_netlist.specs.declared.ids.NetId.{NetId}
 use Rattle.dft_netlist.specs.declared.instance.CellRef.TheVariants.{Library}
-use Rattle.dft_netlist.specs.Logic.{Ports, logic_of}
+use Rattle.dft_behavior.specs.Logic.{Ports, logic_of}
 use Rattle.dft_netlist.specs.Netlist.{Netlist}
 use Rattle.dft_netlist.specs.NetDrivers.{IsSingle}
 use Rattle.dft_netlist.specs.Orders.{numbers_of}

@@ -1,12 +1,12 @@
 -- The ring in every settled assignment.
 use Rattle.std.proofs.Common.{Bool, [], ◌∷◌, ap, map, ◌∙◌}
 use Rattle.std.specs.Prelude.{◌&&◌}
-use Rattle.dft_cells.specs.declared.kind.Kind.TheVariants.{Inv, And}
+use Rattle.dft_cells.specs.declared.kind.Gate.TheVariants.{Inv, And}
 use Rattle.dft_cells.specs.Gates.{tri_of}
 use Rattle.dft_netlist.specs.Drivers.{Net}
-use Rattle.dft_netlist.specs.Logic.{Cell, Gate}
-use Rattle.dft_netlist.specs.Settled.{bit_from, value_from}
-use Rattle.dft_netlist.proofs.SettledLemmas.{value_at}
+use Rattle.dft_behavior.specs.Logic.{Cell, Gate}
+use Rattle.dft_behavior.specs.Settled.{bit_from, value_from}
+use Rattle.dft_behavior.proofs.SettledLemmas.{value_at}
 use Rattle.dft_config.specs.Ring.{phase_of}
 use Rattle.dft_parts.specs.Recipes.{net_at}
 use Rattle.dft_parts.specs.SumTrees.{sum_bits, tri_sum}

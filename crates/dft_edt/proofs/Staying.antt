@@ -1,9 +1,9 @@
 -- The hardware stands in every logic that means as much or more.
 use Rattle.std.proofs.Common.{ℕ, zero, Bool, true, false, List, [], ◌∷◌, inl, inr, sym, subst, ap, ◌∙◌}
-use Rattle.dft_cells.specs.declared.kind.Kind.TheVariants.{Buf, Inv, And, Or, Xor}
+use Rattle.dft_cells.specs.declared.kind.Gate.TheVariants.{Buf, Inv, And, Or, Xor}
 use Rattle.dft_netlist.specs.declared.ids.InstanceId.{InstanceId}
 use Rattle.dft_netlist.specs.Drivers.{Source, Net}
-use Rattle.dft_netlist.specs.Logic.{Logic, Ports, Cell, Input, Gate, Flop, Lockup}
+use Rattle.dft_behavior.specs.Logic.{Logic, Ports, Cell, Input, Gate, Flop, Lockup}
 use Rattle.dft_config.specs.declared.config.RingConfig.{RingConfig}
 use Rattle.dft_config.specs.Config.{Config}
 use Rattle.dft_runs.specs.WiderPorts.{MeansMore}

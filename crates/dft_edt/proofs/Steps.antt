@@ -8,10 +8,10 @@ use Rattle.dft_base.specs.declared.tri.Tri.{Tri}
 use Rattle.dft_base.specs.Tri.{known}
 use Rattle.dft_netlist.specs.declared.ids.InstanceId.{InstanceId}
 use Rattle.dft_netlist.specs.Drivers.{Net}
-use Rattle.dft_netlist.specs.Logic.{Logic, Ports, Cell, Flop, Lockup}
-use Rattle.dft_netlist.specs.Settled.{Sources, TriSources, value_from, IsTriSettled}
-use Rattle.dft_netlist.specs.Runs.{Now, Vector, next_now, set_step, set_ports, sources_of, port_bits, forced_by, takes}
-use Rattle.dft_netlist.proofs.SettledLemmas.{value_at}
+use Rattle.dft_behavior.specs.Logic.{Logic, Ports, Cell, Flop, Lockup}
+use Rattle.dft_behavior.specs.Settled.{Sources, TriSources, value_from, IsTriSettled}
+use Rattle.dft_behavior.specs.Runs.{Now, Vector, next_now, set_step, set_ports, sources_of, port_bits, forced_by, takes}
+use Rattle.dft_behavior.proofs.SettledLemmas.{value_at}
 use Rattle.dft_abstract.specs.Cycle.{Pulse, tri_forced_by, tri_taken_by, changes, view_sources, AreViews, after_pulse, rise_of, fall_of, strobe_sources, Half, Halves, AreHalves, after_halves}
 use Rattle.dft_abstract.specs.Laws.{falls_from}
 use Rattle.dft_abstract.proofs.Halves.{rising_after, falls_rest, falls_change}

@@ -7,8 +7,8 @@ use Rattle.std.proofs.lemmas.Option.{none-some, same_Some, slice_get_within, sli
 use Rattle.dft_base.specs.declared.tri.Tri.{Tri}
 use Rattle.dft_base.specs.Tri.{known}
 use Rattle.dft_netlist.specs.declared.ids.InstanceId.{InstanceId}
-use Rattle.dft_netlist.specs.Logic.{Logic, Ports}
-use Rattle.dft_netlist.specs.Runs.{Now, Vector, after_turn}
+use Rattle.dft_behavior.specs.Logic.{Logic, Ports}
+use Rattle.dft_behavior.specs.Runs.{Now, Vector, after_turn}
 use Rattle.dft_abstract.specs.Laws.{bits}
 use Rattle.dft_abstract.proofs.Lifts.{low_after_turn}
 use Rattle.dft_abstract.proofs.Phases.{only_second}

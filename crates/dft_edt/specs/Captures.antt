@@ -3,11 +3,11 @@ use Rattle.std.specs.Prelude.{ℕ, ◌<◌, ◌≡◌, ◌==◌, ◌&&◌, ◌�
 use Rattle.dft_base.specs.declared.tri.Tri.{Tri}
 use Rattle.dft_base.specs.declared.tri.Tri.TheVariants.{Zero}
 use Rattle.dft_base.specs.Tri.{AboveTri}
-use Rattle.dft_cells.specs.declared.kind.Kind.{Kind}
+use Rattle.dft_cells.specs.declared.kind.Gate.{Gate as GateKind}
 use Rattle.dft_netlist.specs.Drivers.{Source, nets_of, AreBelow}
-use Rattle.dft_netlist.specs.Logic.{Logic, Input, Clock, Gate, Joined, Flop, Lockup, Free, reads, IsRanked}
-use Rattle.dft_netlist.specs.Settled.{IsTriSettled}
-use Rattle.dft_netlist.specs.Runs.{Vector, takes}
+use Rattle.dft_behavior.specs.Logic.{Logic, Input, Clock, Gate, Joined, Flop, Lockup, Free, reads, IsRanked}
+use Rattle.dft_behavior.specs.Settled.{IsTriSettled}
+use Rattle.dft_behavior.specs.Runs.{Vector, takes}
 use Rattle.dft_abstract.specs.Cycle.{rise_of, strobe_sources, Halves, AreHalves, after_halves}
 use Rattle.dft_abstract.specs.Laws.{next_from}
 use Rattle.dft_runs.specs.WiderPorts.{MeansMore}
@@ -60,7 +60,7 @@ AllIn free (net ∷ nets) = (free net ≡ true) × AllIn free nets
 -- nets that no clock reaches: none is a clock port, and gates and joins among them read such nets alone
 pub record IsClockFree (l : Logic) (free : ℕ → Bool) : Type 0 where
   pub clocks : (net : ℕ) → free net ≡ true → l.net net ≡ Clock → ⊥
-  pub gates : (net : ℕ) (kind : Kind) (inputs : List Source) → free net ≡ true → l.net net ≡ Gate kind inputs → AllIn free (nets_of inputs)
+  pub gates : (net : ℕ) (kind : GateKind) (inputs : List Source) → free net ≡ true → l.net net ≡ Gate kind inputs → AllIn free (nets_of inputs)
   pub joins : (net : ℕ) (source : Source) → free net ≡ true → l.net net ≡ Joined source → AllIn free (nets_of (source ∷ []))
 
 -- the flip-flops' values after an edge of a domain's clock: those that take a bit there have their next values, from these values of nets

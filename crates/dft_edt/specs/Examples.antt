@@ -1,9 +1,9 @@
 -- A design that has the hardware: a ring of two stages, one channel, and one chain of two cells in two domains.
 use Rattle.std.specs.Prelude.{codes, ◌==◌, ◌||◌, false, List, [], ◌∷◌, get_or, None, Some}
-use Rattle.dft_cells.specs.declared.kind.Kind.TheVariants.{Buf, Inv, And, Or, Xor}
+use Rattle.dft_cells.specs.declared.kind.Gate.TheVariants.{Buf, Inv, And, Or, Xor}
 use Rattle.dft_netlist.specs.declared.ids.InstanceId.{InstanceId}
 use Rattle.dft_netlist.specs.Drivers.{Net}
-use Rattle.dft_netlist.specs.Logic.{Logic, Ports, Cell, Meaning, Input, Clock, Gate, Flop, Lockup, Free, IsRanked, lockup_cell}
+use Rattle.dft_behavior.specs.Logic.{Logic, Ports, Cell, Meaning, Input, Clock, Gate, Flop, Lockup, Free, IsRanked, lockup_cell}
 use Rattle.dft_config.specs.declared.config.FillRule.TheVariants.{Zeros}
 use Rattle.dft_config.specs.Config.{Config}
 use Rattle.dft_config.specs.Range.{IsInRange}

@@ -1,9 +1,9 @@
 -- What it is for a design to have the hardware of compression: ring, phase shifter, masks and compactor (Rajski and others, 2004).
 use Rattle.std.specs.Prelude.{ℕ, zero, suc, ◌<◌, ◌≡◌, Bool, true, false, List, [], ◌∷◌, map, length, get_or, None, Some}
-use Rattle.dft_cells.specs.declared.kind.Kind.TheVariants.{Buf, Inv, And, Or}
+use Rattle.dft_cells.specs.declared.kind.Gate.TheVariants.{Buf, Inv, And, Or}
 use Rattle.dft_netlist.specs.declared.ids.InstanceId.{InstanceId}
 use Rattle.dft_netlist.specs.Drivers.{Source, Net}
-use Rattle.dft_netlist.specs.Logic.{Logic, Ports, Input, Gate, Flop, Lockup}
+use Rattle.dft_behavior.specs.Logic.{Logic, Ports, Input, Gate, Flop, Lockup}
 use Rattle.dft_config.specs.declared.config.RingConfig.{RingConfig}
 use Rattle.dft_config.specs.Config.{Config}
 use Rattle.dft_config.specs.Segments.{chain_in, segment_length}

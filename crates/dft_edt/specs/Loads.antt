@@ -4,8 +4,8 @@ use Rattle.dft_base.specs.declared.tri.Tri.{Tri}
 use Rattle.dft_base.specs.Tri.{known}
 use Rattle.dft_base.specs.Solutions.{sum_to}
 use Rattle.dft_netlist.specs.declared.ids.InstanceId.{InstanceId}
-use Rattle.dft_netlist.specs.Logic.{Logic, Ports, IsRanked}
-use Rattle.dft_netlist.specs.Runs.{Now, Vector, Turn, IsTurn, after_turn, AreTurns, IsRun}
+use Rattle.dft_behavior.specs.Logic.{Logic, Ports, IsRanked}
+use Rattle.dft_behavior.specs.Runs.{Now, Vector, Turn, IsTurn, after_turn, AreTurns, IsRun}
 use Rattle.dft_abstract.specs.Cycle.{Round, IsRound, after_round}
 use Rattle.dft_runs.specs.Passes.{Pass, Passes, ArePasses, end_of, AreRounds, after_rounds, after_turns}
 use Rattle.dft_config.specs.Config.{Config}

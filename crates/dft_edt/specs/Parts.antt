@@ -3,8 +3,8 @@ use Rattle.std.specs.Prelude.{ℕ, zero, ◌<◌, ◌≡◌, ◌&&◌, Bool, not
 use Rattle.dft_base.specs.declared.tri.Tri.{Tri}
 use Rattle.dft_base.specs.declared.tri.Tri.TheVariants.{Zero, One, Unknown}
 use Rattle.dft_netlist.specs.declared.ids.InstanceId.{InstanceId}
-use Rattle.dft_netlist.specs.Logic.{Logic, Ports}
-use Rattle.dft_netlist.specs.Settled.{Sources, bit_from, IsSettled, TriSources, value_from, IsTriSettled}
+use Rattle.dft_behavior.specs.Logic.{Logic, Ports}
+use Rattle.dft_behavior.specs.Settled.{Sources, bit_from, IsSettled, TriSources, value_from, IsTriSettled}
 use Rattle.dft_config.specs.Config.{Config}
 use Rattle.dft_config.specs.Range.{IsInRange}
 use Rattle.dft_config.specs.Ring.{sum_of, step, phase_of, phase_sum}

@@ -1,7 +1,7 @@
 -- The recipe of the ring generator and the phase shifter (Rajski and others, 2004).
 use Rattle.std.specs.Prelude.{ℕ, List, [], ◌∷◌, map}
 use Rattle.std.specs.List.{range_with_len}
-use Rattle.dft_cells.specs.declared.kind.Kind.TheVariants.{And, Inv}
+use Rattle.dft_cells.specs.declared.kind.Gate.TheVariants.{Inv, And}
 use Rattle.dft_netlist.specs.declared.ids.NetId.{NetId}
 use Rattle.dft_config.specs.Config.{Config}
 use Rattle.dft_config.specs.declared.config.RingConfig.{RingConfig}

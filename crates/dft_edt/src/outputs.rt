@@ -9,7 +9,7 @@ ghost use Rattle.dft_edt.specs.Bounds.{AreMade};
 ghost use Rattle.dft_edt.specs.CompactorRecipe.{a_gated, an_output, masks_at};
 
 use crate::mask_nets::MaskNets;
-use dft_cells::Kind;
+use dft_cells::Gate;
 use dft_config::Config;
 use dft_netlist::{NetId, NetlistError};
 use dft_parts::{EdtPorts, PartsBuilder, push_net};
@@ -45,8 +45,8 @@ fn gate_end(parts: &mut PartsBuilder, hold: NetId, end: NetId) -> Result<NetId, 
     ensures there { IfOk result (λ net. net.0 < length parts.new.netlist.nets) }
     ensures nets { OnOk result (length parts.old.netlist.nets ≤ length parts.new.netlist.nets) }
 {
-    let shown = parts.driving_gate(Kind::Inv, &[hold])?;
-    parts.driving_gate(Kind::And, &[shown, end])
+    let shown = parts.driving_gate(Gate::Inv, &[hold])?;
+    parts.driving_gate(Gate::And, &[shown, end])
 }
 
 // Makes the outputs.
@@ -87,7 +87,7 @@ fn make_output(
     ensures nets { OnOk result (length parts.old.netlist.nets ≤ length parts.new.netlist.nets) }
 {
     let sum = sum_group(parts, config, gated, output)?;
-    parts.gate(Kind::Buf, &[sum], ports.outputs.as_slice()[output])
+    parts.gate(Gate::Buf, &[sum], ports.outputs.as_slice()[output])
 }
 
 // Makes the sum of the group of an output.

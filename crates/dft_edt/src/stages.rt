@@ -7,7 +7,7 @@ ghost use Rattle.dft_parts.specs.Recipes.{AreThere, Makes, each, nets_made};
 ghost use Rattle.dft_edt.specs.RingRecipe as spec;
 ghost use Rattle.dft_edt.specs.RingRecipe.{a_stage, injector_nets, tap_nets};
 
-use dft_cells::Kind;
+use dft_cells::Gate;
 use dft_config::{Injector, RingConfig, Tap};
 use dft_netlist::{NetId, NetlistError};
 use dft_parts::{EdtPorts, PartsBuilder, push_net};
@@ -81,7 +81,7 @@ fn make_stage(
         stage,
     )?;
     let sum = parts.sum(&terms)?;
-    let kept = parts.driving_gate(Kind::And, &[sum, run])?;
+    let kept = parts.driving_gate(Gate::And, &[sum, run])?;
     parts.flop(ports.edt_clock, kept, stages[stage as usize])
 }
 

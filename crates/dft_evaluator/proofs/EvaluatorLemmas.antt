@@ -12,11 +12,11 @@ use Rattle.dft_base.specs.declared.tri.Tri.TheVariants.{Unknown}
 use Rattle.dft_base.proofs.BitLemmas.{and_true}
 use Rattle.dft_lanes.specs.declared.wide.Wide.{Wide}
 use Rattle.dft_netlist.specs.Netlist.{Netlist}
-use Rattle.dft_netlist.specs.ClockRoots.{ClockRoot}
+use Rattle.dft_behavior.specs.ClockRoots.{ClockRoot}
 use Rattle.dft_netlist.specs.Drivers.{Source, Driver, driver}
 use Rattle.dft_netlist.specs.Drivers as drivers
-use Rattle.dft_netlist.specs.Logic.{Logic, Meaning, Cell, Ports, Input, Clock, Gate, Joined, Flop, Lockup, Free, logic_of, meaning_of, flop_meaning, lockup_meaning, flip_flop}
-use Rattle.dft_netlist.specs.Settled.{TriSources, value_given, IsTriSettled}
+use Rattle.dft_behavior.specs.Logic.{Logic, Meaning, Cell, Ports, Input, Clock, Gate, Joined, Flop, Lockup, Free, logic_of, meaning_of, flop_meaning, lockup_meaning, flip_flop}
+use Rattle.dft_behavior.specs.Settled.{TriSources, value_given, IsTriSettled}
 use Rattle.dft_logic.specs.declared.circuit.Op.{Op}
 use Rattle.dft_logic.specs.declared.circuit.Op.TheVariants as op
 use Rattle.dft_logic.specs.Circuit.{Circuit, meaning, op_at, logic_at}

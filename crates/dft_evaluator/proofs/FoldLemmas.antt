@@ -7,7 +7,7 @@ use Rattle.dft_base.specs.Tri.{known}
 use Rattle.dft_cells.specs.Gates.{shared}
 use Rattle.dft_cells.specs.Tables.{and_tri, or_tri, xor_tri}
 use Rattle.dft_lanes.specs.declared.wide.Wide.{Wide}
-use Rattle.dft_netlist.specs.Settled.{value_from}
+use Rattle.dft_behavior.specs.Settled.{value_from}
 use Rattle.dft_logic.specs.declared.circuit.Operand.{Operand}
 use Rattle.dft_logic.specs.Circuit.{source_at}
 use Rattle.dft_evaluator.specs.Wides.{value_in, values_in, IsWide}

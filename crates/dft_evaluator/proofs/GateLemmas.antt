@@ -3,13 +3,13 @@ use Rattle.std.proofs.Common.{ℕ, Bool, not, List, ◌≡◌, sym, ap, ◌∙�
 use Rattle.std.specs.Prelude.{if◌then◌else◌}
 use Rattle.dft_base.specs.declared.tri.Tri.{Tri}
 use Rattle.dft_base.specs.declared.tri.Tri.TheVariants.{Unknown}
-use Rattle.dft_cells.specs.declared.kind.Kind.TheVariants.{Inv, Mux2}
+use Rattle.dft_cells.specs.declared.kind.Gate.TheVariants.{Inv, Mux2}
 use Rattle.dft_cells.specs.Gates.{shared, bit_of}
 use Rattle.dft_cells.specs.Tables.{not_tri, mux_tri}
 use Rattle.dft_cells.proofs.Pairs.{shared_not, inv_shared, mux_shared}
 use Rattle.dft_lanes.specs.declared.wide.Wide.{Wide}
 use Rattle.dft_lanes.specs.Choices.{can, some_choice, some_choice_of_three}
-use Rattle.dft_netlist.specs.Settled.{value_from}
+use Rattle.dft_behavior.specs.Settled.{value_from}
 use Rattle.dft_logic.specs.declared.circuit.Operand.{Operand}
 use Rattle.dft_logic.specs.Circuit.{source_at}
 use Rattle.dft_evaluator.specs.Wides.{values_in, IsWide}

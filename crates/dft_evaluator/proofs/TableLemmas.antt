@@ -8,7 +8,7 @@ use Rattle.dft_cells.specs.Gates.{shared, bit_of_number}
 use Rattle.dft_cells.proofs.Pairs.{shared_equal, TableAt, narrow}
 use Rattle.dft_lanes.specs.declared.wide.Wide.{Wide}
 use Rattle.dft_lanes.specs.Choices.{can, some_choice_of_three}
-use Rattle.dft_netlist.specs.Settled.{value_from}
+use Rattle.dft_behavior.specs.Settled.{value_from}
 use Rattle.dft_logic.specs.declared.circuit.Operand.{Operand}
 use Rattle.dft_logic.specs.Circuit.{source_at}
 use Rattle.dft_evaluator.specs.Wides.{values_in, IsWide}

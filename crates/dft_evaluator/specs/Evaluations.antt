@@ -4,8 +4,8 @@ use Rattle.dft_base.specs.declared.tri.Tri.{Tri}
 use Rattle.dft_base.specs.declared.tri.Tri.TheVariants.{Unknown}
 use Rattle.dft_cells.specs.Gates.{tri_of}
 use Rattle.dft_netlist.specs.Netlist.{Netlist}
-use Rattle.dft_netlist.specs.Logic.{Meaning, Ports, Input, Clock, Gate, Joined, Flop, Lockup, Free, logic_of}
-use Rattle.dft_netlist.specs.Settled.{TriSources, value_from, inverse}
+use Rattle.dft_behavior.specs.Logic.{Meaning, Ports, Input, Clock, Gate, Joined, Flop, Lockup, Free, logic_of}
+use Rattle.dft_behavior.specs.Settled.{TriSources, value_from, inverse}
 use Rattle.dft_lanes.specs.declared.wide.Wide.{Wide}
 use Rattle.dft_evaluator.specs.Wides.{value_in, values_in}
 

@@ -3,8 +3,8 @@ use Rattle.std.specs.Prelude.{ℕ, Bool, ◌≡◌, List, map}
 use Rattle.dft_base.specs.declared.tri.Tri.{Tri}
 use Rattle.dft_cells.specs.Gates.{shared}
 use Rattle.dft_netlist.specs.Netlist.{Netlist}
-use Rattle.dft_netlist.specs.Logic.{Logic, Ports, logic_of}
-use Rattle.dft_netlist.specs.Settled.{TriSources, IsTriSettled}
+use Rattle.dft_behavior.specs.Logic.{Logic, Ports, logic_of}
+use Rattle.dft_behavior.specs.Settled.{TriSources, IsTriSettled}
 use Rattle.dft_evaluator.specs.Wides.{may, tree}
 use Rattle.dft_evaluator.specs.Evaluations.{IsSettledFrom, AreGiven}
 

@@ -3,8 +3,8 @@
 ghost use Rattle.std.specs.Prelude.{◌≡◌, ℕ, ◌<◌, length, replicate, IfOk};
 ghost use Rattle.dft_base.specs.declared.tri.Tri.TheVariants.{Unknown};
 ghost use Rattle.dft_netlist.specs.Netlist.{Netlist};
-ghost use Rattle.dft_netlist.specs.Logic.{Ports, logic_of};
-ghost use Rattle.dft_netlist.specs.Settled.{TriSources, IsTriSettled};
+ghost use Rattle.dft_behavior.specs.Logic.{Ports, logic_of};
+ghost use Rattle.dft_behavior.specs.Settled.{TriSources, IsTriSettled};
 ghost use Rattle.dft_evaluator.specs.Wides.{unknown_wide, IsWide, value_in};
 ghost use Rattle.dft_evaluator.specs.Evaluations.{IsFor, IsSet, IsSetWide, IsSettledIn, AreGiven, value_at};
 

@@ -3,14 +3,14 @@
 ghost use Rattle.std.specs.Prelude.{◌≡◌, ℕ, ◌<◌, ◌≤◌, ◌+◌, ◌*◌, ◌^◌, List, length, map};
 ghost use Rattle.dft_cells.specs.Gates.{shared, all_one, any_one, odd_ones, bit_of_number, number_of, tri_of};
 ghost use Rattle.dft_cells.specs.WellFormed.{TakesInputs};
-ghost use Rattle.dft_netlist.specs.Settled.{value_from};
+ghost use Rattle.dft_behavior.specs.Settled.{value_from};
 ghost use Rattle.dft_logic.specs.Circuit.{source_at, meaning, Fits};
 ghost use Rattle.dft_evaluator.specs.Wides.{IsWide, AreWides, values_in};
 ghost use Rattle.dft_evaluator.specs.Evaluations.{value_set};
 
 use crate::wides::{all, unknown, wide_at};
 use dft_base::Tri;
-use dft_cells::Kind;
+use dft_cells::Gate;
 use dft_lanes::{Wide, wide_and, wide_mux, wide_not, wide_or, wide_xor};
 use dft_logic::{Op, Operand};
 use dft_netlist::NetId;
@@ -82,36 +82,28 @@ fn table_of(table: u64, inputs: &[Operand], wides: &[Wide], place: u32, weight: 
 }
 
 // The output of a gate, a table or a tie.
-fn gate(kind: Kind, inputs: &[Operand], wides: &[Wide]) -> Wide
+fn gate(kind: Gate, inputs: &[Operand], wides: &[Wide]) -> Wide
     requires takes { TakesInputs kind (length inputs.now) }
     requires wides { AreWides wides.now }
     ensures { IsWide result (λ p. tri_of kind (map (value_from (values_in wides.now p)) (map source_at inputs.now))) }
 {
     match kind {
-        Kind::Buf => operand(&inputs[0], wides),
-        Kind::Inv => wide_not(&operand(&inputs[0], wides)),
-        Kind::And => and_of(inputs, wides),
-        Kind::Nand => wide_not(&and_of(inputs, wides)),
-        Kind::Or => or_of(inputs, wides),
-        Kind::Nor => wide_not(&or_of(inputs, wides)),
-        Kind::Xor => xor_of(inputs, wides),
-        Kind::Xnor => wide_not(&xor_of(inputs, wides)),
-        Kind::Mux2 => wide_mux(
+        Gate::Buf => operand(&inputs[0], wides),
+        Gate::Inv => wide_not(&operand(&inputs[0], wides)),
+        Gate::And => and_of(inputs, wides),
+        Gate::Nand => wide_not(&and_of(inputs, wides)),
+        Gate::Or => or_of(inputs, wides),
+        Gate::Nor => wide_not(&or_of(inputs, wides)),
+        Gate::Xor => xor_of(inputs, wides),
+        Gate::Xnor => wide_not(&xor_of(inputs, wides)),
+        Gate::Mux2 => wide_mux(
             &operand(&inputs[0], wides),
             &operand(&inputs[1], wides),
             &operand(&inputs[2], wides),
         ),
-        Kind::Table(table) => table_of(table, inputs, wides, 0, 1),
-        Kind::Tie0 => all(Tri::Zero),
-        Kind::Tie1 => all(Tri::One),
-        Kind::Dff
-        | Kind::Dffr
-        | Kind::Dffs
-        | Kind::Sdff
-        | Kind::Sdffr
-        | Kind::Sdffs
-        | Kind::Lockup
-        | Kind::Opaque => unreachable!(),
+        Gate::Table(table) => table_of(table, inputs, wides, 0, 1),
+        Gate::Tie0 => all(Tri::Zero),
+        Gate::Tie1 => all(Tri::One),
     }
 }
 

@@ -9,12 +9,12 @@ use Rattle.dft_base.specs.Tri.{AboveTri}
 use Rattle.dft_netlist.specs.declared.ids.InstanceId.{InstanceId}
 use Rattle.dft_netlist.specs.Netlist.{Netlist}
 use Rattle.dft_netlist.specs.Drivers.{IsOrdered}
-use Rattle.dft_netlist.specs.Logic.{Logic, Meaning, Free, IsRanked}
-use Rattle.dft_netlist.specs.Runs.{Vector}
-use Rattle.dft_netlist.specs.Settled.{TriSources, value_given, IsTriSettled}
-use Rattle.dft_netlist.proofs.Meanings.{source_same, meaning_monotone, at_nets}
+use Rattle.dft_behavior.specs.Logic.{Logic, Meaning, Free, IsRanked}
+use Rattle.dft_behavior.specs.Runs.{Vector}
+use Rattle.dft_behavior.specs.Settled.{TriSources, value_given, IsTriSettled}
+use Rattle.dft_behavior.proofs.Meanings.{source_same, meaning_monotone, at_nets}
 use Rattle.dft_netlist.proofs.RankLemmas.{order_ranks}
-use Rattle.dft_netlist.proofs.Ranks.{order_is_rank}
+use Rattle.dft_behavior.proofs.Ranks.{order_is_rank}
 use Rattle.dft_abstract.specs.Cycle.{strobe_sources, rise_of}
 use Rattle.dft_abstract.specs.Laws.{next_from}
 use Rattle.dft_abstract.proofs.Views.{settled_same, strobe_exists}

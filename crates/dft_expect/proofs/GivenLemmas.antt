@@ -19,11 +19,12 @@ use Rattle.dft_netlist.specs.declared.net_driver.NetDriver.TheVariants as by
 use Rattle.dft_netlist.specs.Netlist.{Netlist}
 use Rattle.dft_netlist.specs.Drivers.{Source, Driver, driver_of_kind, inputs_of, kind_at, pins_of}
 use Rattle.dft_netlist.specs.NetDrivers.{driver_at, is_inverted, joined_by, roles_at}
-use Rattle.dft_netlist.specs.Traces.{Root, Port, Constant, Other, root_of}
-use Rattle.dft_netlist.specs.ClockRoots.{ClockRoot}
-use Rattle.dft_netlist.specs.Logic.{Cell, Force, Ports, Scan, Input, Clock, cell_or_none, flip_flop, flop_meaning, force_of, forcing, meaning_of, modelled, modelled_of, pin_of}
-use Rattle.dft_netlist.specs.Settled.{TriSources, inverse}
-use Rattle.dft_netlist.proofs.StoredLemmas.{stored_force}
+use Rattle.dft_behavior.specs.Traces.{Root, Port, Constant, Other, root_of}
+use Rattle.dft_behavior.specs.ClockRoots.{ClockRoot}
+use Rattle.dft_netlist.specs.Connections.{pin_of}
+use Rattle.dft_behavior.specs.Logic.{Cell, Force, Ports, Scan, Input, Clock, cell_or_none, flip_flop, flop_meaning, force_of, forcing, meaning_of, modelled, modelled_of}
+use Rattle.dft_behavior.specs.Settled.{TriSources, inverse}
+use Rattle.dft_behavior.proofs.StoredLemmas.{stored_force}
 use Rattle.dft_abstract.specs.Cycle.{strobe_sources, tri_forced_by}
 use Rattle.dft_config.specs.Config.{Config}
 use Rattle.dft_rules.specs.Rules.{may_be_scanned}
@@ -150,24 +151,8 @@ pin_given : (n : Netlist) (config : Config) (merged : Merged) (loaded : List Boo
     → IsGiven (sources_of n config merged loaded values) given net (meaning_of n (config_ports n config) net (driver_of_kind k i inverted inputs))
 pin_given n config merged loaded values given net i inverted s kind.Opaque inputs can is set value = opaque_given n config merged loaded given net i inverted s can is set value
 pin_given n config merged loaded values given net i inverted s kind.Lockup inputs can is set value = absurd (no_lockup n config i can is)
-pin_given n config merged loaded values given net i inverted s kind.Dff inputs can is set value = flop_given n config merged loaded values given net i inverted s (flip_flop n (config_ports n config) i) can refl set value
-pin_given n config merged loaded values given net i inverted s kind.Dffr inputs can is set value = flop_given n config merged loaded values given net i inverted s (flip_flop n (config_ports n config) i) can refl set value
-pin_given n config merged loaded values given net i inverted s kind.Dffs inputs can is set value = flop_given n config merged loaded values given net i inverted s (flip_flop n (config_ports n config) i) can refl set value
-pin_given n config merged loaded values given net i inverted s kind.Sdff inputs can is set value = flop_given n config merged loaded values given net i inverted s (flip_flop n (config_ports n config) i) can refl set value
-pin_given n config merged loaded values given net i inverted s kind.Sdffr inputs can is set value = flop_given n config merged loaded values given net i inverted s (flip_flop n (config_ports n config) i) can refl set value
-pin_given n config merged loaded values given net i inverted s kind.Sdffs inputs can is set value = flop_given n config merged loaded values given net i inverted s (flip_flop n (config_ports n config) i) can refl set value
-pin_given n config merged loaded values given net i inverted s kind.Buf inputs can is set value = tt
-pin_given n config merged loaded values given net i inverted s kind.Inv inputs can is set value = tt
-pin_given n config merged loaded values given net i inverted s kind.And inputs can is set value = tt
-pin_given n config merged loaded values given net i inverted s kind.Nand inputs can is set value = tt
-pin_given n config merged loaded values given net i inverted s kind.Or inputs can is set value = tt
-pin_given n config merged loaded values given net i inverted s kind.Nor inputs can is set value = tt
-pin_given n config merged loaded values given net i inverted s kind.Xor inputs can is set value = tt
-pin_given n config merged loaded values given net i inverted s kind.Xnor inputs can is set value = tt
-pin_given n config merged loaded values given net i inverted s kind.Mux2 inputs can is set value = tt
-pin_given n config merged loaded values given net i inverted s (kind.Table number) inputs can is set value = tt
-pin_given n config merged loaded values given net i inverted s kind.Tie0 inputs can is set value = tt
-pin_given n config merged loaded values given net i inverted s kind.Tie1 inputs can is set value = tt
+pin_given n config merged loaded values given net i inverted s (kind.Flop flop) inputs can is set value = flop_given n config merged loaded values given net i inverted s (flip_flop n (config_ports n config) i) can refl set value
+pin_given n config merged loaded values given net i inverted s (kind.Gate gate) inputs can is set value = tt
 
 -- ---- a net
 

@@ -18,10 +18,10 @@ use Rattle.dft_netlist.specs.declared.net_driver.NetDriver.TheVariants as by
 use Rattle.dft_netlist.specs.Netlist.{Netlist}
 use Rattle.dft_netlist.specs.Drivers.{Source, Driver, Flop, driver_of_kind, inputs_of, kind_at, pins_of}
 use Rattle.dft_netlist.specs.NetDrivers.{driver_at, is_inverted, joined_by, roles_at}
-use Rattle.dft_netlist.specs.Logic.{Logic, Meaning, Cell, Input, Clock, Gate, Joined, Lockup, Free, flip_flop, flop_meaning, meaning_of}
-use Rattle.dft_netlist.specs.Logic as logic
-use Rattle.dft_netlist.specs.Runs.{Vector}
-use Rattle.dft_netlist.specs.Settled.{TriSources, inverse, value_given}
+use Rattle.dft_behavior.specs.Logic.{Logic, Meaning, Cell, Input, Clock, Gate, Joined, Lockup, Free, flip_flop, flop_meaning, meaning_of}
+use Rattle.dft_behavior.specs.Logic as logic
+use Rattle.dft_behavior.specs.Runs.{Vector}
+use Rattle.dft_behavior.specs.Settled.{TriSources, inverse, value_given}
 use Rattle.dft_abstract.specs.Cycle.{strobe_sources, tri_forced_by}
 use Rattle.dft_config.specs.Config.{Config}
 use Rattle.dft_rules.specs.Rules.{may_be_scanned}
@@ -172,30 +172,12 @@ module _ (n : Netlist) (config : Config) (pattern : Pattern) (r : Response) (can
       → before net ≡ value_given first before net (meaning net (driver_of_kind k i inverted inputs)) → IsGiven second before net (meaning net (driver_of_kind k i inverted inputs))
   pin_again net i inverted kind.Opaque inputs kinds none here = here
   pin_again net i inverted kind.Lockup inputs kinds none here = absurd (no_lockup n config i can kinds)
-  pin_again net i inverted kind.Dff inputs kinds none here = flop_again l x one two before values net i inverted (flip_flop n (config_ports n config) i) (unmoved i none) here
-  pin_again net i inverted kind.Dffr inputs kinds none here = flop_again l x one two before values net i inverted (flip_flop n (config_ports n config) i) (unmoved i none) here
-  pin_again net i inverted kind.Dffs inputs kinds none here = flop_again l x one two before values net i inverted (flip_flop n (config_ports n config) i) (unmoved i none) here
-  pin_again net i inverted kind.Sdff inputs kinds none here = flop_again l x one two before values net i inverted (flip_flop n (config_ports n config) i) (unmoved i none) here
-  pin_again net i inverted kind.Sdffr inputs kinds none here = flop_again l x one two before values net i inverted (flip_flop n (config_ports n config) i) (unmoved i none) here
-  pin_again net i inverted kind.Sdffs inputs kinds none here = flop_again l x one two before values net i inverted (flip_flop n (config_ports n config) i) (unmoved i none) here
-  pin_again net i inverted kind.Buf inputs kinds none here = tt
-  pin_again net i inverted kind.Inv inputs kinds none here = tt
-  pin_again net i inverted kind.And inputs kinds none here = tt
-  pin_again net i inverted kind.Nand inputs kinds none here = tt
-  pin_again net i inverted kind.Or inputs kinds none here = tt
-  pin_again net i inverted kind.Nor inputs kinds none here = tt
-  pin_again net i inverted kind.Xor inputs kinds none here = tt
-  pin_again net i inverted kind.Xnor inputs kinds none here = tt
-  pin_again net i inverted kind.Mux2 inputs kinds none here = tt
-  pin_again net i inverted (kind.Table number) inputs kinds none here = tt
-  pin_again net i inverted kind.Tie0 inputs kinds none here = tt
-  pin_again net i inverted kind.Tie1 inputs kinds none here = tt
+  pin_again net i inverted (kind.Flop flop) inputs kinds none here = flop_again l x one two before values net i inverted (flip_flop n (config_ports n config) i) (unmoved i none) here
+  pin_again net i inverted (kind.Gate gate) inputs kinds none here = tt
 
   -- a cell of the chains has its value of the state
   chain_driver : (k : Kind) (i : ℕ) (inverted : Bool) (inputs : List Source) → may_be_scanned k ≡ true → driver_of_kind k i inverted inputs ≡ Flop i inverted
-  chain_driver kind.Dff i inverted inputs may = refl
-  chain_driver kind.Dffr i inverted inputs may = refl
-  chain_driver kind.Dffs i inverted inputs may = refl
+  chain_driver (kind.Flop flop) i inverted inputs may = refl
   chain_driver _ i inverted inputs may = absurd cc
 
   turned_is : (inverted : Bool) (t u : Tri) → t ≡ u → turned inverted t ≡ (if inverted then inverse u else u)

@@ -18,16 +18,16 @@ use Rattle.dft_netlist.specs.declared.ids.InstanceId.{InstanceId}
 use Rattle.dft_netlist.specs.declared.instance.Signal.{Signal}
 use Rattle.dft_netlist.specs.declared.instance.Signal.TheVariants as signal
 use Rattle.dft_netlist.specs.Netlist.{Netlist}
-use Rattle.dft_netlist.specs.Connections.{joined_to, signal_of}
-use Rattle.dft_netlist.specs.declared.clock_roots.ClockRoot as declared
-use Rattle.dft_netlist.specs.ClockRoots.{ClockRoot, clock_root_of}
-use Rattle.dft_netlist.specs.ClockSteps.{shown_clock}
+use Rattle.dft_netlist.specs.Connections.{joined_to, signal_of, pin_of, same_role}
+use Rattle.dft_behavior.specs.declared.clock_roots.ClockRoot as declared
+use Rattle.dft_behavior.specs.ClockRoots.{ClockRoot, clock_root_of}
+use Rattle.dft_behavior.specs.ClockSteps.{shown_clock}
 use Rattle.dft_netlist.specs.Drivers.{Source, Connection, pins_of, source_of}
-use Rattle.dft_netlist.specs.Logic.{Cell, or_loose, pin_of, same_role}
-use Rattle.dft_netlist.specs.Runs.{takes}
-use Rattle.dft_netlist.specs.Settled.{value_from}
+use Rattle.dft_behavior.specs.Logic.{Cell, or_loose}
+use Rattle.dft_behavior.specs.Runs.{takes}
+use Rattle.dft_behavior.specs.Settled.{value_from}
 use Rattle.dft_netlist.proofs.DriveLemmas.{get_set_other, get_set_same}
-use Rattle.dft_netlist.proofs.StoredLemmas.{flop_cell}
+use Rattle.dft_behavior.proofs.StoredLemmas.{flop_cell}
 use Rattle.dft_abstract.specs.Cycle.{tri_forced_by, tri_taken_by}
 use Rattle.dft_config.specs.Config.{Config}
 use Rattle.dft_rules.specs.Rules.{is_net}

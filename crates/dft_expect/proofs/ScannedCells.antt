@@ -1,5 +1,5 @@
 -- A cell of the chains is modelled: on the clock that its clock pin shows, with its data input and no scan pins. And no instance is a lock-up.
-use Rattle.std.proofs.Common.{ℕ, zero, suc, ◌≡◌, Bool, true, false, List, [], ◌∷◌, map, inl, inr, Option, None, Some, is_some, option_and_then, option_map, slice_get, refl, sym, subst, ap, ◌∙◌}
+use Rattle.std.proofs.Common.{ℕ, zero, suc, ◌≡◌, Bool, true, false, List, [], ◌∷◌, map, inl, inr, Option, None, Some, is_some, option_and_then, option_map, slice_get, refl, sym, subst, ap, ◌∙◌, not, ◌++◌}
 use Rattle.std.specs.Prelude.{if◌then◌else◌, IsTrue}
 use Rattle.std.specs.List.{AllByRecursion}
 use Rattle.std.proofs.lemmas.Option.{none-some, same_Some}
@@ -7,10 +7,12 @@ use Rattle.std.proofs.lemmas.Map.Keys.{any_passes_from_place}
 use Rattle.dft_base.specs.Lexing.{Text}
 use Rattle.dft_cells.specs.declared.kind.Kind.{Kind}
 use Rattle.dft_cells.specs.declared.kind.Kind.TheVariants as kind
+use Rattle.dft_cells.specs.declared.kind.Forcing.{Forcing}
+use Rattle.dft_cells.specs.declared.kind.Forcing.TheVariants as force
 use Rattle.dft_cells.specs.declared.kind.Role.{Role}
 use Rattle.dft_cells.specs.declared.kind.Role.TheVariants as role
 use Rattle.dft_cells.specs.declared.cell.Cell as declared
-use Rattle.dft_cells.specs.WellFormed.{HasRoles, FlipFlopRoles, IsWellFormed}
+use Rattle.dft_cells.specs.WellFormed.{HasRoles, front_roles, IsWellFormed}
 use Rattle.dft_netlist.specs.declared.ids.InstanceId.{InstanceId}
 use Rattle.dft_netlist.specs.declared.instance.CellRef.{CellRef}
 use Rattle.dft_netlist.specs.declared.instance.CellRef.TheVariants as cell_ref
@@ -18,13 +20,13 @@ use Rattle.dft_netlist.specs.declared.instance.Instance.{Instance}
 use Rattle.dft_netlist.specs.declared.instance.Signal.{Signal}
 use Rattle.dft_netlist.specs.Netlist.{Netlist}
 use Rattle.dft_netlist.specs.Drivers.{Source, connections_from, gate_roles, kind_of, kind_at, pins_at, pins_of, shape_of, shape_of_cell, source_of}
-use Rattle.dft_netlist.specs.Sound.{IsCellOf, is_primitive}
-use Rattle.dft_netlist.specs.ClockRoots.{ClockRoot, clock_root_of}
-use Rattle.dft_netlist.specs.Logic.{Ports, Force, Scan, Cell, same_role, pin_of, or_loose, domain_at, forcing, scan_of, modelled, modelled_of, flip_flop}
-use Rattle.dft_netlist.specs.Logic as logic
+use Rattle.dft_netlist.specs.Sound.{IsCellOf}
+use Rattle.dft_behavior.specs.ClockRoots.{ClockRoot, clock_root_of}
+use Rattle.dft_behavior.specs.Logic.{Ports, Force, Scan, Cell, or_loose, domain_at, forcing, scan_of, modelled, modelled_of, flip_flop}
+use Rattle.dft_behavior.specs.Logic as logic
 use Rattle.dft_config.specs.Config.{Config}
 use Rattle.dft_config.specs.Range.{IsInRange}
-use Rattle.dft_netlist.specs.Connections.{input_net}
+use Rattle.dft_netlist.specs.Connections.{input_net, same_role, pin_of}
 use Rattle.dft_rules.specs.Rules.{is_net, place_of_port, place_of_clock, clock_of_source, clocked_by, is_held, are_held_at, scan_cell_of, is_kept, may_be_scanned, judged_by}
 use Rattle.dft_expect.specs.Captures.{config_ports}
 use Rattle.dft_rules.specs.declared.judged.Judged.TheVariants.{Scanned}
@@ -110,39 +112,21 @@ gate_none : (inputs : ℕ) → NoEnable (gate_roles inputs)
 gate_none zero = (refl, tt)
 gate_none (suc inputs) = (refl, gate_none inputs)
 
-plain_none : (roles : List Role) → FlipFlopRoles (role.Clock ∷ role.Din ∷ []) roles → NoEnable roles
-plain_none roles (inl e) = subst NoEnable (sym e) (refl, (refl, (refl, tt)))
-plain_none roles (inr e) = subst NoEnable (sym e) (refl, (refl, (refl, (refl, tt))))
+front_none : (its : Forcing) (rest : List Role) → NoEnable rest → NoEnable (front_roles (record { force = its; scan = false }) ++ rest)
+front_none force.Nothing rest h = (refl, (refl, h))
+front_none force.Reset rest h = (refl, (refl, (refl, h)))
+front_none force.Set rest h = (refl, (refl, (refl, h)))
 
-reset_none : (roles : List Role) → FlipFlopRoles (role.Clock ∷ role.Din ∷ role.Reset ∷ []) roles → NoEnable roles
-reset_none roles (inl e) = subst NoEnable (sym e) (refl, (refl, (refl, (refl, tt))))
-reset_none roles (inr e) = subst NoEnable (sym e) (refl, (refl, (refl, (refl, (refl, tt)))))
-
-set_none : (roles : List Role) → FlipFlopRoles (role.Clock ∷ role.Din ∷ role.Preset ∷ []) roles → NoEnable roles
-set_none roles (inl e) = subst NoEnable (sym e) (refl, (refl, (refl, (refl, tt))))
-set_none roles (inr e) = subst NoEnable (sym e) (refl, (refl, (refl, (refl, (refl, tt)))))
+flop_none : (its : Forcing) (scan : Bool) (roles : List Role) → not scan ≡ true → HasRoles (kind.Flop (record { force = its; scan = scan })) roles → NoEnable roles
+flop_none its true roles may has = absurd cc
+flop_none its false roles may (inl e) = subst NoEnable (sym e) (front_none its (role.Output ∷ []) (refl, tt))
+flop_none its false roles may (inr e) = subst NoEnable (sym e) (front_none its (role.Output ∷ role.Inverted ∷ []) (refl, (refl, tt)))
 
 kind_none : (k : Kind) (roles : List Role) → may_be_scanned k ≡ true → HasRoles k roles → NoEnable roles
-kind_none kind.Dff roles may has = plain_none roles has
-kind_none kind.Dffr roles may has = reset_none roles has
-kind_none kind.Dffs roles may has = set_none roles has
-kind_none kind.Sdff roles may has = absurd cc
-kind_none kind.Sdffr roles may has = absurd cc
-kind_none kind.Sdffs roles may has = absurd cc
+kind_none (kind.Flop flop) roles may has = flop_none flop.force flop.scan roles may has
+kind_none (kind.Gate gate) roles may has = absurd cc
 kind_none kind.Lockup roles may has = absurd cc
 kind_none kind.Opaque roles may has = absurd cc
-kind_none kind.Buf roles may has = absurd cc
-kind_none kind.Inv roles may has = absurd cc
-kind_none kind.And roles may has = absurd cc
-kind_none kind.Nand roles may has = absurd cc
-kind_none kind.Or roles may has = absurd cc
-kind_none kind.Nor roles may has = absurd cc
-kind_none kind.Xor roles may has = absurd cc
-kind_none kind.Xnor roles may has = absurd cc
-kind_none kind.Mux2 roles may has = absurd cc
-kind_none (kind.Table number) roles may has = absurd cc
-kind_none kind.Tie0 roles may has = absurd cc
-kind_none kind.Tie1 roles may has = absurd cc
 
 cell_none : (library : List declared.Cell) (id : ℕ) (o : Option declared.Cell) → IsWellFormed library → slice_get library id ≡ o → may_be_scanned (shape_of_cell o).kind ≡ true → NoEnable (shape_of_cell o).roles
 cell_none library id None well at may = absurd cc
@@ -204,7 +188,7 @@ lockup_named (Some name) is e = absurd (none-some (LockupPresent name) (sym e))
 
 lockup_cell : (library : List declared.Cell) (name : Option Text) (cell : CellRef) → IsCellOf library name cell → (shape_of library cell).kind ≡ kind.Lockup → present_as (shape_of library cell).kind name ≡ None → ⊥
 lockup_cell library name (cell_ref.Library id) fits is none = lockup_named name fits.1 (subst (λ (k : Kind). present_as k name ≡ None) is none)
-lockup_cell library name (cell_ref.Gate k inputs) fits is none = let no : false ≡ true = subst (λ (j : Kind). IsTrue (is_primitive j)) is fits.0 in let f : ⊥ = cc in f
+lockup_cell library name (cell_ref.Gate k inputs) fits is none = let f : ⊥ = cc in f
 
 lockup_at : (n : Netlist) (config : Config) (i : ℕ) (o : Option Instance) → CanCapture n config → slice_get n.instances i ≡ o → kind_of n.library o ≡ kind.Lockup → ⊥
 lockup_at n config i None can at is = absurd cc

@@ -13,7 +13,7 @@ use Rattle.dft_base.proofs.ListLemmas.{drop_at}
 use Rattle.dft_lanes.specs.declared.wide.Wide.{Wide}
 use Rattle.dft_netlist.specs.declared.ids.NetId.{NetId}
 use Rattle.dft_netlist.specs.Netlist.{Netlist}
-use Rattle.dft_netlist.specs.Logic.{Meaning}
+use Rattle.dft_behavior.specs.Logic.{Meaning}
 use Rattle.dft_evaluator.specs.Wides.{IsWide, unknown_wide, value_in}
 use Rattle.dft_evaluator.specs.Evaluations.{Evaluation, IsFor, IsSet, IsSetWide, meaning_at, value_at}
 use Rattle.dft_evaluator.proofs.BitLemmas.{all_unknown}

@@ -12,8 +12,8 @@ use Rattle.dft_base.specs.declared.tri.Tri.TheVariants.{Unknown}
 use Rattle.dft_netlist.specs.declared.ids.NetId.{NetId}
 use Rattle.dft_netlist.specs.declared.ids.InstanceId.{InstanceId}
 use Rattle.dft_netlist.specs.Netlist.{Netlist}
-use Rattle.dft_netlist.specs.Logic.{Logic}
-use Rattle.dft_netlist.specs.Runs.{Vector}
+use Rattle.dft_behavior.specs.Logic.{Logic}
+use Rattle.dft_behavior.specs.Runs.{Vector}
 use Rattle.dft_config.specs.Config.{Config}
 use Rattle.dft_cubes.specs.declared.cube.Merged.{Merged}
 use Rattle.dft_cubes.specs.Domains.{captures_of, listed}

@@ -4,8 +4,8 @@ use Rattle.dft_base.specs.declared.tri.Tri.{Tri}
 use Rattle.dft_base.specs.declared.tri.Tri.TheVariants.{Zero, One, Unknown}
 use Rattle.dft_netlist.specs.declared.ids.InstanceId.{InstanceId}
 use Rattle.dft_netlist.specs.Drivers.{Net}
-use Rattle.dft_netlist.specs.Logic.{Logic, Cell, Input, Clock, Flop, Free, no_cell}
-use Rattle.dft_netlist.specs.Runs.{Vector}
+use Rattle.dft_behavior.specs.Logic.{Logic, Cell, Input, Clock, Flop, Free, no_cell}
+use Rattle.dft_behavior.specs.Runs.{Vector}
 use Rattle.dft_expect.specs.Captures.{AreSettled, Settled, next_state}
 use Rattle.dft_expect.specs.Examples.{cell}
 use Rattle.dft_expect.specs.Loaded.{loaded_values}

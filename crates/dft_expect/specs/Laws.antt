@@ -7,8 +7,8 @@ use Rattle.dft_base.specs.Solutions.{bit_at}
 use Rattle.dft_netlist.specs.declared.ids.InstanceId.{InstanceId}
 use Rattle.dft_netlist.specs.Netlist.{Netlist}
 use Rattle.dft_netlist.specs.Drivers.{Source, nets_of, AreBelow, IsOrdered}
-use Rattle.dft_netlist.specs.Logic.{Logic, Free, IsRanked}
-use Rattle.dft_netlist.specs.Settled.{TriSources, IsTriSettled}
+use Rattle.dft_behavior.specs.Logic.{Logic, Free, IsRanked}
+use Rattle.dft_behavior.specs.Settled.{TriSources, IsTriSettled}
 use Rattle.dft_config.specs.Config.{Config}
 use Rattle.dft_cubes.specs.declared.cube.Merged.{Merged}
 use Rattle.dft_expect.specs.declared.response.Response.{Response}

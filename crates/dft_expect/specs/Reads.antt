@@ -11,12 +11,13 @@ use Rattle.dft_netlist.specs.declared.instance.Signal.{Signal}
 use Rattle.dft_netlist.specs.declared.instance.Signal.TheVariants.{Net, Constant, Unconnected}
 use Rattle.dft_netlist.specs.Netlist.{Netlist}
 use Rattle.dft_netlist.specs.Drivers.{Source, pins_of, source_of}
-use Rattle.dft_netlist.specs.Logic.{pin_of, or_loose}
-use Rattle.dft_netlist.specs.Settled.{value_from}
-use Rattle.dft_netlist.specs.declared.clock_roots.ClockRoot as declared
-use Rattle.dft_netlist.specs.ClockRoots.{ClockRoot, clock_root_of}
-use Rattle.dft_netlist.specs.ClockSteps.{shown_clock}
-use Rattle.dft_netlist.specs.Runs.{takes}
+use Rattle.dft_netlist.specs.Connections.{pin_of}
+use Rattle.dft_behavior.specs.Logic.{or_loose}
+use Rattle.dft_behavior.specs.Settled.{value_from}
+use Rattle.dft_behavior.specs.declared.clock_roots.ClockRoot as declared
+use Rattle.dft_behavior.specs.ClockRoots.{ClockRoot, clock_root_of}
+use Rattle.dft_behavior.specs.ClockSteps.{shown_clock}
+use Rattle.dft_behavior.specs.Runs.{takes}
 use Rattle.dft_rules.specs.Rules.{is_net}
 use Rattle.dft_expect.specs.declared.reads.Read.{Read}
 

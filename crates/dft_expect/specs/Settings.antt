@@ -13,7 +13,7 @@ use Rattle.dft_netlist.specs.Netlist.{Netlist}
 use Rattle.dft_netlist.specs.Connections.{input_net}
 use Rattle.dft_netlist.specs.Drivers.{driver}
 use Rattle.dft_netlist.specs.NetDrivers.{driver_at, is_inverted, roles_at}
-use Rattle.dft_netlist.specs.Settled.{inverse}
+use Rattle.dft_behavior.specs.Settled.{inverse}
 use Rattle.dft_rules.specs.Rules.{is_net}
 use Rattle.dft_expect.specs.declared.settings.Setting.{Setting}
 use Rattle.dft_expect.specs.declared.settings.Setting.TheVariants as setting

@@ -19,10 +19,11 @@ use crate::reads::Read;
 use crate::response::Response;
 use crate::sources::{bit_at, or_unknown};
 use dft_base::{Listed, Tri};
+use dft_behavior::ClockRoot;
 use dft_config::Config;
 use dft_evaluator::Evaluator;
 use dft_logic::takes;
-use dft_netlist::{ClockRoot, Design, NetId, Signal};
+use dft_netlist::{Design, NetId, Signal};
 use std::alloc::{AllocError, Global};
 
 // An edge of the clock that captures, if there is one.

@@ -1,16 +1,17 @@
 //! Where a capture is read.
 
 ghost use Rattle.std.specs.Prelude.{◌≡◌, ◌++◌, List, map, IfOk, OnOk};
-ghost use Rattle.dft_netlist.specs.ClockSteps.{shown_clock};
-ghost use Rattle.dft_netlist.specs.ClockTables.{AreClocks};
+ghost use Rattle.dft_behavior.specs.ClockSteps.{shown_clock};
+ghost use Rattle.dft_behavior.specs.ClockTables.{AreClocks};
 ghost use Rattle.dft_netlist.specs.Netlist.{Netlist};
 ghost use Rattle.dft_expect.specs.Captures.{bits_out, output_bits};
 ghost use Rattle.dft_expect.specs.Loaded.{all_cells};
 ghost use Rattle.dft_expect.specs.Reads.{AreReads, IsReadOf};
 ghost use Rattle.dft_expect.specs.Reads as spec;
 
+use dft_behavior::{ClockRoot, clock_in, find_clocks};
 use dft_cells::Role;
-use dft_netlist::{ClockRoot, Design, Dir, InstanceId, NetId, Port, Signal, clock_in};
+use dft_netlist::{Design, Dir, InstanceId, NetId, Port, Signal};
 use dft_stitch::Chains;
 use std::alloc::{AllocError, Global};
 
@@ -75,7 +76,7 @@ pub(crate) fn reads(
 ) -> Result<Vec<Read>, AllocError>
     ensures { IfOk result (λ reads. AreReads design.now (all_cells chains.now.chains) reads.items) }
 {
-    let clocks = design.clocks(alloc)?;
+    let clocks = find_clocks(alloc, design)?;
     let mut reads = Vec::new(alloc);
     for chain in 0..chains.count() {
         add_reads(&mut reads, design, &clocks, chains.chain(chain))?;

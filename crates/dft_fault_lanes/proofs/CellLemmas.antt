@@ -12,7 +12,7 @@ use Rattle.dft_cells.specs.Tables.{mux_tri}
 use Rattle.dft_cells.proofs.TriLemmas.{chosen_one, chosen_zero}
 use Rattle.dft_lanes.specs.declared.wide.Wide.{Wide}
 use Rattle.dft_lanes.specs.Choices.{can, some_choice_of_three}
-use Rattle.dft_netlist.specs.Logic.{Cell, no_cell}
+use Rattle.dft_behavior.specs.Logic.{Cell, no_cell}
 use Rattle.dft_netlist.specs.Orders.{Has}
 use Rattle.dft_netlist.proofs.ListingLemmas.{has_item}
 use Rattle.dft_abstract.specs.Cycle.{tri_forced_by}

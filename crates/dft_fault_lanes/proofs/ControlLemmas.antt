@@ -12,9 +12,10 @@ use Rattle.dft_netlist.specs.declared.instance.Signal.TheVariants as signal
 use Rattle.dft_netlist.specs.Netlist.{Netlist}
 use Rattle.dft_netlist.specs.Drivers.{Net, Driver, Input, Gate, Flop, Free, driver, nets_of, shape_of, source_of, connections_from, pins_at}
 use Rattle.dft_netlist.specs.Drivers as drivers
-use Rattle.dft_netlist.specs.ClockRoots.{turn_of}
-use Rattle.dft_netlist.specs.Logic.{Ports, reads, same_role, pin_of, meaning_of, logic_of}
-use Rattle.dft_logic.specs.Needs.{HasAll, IsStrobeClosed}
+use Rattle.dft_behavior.specs.ClockRoots.{turn_of}
+use Rattle.dft_netlist.specs.Connections.{same_role, pin_of}
+use Rattle.dft_behavior.specs.Logic.{Ports, reads, meaning_of, logic_of}
+use Rattle.dft_takings.specs.Needs.{HasAll, IsStrobeClosed}
 use Rattle.dft_fault_laws.specs.Stuck.{is_control, behind_gate, behind, IsControl}
 use Rattle.dft_fault_lanes.specs.Controls.{HasPins, HasPinsOf}
 

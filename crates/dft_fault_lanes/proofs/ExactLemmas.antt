@@ -7,7 +7,7 @@ use Rattle.dft_base.specs.declared.tri.Tri.TheVariants.{One, Unknown}
 use Rattle.dft_base.proofs.ListLemmas.{same_all}
 use Rattle.dft_lanes.specs.declared.wide.Wide.{Wide}
 use Rattle.dft_netlist.specs.Netlist.{Netlist}
-use Rattle.dft_netlist.specs.Logic.{Logic, logic_of}
+use Rattle.dft_behavior.specs.Logic.{Logic, logic_of}
 use Rattle.dft_logic.specs.Circuit.{Circuit, logic_at}
 use Rattle.dft_logic.specs.Values.{value_at}
 use Rattle.dft_evaluator.specs.Wides.{value_in, values_in, unknown_wide, IsWide}

@@ -7,8 +7,8 @@ use Rattle.dft_base.specs.declared.tri.Tri.{Tri}
 use Rattle.dft_base.specs.declared.tri.Tri.TheVariants.{Zero, One, Unknown}
 use Rattle.dft_base.proofs.BitLemmas.{true_false}
 use Rattle.dft_lanes.specs.declared.wide.Wide.{Wide}
-use Rattle.dft_netlist.specs.Logic.{Logic}
-use Rattle.dft_netlist.specs.Runs.{Vector}
+use Rattle.dft_behavior.specs.Logic.{Logic}
+use Rattle.dft_behavior.specs.Runs.{Vector}
 use Rattle.dft_abstract.specs.Cycle.{Round, IsRound, after_round, all_unknown}
 use Rattle.dft_logic.specs.Circuit.{Circuit, logic_at, flag_at}
 use Rattle.dft_logic.specs.Values.{value_at}

@@ -4,11 +4,11 @@ use Rattle.std.specs.Prelude.{if◌then◌else◌}
 use Rattle.dft_base.specs.declared.tri.Tri.{Tri}
 use Rattle.dft_base.specs.Tri.{known}
 use Rattle.dft_netlist.specs.Drivers.{Tied}
-use Rattle.dft_netlist.specs.Logic.{Meaning, Joined}
-use Rattle.dft_netlist.specs.Settled.{TriSources, value_given}
+use Rattle.dft_behavior.specs.Logic.{Meaning, Joined}
+use Rattle.dft_behavior.specs.Settled.{TriSources, value_given}
 use Rattle.dft_logic.specs.Circuit.{logic_at, meaning, op_at, flag_at}
 use Rattle.dft_logic.specs.Values.{value_at}
-use Rattle.dft_logic.specs.Needs.{still_from}
+use Rattle.dft_takings.specs.Needs.{still_from}
 use Rattle.dft_evaluator.specs.Wides.{values_in}
 use Rattle.dft_fault_lanes.specs.Laws.{LaneIsFaulty}
 

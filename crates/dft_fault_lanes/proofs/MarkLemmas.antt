@@ -9,20 +9,20 @@ use Rattle.dft_base.specs.declared.tri.Tri.{Tri}
 use Rattle.dft_base.specs.declared.tri.Tri.TheVariants.{Zero, One, Unknown}
 use Rattle.dft_netlist.specs.declared.ids.NetId.{NetId}
 use Rattle.dft_netlist.specs.Drivers.{Source, Net, Tied, Loose, nets_of}
-use Rattle.dft_netlist.specs.Logic.{Cell, Scan}
+use Rattle.dft_behavior.specs.Logic.{Cell, Scan}
 use Rattle.dft_netlist.specs.Orders.{Has}
-use Rattle.dft_netlist.specs.Settled.{value_from}
+use Rattle.dft_behavior.specs.Settled.{value_from}
 use Rattle.dft_netlist.proofs.StandLemmas.{has_push, has_push_cases}
 use Rattle.dft_patterns.specs.declared.act.Act.{Act}
 use Rattle.dft_patterns.specs.declared.act.Act.TheVariants.{Unset}
 use Rattle.dft_replay.specs.Vectors.{act_at, net_at, printed}
 use Rattle.dft_logic.specs.declared.circuit.FlipFlop.{FlipFlop}
 use Rattle.dft_logic.specs.Circuit.{cell_of, flag_at}
-use Rattle.dft_logic.specs.EntryTables.{MarksAll}
-use Rattle.dft_logic.specs.Needs.{HasAll, chosen_reads, taken_reads, next_reads}
-use Rattle.dft_logic.proofs.PlanLemmas.{has_needs, one_or_more}
+use Rattle.dft_takings.specs.EntryTables.{MarksAll}
+use Rattle.dft_takings.specs.Needs.{HasAll, chosen_reads, taken_reads, next_reads}
+use Rattle.dft_takings.proofs.PlanLemmas.{has_needs, one_or_more}
 use Rattle.dft_logic.proofs.Writings.{cell_read, cell_past}
-use Rattle.dft_logic.proofs.RiseLemmas.{first_all, rest_all, more_all}
+use Rattle.dft_takings.proofs.RiseLemmas.{first_all, rest_all, more_all}
 use Rattle.dft_fault_lanes.specs.declared.marking.Steer.{Steer}
 use Rattle.dft_fault_lanes.specs.Lanes.{flop_at, is_changed}
 use Rattle.dft_fault_lanes.specs.Plans.{needs_of, Steers, HasReadsOf, ArePlaces, AreCovered, enable_at, taken_needs, cell_needs}

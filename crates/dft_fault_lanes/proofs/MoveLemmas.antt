@@ -13,10 +13,10 @@ use Rattle.dft_cells.proofs.TriLemmas.{chosen_one}
 use Rattle.dft_lanes.specs.declared.wide.Wide.{Wide}
 use Rattle.dft_netlist.specs.declared.ids.NetId.{NetId}
 use Rattle.dft_netlist.specs.Drivers.{Source, Net, Tied, Loose, nets_of}
-use Rattle.dft_netlist.specs.Logic.{Cell, Force, Scan}
+use Rattle.dft_behavior.specs.Logic.{Cell, Force, Scan}
 use Rattle.dft_netlist.specs.Orders.{Has}
-use Rattle.dft_netlist.specs.Runs.{takes}
-use Rattle.dft_netlist.specs.Settled.{value_from}
+use Rattle.dft_behavior.specs.Runs.{takes}
+use Rattle.dft_behavior.specs.Settled.{value_from}
 use Rattle.dft_abstract.specs.Cycle.{tri_forced_by, tri_taken_by}
 use Rattle.dft_registers.specs.Layout.{Layout, place_at, cells_at}
 use Rattle.dft_lane_registers.specs.Cells.{Contents, Course, Rests, Follows, course_in, course, IsCarried, IsShifted}
@@ -26,14 +26,14 @@ use Rattle.dft_evaluator.proofs.WideLemmas.{wide_is}
 use Rattle.dft_logic.specs.declared.circuit.FlipFlop.{FlipFlop}
 use Rattle.dft_logic.specs.declared.circuit.Op.{Op}
 use Rattle.dft_logic.specs.Circuit.{Circuit, logic_at, flag_at, cell_of, next_at, taken_at}
-use Rattle.dft_logic.specs.Needs.{HasAll, chosen_reads, taken_reads, forced_reads, next_reads}
-use Rattle.dft_logic.specs.Shows.{still_needs}
-use Rattle.dft_logic.specs.ShownTables.{shown_at}
+use Rattle.dft_takings.specs.Needs.{HasAll, chosen_reads, taken_reads, forced_reads, next_reads}
+use Rattle.dft_takings.specs.Shows.{still_needs}
+use Rattle.dft_takings.specs.ShownTables.{shown_at}
 use Rattle.dft_logic.specs.Values.{value_at}
-use Rattle.dft_logic.proofs.ReadLemmas.{Agree, source_agrees, set_agrees, next_agrees}
+use Rattle.dft_takings.proofs.ReadLemmas.{Agree, source_agrees, set_agrees, next_agrees}
 use Rattle.dft_logic.proofs.Writings.{cell_read, cell_past}
-use Rattle.dft_logic.proofs.ListLemmas.{wider as all_wider}
-use Rattle.dft_logic.proofs.RiseLemmas.{more_all}
+use Rattle.dft_takings.proofs.ListLemmas.{wider as all_wider}
+use Rattle.dft_takings.proofs.RiseLemmas.{more_all}
 use Rattle.dft_fault_laws.specs.Rounds.{every}
 use Rattle.dft_fault_lanes.specs.declared.clamps.Clamp.{Clamp}
 use Rattle.dft_fault_lanes.specs.declared.marking.Steer.{Steer}

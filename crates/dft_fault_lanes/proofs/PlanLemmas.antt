@@ -13,9 +13,9 @@ use Rattle.dft_lanes.specs.declared.wide.Wide.{Wide}
 use Rattle.dft_registers.specs.Layout.{Layout, place_at}
 use Rattle.dft_netlist.specs.declared.ids.NetId.{NetId}
 use Rattle.dft_netlist.specs.Drivers.{nets_of}
-use Rattle.dft_netlist.specs.Logic.{Cell, Force}
+use Rattle.dft_behavior.specs.Logic.{Cell, Force}
 use Rattle.dft_netlist.specs.Orders.{Has, numbers_of}
-use Rattle.dft_netlist.specs.Settled.{value_from}
+use Rattle.dft_behavior.specs.Settled.{value_from}
 use Rattle.dft_patterns.specs.declared.act.Act.{Act}
 use Rattle.dft_patterns.specs.declared.act.Act.TheVariants.{Unset, Low, High, Pulse, ExpectLow, ExpectHigh, Ignore}
 use Rattle.dft_replay.specs.declared.verdict.Unknowns.TheVariants.{Skip}
@@ -27,16 +27,16 @@ use Rattle.dft_evaluator.proofs.WideLemmas.{value_is}
 use Rattle.dft_logic.specs.declared.circuit.FlipFlop.{FlipFlop}
 use Rattle.dft_logic.specs.declared.circuit.Op.{Op}
 use Rattle.dft_logic.specs.declared.circuit.Op.TheVariants as op
-use Rattle.dft_logic.specs.declared.shown.Shown.{Shown}
+use Rattle.dft_takings.specs.declared.shown.Shown.{Shown}
 use Rattle.dft_abstract.specs.Cycle.{tri_forced_by}
 use Rattle.dft_logic.specs.Circuit.{Circuit, cell_of, force_at, force_nets, meaning, op_at, flag_at}
 use Rattle.dft_logic.specs.Values.{value_at}
-use Rattle.dft_logic.specs.Needs.{HasAll, next_reads}
-use Rattle.dft_logic.specs.Shows.{still_needs}
-use Rattle.dft_logic.specs.ShownTables.{shown_at}
+use Rattle.dft_takings.specs.Needs.{HasAll, next_reads}
+use Rattle.dft_takings.specs.Shows.{still_needs}
+use Rattle.dft_takings.specs.ShownTables.{shown_at}
 use Rattle.dft_logic.proofs.Fillings.{front}
 use Rattle.dft_logic.proofs.Writings.{cell_read, cell_past}
-use Rattle.dft_logic.proofs.PlanLemmas.{or_only}
+use Rattle.dft_takings.proofs.PlanLemmas.{or_only}
 use Rattle.dft_fault_laws.specs.Rounds.{every}
 use Rattle.dft_fault_lanes.specs.declared.clamps.Clamp.{Clamp}
 use Rattle.dft_fault_lanes.specs.declared.marking.Steer.{Steer}

@@ -6,20 +6,20 @@ use Rattle.dft_base.specs.declared.tri.Tri.{Tri}
 use Rattle.dft_base.specs.declared.tri.Tri.TheVariants.{Zero}
 use Rattle.dft_lanes.specs.declared.wide.Wide.{Wide}
 use Rattle.dft_netlist.specs.Drivers.{nets_of}
-use Rattle.dft_netlist.specs.Logic.{Logic, Meaning, Input, Clock, Gate, Joined, Flop, Lockup, Free, IsRanked}
-use Rattle.dft_netlist.specs.Settled.{TriSources, is_wire, value_from, IsTriSettled}
-use Rattle.dft_netlist.specs.Runs.{Vector}
+use Rattle.dft_behavior.specs.Logic.{Logic, Meaning, Input, Clock, Gate, Joined, Flop, Lockup, Free, IsRanked}
+use Rattle.dft_behavior.specs.Settled.{TriSources, is_wire, value_from, IsTriSettled}
+use Rattle.dft_behavior.specs.Runs.{Vector}
 use Rattle.dft_abstract.specs.Cycle.{Pulse, changes, rise_of, strobe_sources, level_before}
-use Rattle.dft_logic.specs.declared.shown.Shown.{Shown}
+use Rattle.dft_takings.specs.declared.shown.Shown.{Shown}
 use Rattle.dft_logic.specs.Circuit.{Circuit, logic_at, flag_at, next_at, IsCircuit}
-use Rattle.dft_logic.specs.Needs.{still_from, IsStillFrom, IsStillOn, IsStrobeClosed, next_reads}
-use Rattle.dft_logic.specs.Ranks.{rank_of}
-use Rattle.dft_logic.specs.Shows as shows
-use Rattle.dft_logic.specs.Shows.{shown_given, IsShownOn}
-use Rattle.dft_logic.specs.ShownTables.{shown_at, edges_of}
+use Rattle.dft_takings.specs.Needs.{still_from, IsStillFrom, IsStillOn, IsStrobeClosed, next_reads}
+use Rattle.dft_takings.specs.Ranks.{rank_of}
+use Rattle.dft_takings.specs.Shows as shows
+use Rattle.dft_takings.specs.Shows.{shown_given, IsShownOn}
+use Rattle.dft_takings.specs.ShownTables.{shown_at, edges_of}
 use Rattle.dft_logic.specs.Values.{value_at}
-use Rattle.dft_logic.proofs.CircuitRanks.{circuit_ranked}
-use Rattle.dft_logic.proofs.PlanLemmas.{needs_closed}
+use Rattle.dft_takings.proofs.CircuitRanks.{circuit_ranked}
+use Rattle.dft_takings.proofs.PlanLemmas.{needs_closed}
 use Rattle.dft_evaluator.specs.Wides.{value_in, values_in}
 use Rattle.dft_fault_laws.specs.Stuck.{with_fault}
 use Rattle.dft_fault_laws.specs.Rounds.{every, IsBound, IsPass, IsRise, passed, falls_of}

@@ -7,17 +7,17 @@ use Rattle.std.proofs.lemmas.Bool.Decides.{leb_tells}
 use Rattle.dft_base.proofs.BitLemmas.{neither}
 use Rattle.dft_base.specs.declared.tri.Tri.{Tri}
 use Rattle.dft_lanes.specs.declared.wide.Wide.{Wide}
-use Rattle.dft_netlist.specs.Logic.{reads}
-use Rattle.dft_netlist.specs.Settled.{inverse, value_given}
+use Rattle.dft_behavior.specs.Logic.{reads}
+use Rattle.dft_behavior.specs.Settled.{inverse, value_given}
 use Rattle.dft_evaluator.specs.Wides.{value_in, values_in, wide_at, unknown_wide}
 use Rattle.dft_logic.specs.declared.circuit.Op.{Op}
 use Rattle.dft_logic.specs.declared.circuit.Op.TheVariants.{Input, Clock, Gate, Joined, Flop, Lockup, Free}
 use Rattle.dft_logic.specs.Circuit.{Circuit, logic_at, flag_at, op_at, meaning}
-use Rattle.dft_logic.specs.Needs.{HasAll, IsStrobeClosed, still_from}
+use Rattle.dft_takings.specs.Needs.{HasAll, IsStrobeClosed, still_from}
 use Rattle.dft_logic.specs.Values.{value_at}
-use Rattle.dft_logic.proofs.PlanLemmas.{needs_closed, or_only}
-use Rattle.dft_logic.proofs.ReadLemmas.{set_agrees, still_agrees}
-use Rattle.dft_logic.proofs.ListLemmas.{wider}
+use Rattle.dft_takings.proofs.PlanLemmas.{needs_closed, or_only}
+use Rattle.dft_takings.proofs.ReadLemmas.{set_agrees, still_agrees}
+use Rattle.dft_takings.proofs.ListLemmas.{wider}
 use Rattle.dft_fault_lanes.specs.declared.clamps.Clamp.{Clamp}
 use Rattle.dft_fault_lanes.specs.Lanes.{Situation, AreSettledOn, clamp_at, clamped}
 use Rattle.dft_fault_lanes.specs.Plans.{needs_of}

@@ -5,16 +5,16 @@ use Rattle.std.proofs.lemmas.List.{get_or_read, get_or_default, drop_all}
 use Rattle.dft_base.specs.declared.tri.Tri.{Tri}
 use Rattle.dft_lanes.specs.declared.wide.Wide.{Wide}
 use Rattle.dft_netlist.specs.declared.ids.NetId.{NetId}
-use Rattle.dft_netlist.specs.Logic.{Meaning, reads}
-use Rattle.dft_netlist.specs.Settled.{value_given}
+use Rattle.dft_behavior.specs.Logic.{Meaning, reads}
+use Rattle.dft_behavior.specs.Settled.{value_given}
 use Rattle.dft_netlist.specs.Orders.{Has, numbers_of}
 use Rattle.dft_logic.specs.declared.circuit.Op.{Op}
 use Rattle.dft_logic.specs.declared.circuit.Op.TheVariants as op
 use Rattle.dft_logic.specs.Circuit.{meaning, op_at, flag_at, AreOrdered}
 use Rattle.dft_logic.specs.Values.{value_at}
-use Rattle.dft_logic.specs.Needs.{still_from}
+use Rattle.dft_takings.specs.Needs.{still_from}
 use Rattle.dft_logic.proofs.Settlings.{all_more}
-use Rattle.dft_logic.proofs.ReadLemmas.{Agree, still_agrees}
+use Rattle.dft_takings.proofs.ReadLemmas.{Agree, still_agrees}
 use Rattle.dft_logic.proofs.Fillings.{front}
 use Rattle.dft_evaluator.specs.Wides.{value_in, values_in, unknown_wide, IsWide, AreWides}
 use Rattle.dft_evaluator.proofs.WideLemmas.{wide_is, value_is}

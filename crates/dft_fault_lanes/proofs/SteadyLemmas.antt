@@ -10,17 +10,17 @@ use Rattle.dft_cells.specs.Tables.{and_tri, not_tri}
 use Rattle.dft_lanes.specs.declared.wide.Wide.{Wide}
 use Rattle.dft_lanes.specs.Choices.{can, some_choice_of_two}
 use Rattle.dft_netlist.specs.Drivers.{Source, nets_of}
-use Rattle.dft_netlist.specs.Logic.{Cell, Force}
-use Rattle.dft_netlist.specs.Settled.{value_from}
-use Rattle.dft_logic.specs.Needs.{HasAll, chosen_reads, reads_at, forced_reads, next_reads}
-use Rattle.dft_logic.specs.Shows.{still_needs}
-use Rattle.dft_logic.specs.ShownTables.{shown_at}
+use Rattle.dft_behavior.specs.Logic.{Cell, Force}
+use Rattle.dft_behavior.specs.Settled.{value_from}
+use Rattle.dft_takings.specs.Needs.{HasAll, chosen_reads, reads_at, forced_reads, next_reads}
+use Rattle.dft_takings.specs.Shows.{still_needs}
+use Rattle.dft_takings.specs.ShownTables.{shown_at}
 use Rattle.dft_logic.specs.declared.circuit.FlipFlop.{FlipFlop}
 use Rattle.dft_logic.specs.declared.circuit.ScanPins.{ScanPins}
-use Rattle.dft_logic.specs.declared.shown.Shown.{Shown}
+use Rattle.dft_takings.specs.declared.shown.Shown.{Shown}
 use Rattle.dft_logic.specs.Circuit.{cell_of, flag_at, force_at, source_at}
 use Rattle.dft_logic.proofs.Writings.{cell_read, cell_past}
-use Rattle.dft_logic.proofs.RiseLemmas.{more_all}
+use Rattle.dft_takings.proofs.RiseLemmas.{more_all}
 use Rattle.dft_evaluator.specs.Wides.{value_in, values_in, IsWide}
 use Rattle.dft_evaluator.proofs.WideLemmas.{value_is, wide_is, wide_ands}
 use Rattle.dft_fault_laws.specs.Rounds.{every}

@@ -4,7 +4,7 @@ use Rattle.std.proofs.lemmas.List.{length-set}
 use Rattle.std.proofs.lemmas.Bool.{cases_eq}
 use Rattle.std.proofs.lemmas.Option.{same_Some, slice_get_within}
 use Rattle.dft_netlist.specs.Netlist.{Netlist}
-use Rattle.dft_netlist.specs.Logic.{logic_of}
+use Rattle.dft_behavior.specs.Logic.{logic_of}
 use Rattle.dft_logic.specs.Circuit.{Circuit, flag_at, logic_at}
 use Rattle.dft_patterns.specs.Patterns.{Patterns}
 use Rattle.dft_replay.specs.Rows.{ports_of, rows_of}

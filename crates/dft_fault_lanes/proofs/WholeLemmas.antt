@@ -4,14 +4,14 @@ use Rattle.std.specs.Prelude.{if◌then◌else◌}
 use Rattle.std.proofs.lemmas.Bool.{cases_Bool, and_parts}
 use Rattle.dft_base.specs.declared.tri.Tri.{Tri}
 use Rattle.dft_netlist.specs.Drivers.{Tied, nets_of}
-use Rattle.dft_netlist.specs.Logic.{Logic, Cell, Meaning, Joined, reads, IsRanked}
-use Rattle.dft_netlist.specs.Settled.{value_from}
+use Rattle.dft_behavior.specs.Logic.{Logic, Cell, Meaning, Joined, reads, IsRanked}
+use Rattle.dft_behavior.specs.Settled.{value_from}
 use Rattle.dft_abstract.specs.Cycle.{Pulse, changes, next_value}
-use Rattle.dft_logic.specs.Needs.{HasAll, IsStrobeClosed, IsStillOn, IsStillFrom, next_reads}
-use Rattle.dft_logic.specs.Shows.{Shown, is_still, still_needs}
-use Rattle.dft_logic.proofs.NeededLemmas.{needed_is_strobe}
-use Rattle.dft_logic.proofs.ReadLemmas.{Agree, next_agrees, next_reads_same, set_agrees}
-use Rattle.dft_logic.proofs.ShownLemmas.{still_there}
+use Rattle.dft_takings.specs.Needs.{HasAll, IsStrobeClosed, IsStillOn, IsStillFrom, next_reads}
+use Rattle.dft_takings.specs.Shows.{Shown, is_still, still_needs}
+use Rattle.dft_takings.proofs.NeededLemmas.{needed_is_strobe}
+use Rattle.dft_takings.proofs.ReadLemmas.{Agree, next_agrees, next_reads_same, set_agrees}
+use Rattle.dft_takings.proofs.ShownLemmas.{still_there}
 use Rattle.dft_fault_laws.specs.Stuck.{with_fault}
 use Rattle.dft_fault_laws.specs.Rounds.{every, passed}
 

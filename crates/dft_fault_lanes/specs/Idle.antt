@@ -3,7 +3,7 @@ use Rattle.std.specs.Prelude.{ℕ, Bool, true, false, ◌≡◌, ◌<◌, ◌==�
 use Rattle.dft_base.specs.declared.tri.Tri.TheVariants.{Unknown}
 use Rattle.dft_lanes.specs.declared.wide.Wide.{Wide}
 use Rattle.dft_netlist.specs.Drivers.{Source, Net, Tied, Loose}
-use Rattle.dft_netlist.specs.Logic.{Cell, Scan, Force}
+use Rattle.dft_behavior.specs.Logic.{Cell, Scan, Force}
 use Rattle.dft_registers.specs.Layout.{Layout, place_at}
 use Rattle.dft_logic.specs.declared.circuit.FlipFlop.{FlipFlop}
 use Rattle.dft_evaluator.specs.Wides.{values_in}

@@ -4,22 +4,22 @@ use Rattle.dft_base.specs.declared.tri.Tri.{Tri}
 use Rattle.dft_base.specs.declared.tri.Tri.TheVariants.{One}
 use Rattle.dft_base.specs.Tri.{known}
 use Rattle.dft_cells.specs.Tables.{and_tri, or_tri}
-use Rattle.dft_netlist.specs.Logic.{Meaning}
+use Rattle.dft_behavior.specs.Logic.{Meaning}
 use Rattle.dft_netlist.specs.Drivers.{nets_of}
-use Rattle.dft_netlist.specs.Settled.{value_from, value_given}
+use Rattle.dft_behavior.specs.Settled.{value_from, value_given}
 use Rattle.dft_lanes.specs.declared.wide.Wide.{Wide}
 use Rattle.dft_evaluator.specs.Wides.{value_in, values_in, IsWide}
 use Rattle.dft_logic.specs.declared.circuit.Op.{Op}
-use Rattle.dft_netlist.specs.Logic.{Cell}
-use Rattle.dft_netlist.specs.Runs.{takes, Vector}
+use Rattle.dft_behavior.specs.Logic.{Cell}
+use Rattle.dft_behavior.specs.Runs.{takes, Vector}
 use Rattle.dft_abstract.specs.Cycle.{tri_forced_by, Round, IsRound, after_round}
 use Rattle.dft_logic.specs.declared.circuit.FlipFlop.{FlipFlop}
 use Rattle.dft_logic.specs.Circuit.{Circuit, op_at, meaning, flag_at, cell_of, cell_at, next_at, logic_at}
 use Rattle.dft_logic.specs.Values.{value_at}
-use Rattle.dft_logic.specs.Needs.{HasAll, still_from, next_reads}
-use Rattle.dft_logic.specs.Shows.{still_needs}
-use Rattle.dft_logic.specs.ShownTables.{shown_at}
-use Rattle.dft_logic.specs.declared.shown.Shown.{Shown}
+use Rattle.dft_takings.specs.Needs.{HasAll, still_from, next_reads}
+use Rattle.dft_takings.specs.Shows.{still_needs}
+use Rattle.dft_takings.specs.ShownTables.{shown_at}
+use Rattle.dft_takings.specs.declared.shown.Shown.{Shown}
 use Rattle.dft_fault_laws.specs.Stuck.{with_fault}
 use Rattle.dft_fault_lanes.specs.declared.clamps.Clamp.{Clamp}
 use Rattle.dft_fault_lanes.specs.declared.sweeping.Setting.{Setting}

@@ -3,10 +3,10 @@ use Rattle.std.specs.Prelude.{ℕ, Bool, ◌≡◌, ◌<◌, List}
 use Rattle.dft_lanes.specs.declared.wide.Wide.{Wide}
 use Rattle.dft_logic.specs.Circuit.{Circuit, logic_at, flag_at}
 use Rattle.dft_logic.specs.Values.{value_at}
-use Rattle.dft_logic.specs.Needs.{IsStillOn}
+use Rattle.dft_takings.specs.Needs.{IsStillOn}
 use Rattle.dft_evaluator.specs.Wides.{values_in}
 use Rattle.dft_netlist.specs.Netlist.{Netlist}
-use Rattle.dft_netlist.specs.Logic.{logic_of}
+use Rattle.dft_behavior.specs.Logic.{logic_of}
 use Rattle.dft_patterns.specs.Patterns.{Patterns}
 use Rattle.dft_replay.specs.Rows.{ports_of, rows_of}
 use Rattle.dft_faults.specs.declared.fault.Fault.{Fault}

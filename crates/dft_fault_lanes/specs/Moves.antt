@@ -3,7 +3,7 @@ use Rattle.std.specs.Prelude.{ℕ, Bool, true, ◌≡◌, ◌<◌, ◌⊎◌, �
 use Rattle.dft_base.specs.declared.tri.Tri.{Tri}
 use Rattle.dft_base.specs.declared.tri.Tri.TheVariants.{One}
 use Rattle.dft_netlist.specs.Drivers.{Source, Net, Tied, Loose, nets_of}
-use Rattle.dft_netlist.specs.Logic.{Cell, Scan}
+use Rattle.dft_behavior.specs.Logic.{Cell, Scan}
 use Rattle.dft_registers.specs.Layout.{Layout, place_at, cells_at}
 use Rattle.dft_lane_registers.specs.Cells.{Course, Rests, Enters, Follows, course_in}
 use Rattle.dft_logic.specs.declared.circuit.FlipFlop.{FlipFlop}

@@ -5,15 +5,15 @@ use Rattle.dft_base.specs.declared.tri.Tri.TheVariants.{Unknown}
 use Rattle.dft_lanes.specs.declared.wide.Wide.{Wide}
 use Rattle.dft_netlist.specs.declared.ids.NetId.{NetId}
 use Rattle.dft_netlist.specs.Drivers.{Source, Net, Tied, Loose, nets_of}
-use Rattle.dft_netlist.specs.Logic.{Cell, Scan}
+use Rattle.dft_behavior.specs.Logic.{Cell, Scan}
 use Rattle.dft_netlist.specs.Orders.{Has}
-use Rattle.dft_netlist.specs.Settled.{value_from}
+use Rattle.dft_behavior.specs.Settled.{value_from}
 use Rattle.dft_patterns.specs.declared.act.Act.{Act}
 use Rattle.dft_replay.specs.Vectors.{act_at, net_at, printed}
 use Rattle.dft_evaluator.specs.Wides.{values_in}
 use Rattle.dft_logic.specs.declared.circuit.FlipFlop.{FlipFlop}
 use Rattle.dft_logic.specs.Circuit.{flag_at}
-use Rattle.dft_logic.specs.Needs.{HasAll, chosen_reads, next_reads}
+use Rattle.dft_takings.specs.Needs.{HasAll, chosen_reads, next_reads}
 use Rattle.dft_fault_lanes.specs.declared.marking.Steer.{Steer}
 use Rattle.dft_fault_lanes.specs.Lanes.{flop_at, is_changed}
 

@@ -2,10 +2,10 @@
 use Rattle.std.specs.Prelude.{ℕ, Bool, false, ◌≡◌, ◌<◌, ◌⊎◌, List, [], Option}
 use Rattle.dft_base.specs.declared.tri.Tri.{Tri}
 use Rattle.dft_lanes.specs.declared.wide.Wide.{Wide}
-use Rattle.dft_logic.specs.declared.shown.Shown.{Shown}
+use Rattle.dft_takings.specs.declared.shown.Shown.{Shown}
 use Rattle.dft_logic.specs.Circuit.{Circuit, logic_at, flag_at}
-use Rattle.dft_logic.specs.Shows.{IsShownOn}
-use Rattle.dft_logic.specs.ShownTables.{shown_at, edges_of}
+use Rattle.dft_takings.specs.Shows.{IsShownOn}
+use Rattle.dft_takings.specs.ShownTables.{shown_at, edges_of}
 use Rattle.dft_fault_laws.specs.Rounds.{every}
 use Rattle.dft_fault_lanes.specs.declared.clamps.Clamp.{Clamp}
 use Rattle.dft_fault_lanes.specs.Lanes.{Situation, AreSettledOn, AreActedOn, AreTaken, IsStuck, IsLive, KeepsSteady, HasLaneRound, flop_at, is_changed}

@@ -5,7 +5,7 @@ ghost use Rattle.dft_cells.specs.declared.kind.Role.{Role as ARole};
 ghost use Rattle.dft_netlist.specs.declared.instance.Instance.{Instance as AnInstance};
 ghost use Rattle.dft_netlist.specs.declared.instance.Signal.TheVariants.{Net};
 ghost use Rattle.dft_netlist.specs.Drivers.{shape_of};
-ghost use Rattle.dft_netlist.specs.Logic.{Ports};
+ghost use Rattle.dft_behavior.specs.Logic.{Ports};
 ghost use Rattle.dft_netlist.specs.Sound.{AreLive, IsLive};
 ghost use Rattle.dft_logic.specs.Circuit.{flag_at};
 ghost use Rattle.dft_logic.specs.Compiling.{IsCircuitOf};
@@ -14,8 +14,9 @@ ghost use Rattle.dft_fault_laws.specs.Stuck.{IsControl};
 ghost use Rattle.dft_fault_lanes.specs.Controls.{HasPins, HasPinsOf};
 
 use dft_cells::{Cell, Role};
-use dft_logic::{Circuit, mark_needed};
+use dft_logic::Circuit;
 use dft_netlist::{Design, Instance, Signal, role_at};
+use dft_takings::mark_needed;
 use std::alloc::{AllocError, Global};
 
 // Whether a clock, a reset or a set comes in by a pin of this role.

@@ -4,8 +4,8 @@ ghost use Rattle.std.specs.Prelude.{◌≡◌, ◌∷◌, ◌<◌, [], ℕ, Bool
 ghost use Rattle.dft_netlist.specs.Drivers.{nets_of};
 ghost use Rattle.dft_logic.specs.Circuit as circuits;
 ghost use Rattle.dft_logic.specs.Circuit.{cell_of, source_at};
-ghost use Rattle.dft_logic.specs.EntryTables.{MarksAll};
-ghost use Rattle.dft_logic.specs.Needs.{chosen_reads};
+ghost use Rattle.dft_takings.specs.EntryTables.{MarksAll};
+ghost use Rattle.dft_takings.specs.Needs.{chosen_reads};
 ghost use Rattle.dft_replay.specs.Vectors as vectors;
 ghost use Rattle.dft_replay.specs.Vectors.{AreSignals, act_at, net_at};
 ghost use Rattle.dft_replay.specs.Rows as rows;

@@ -4,7 +4,7 @@ ghost use Rattle.std.specs.Prelude.{◌≡◌, ◌≤◌, [], ℕ, false, length
 ghost use Rattle.std.specs.Vec.{vec_capacity};
 ghost use Rattle.dft_netlist.specs.Orders.{Has, numbers_of};
 ghost use Rattle.dft_logic.specs.Circuit.{AreOrdered, cell_of, flag_at as is_up, logic_at};
-ghost use Rattle.dft_logic.specs.Needs.{HasAll, IsStrobeClosed};
+ghost use Rattle.dft_takings.specs.Needs.{HasAll, IsStrobeClosed};
 ghost use Rattle.dft_replay.specs.Rows as rows;
 ghost use Rattle.dft_replay.specs.Vectors.{AreSignals};
 ghost use Rattle.dft_fault_lanes.specs.Lanes.{flop_at, is_changed};
@@ -25,9 +25,10 @@ use crate::steady::are_steady;
 use crate::vectors::{flag_pulses, lower};
 use dft_base::Tri;
 use dft_lane_registers::Cells;
-use dft_logic::{Circuit, FlipFlop, Shown, differ, list_marked, mark_needed, show_all, value_at};
+use dft_logic::{Circuit, FlipFlop, differ, value_at};
 use dft_netlist::NetId;
 use dft_patterns::Act;
+use dft_takings::{Shown, list_marked, mark_needed, show_all};
 use std::alloc::{AllocError, Global};
 
 /// What vectors need that pulse the same clocks, by signal and by net, at the same value of a net that scan enables come by: what nets

@@ -3,12 +3,12 @@
 ghost use Rattle.std.specs.Prelude.{◌≡◌, ◌⊎◌, ◌<◌, ◌∷◌, [], ℕ, length, true, false};
 ghost use Rattle.dft_base.specs.declared.tri.Tri.{Tri as ATri};
 ghost use Rattle.dft_netlist.specs.Drivers.{nets_of};
-ghost use Rattle.dft_netlist.specs.Settled.{value_from};
+ghost use Rattle.dft_behavior.specs.Settled.{value_from};
 ghost use Rattle.dft_logic.specs.Circuit.{cell_of, source_at};
-ghost use Rattle.dft_logic.specs.Needs.{HasAll, chosen_reads, next_reads};
-ghost use Rattle.dft_logic.specs.Shows as shows;
-ghost use Rattle.dft_logic.specs.Shows.{still_needs};
-ghost use Rattle.dft_logic.specs.ShownTables.{shown_at, shown_of};
+ghost use Rattle.dft_takings.specs.Needs.{HasAll, chosen_reads, next_reads};
+ghost use Rattle.dft_takings.specs.Shows as shows;
+ghost use Rattle.dft_takings.specs.Shows.{still_needs};
+ghost use Rattle.dft_takings.specs.ShownTables.{shown_at, shown_of};
 ghost use Rattle.dft_evaluator.specs.Wides.{AreWides, IsWide, value_in, values_in};
 ghost use Rattle.dft_fault_laws.specs.Rounds.{every};
 ghost use Rattle.dft_fault_lanes.specs.Lanes.{IsLive, KeepsSteady, flop_at, is_changed};
@@ -18,8 +18,9 @@ use crate::marking::{Steer, enable_value};
 use dft_base::Tri;
 use dft_evaluator::{all, operand};
 use dft_lanes::{Wide, wide_and, wide_not};
-use dft_logic::{FlipFlop, Operand, ScanPins, Shown};
+use dft_logic::{FlipFlop, Operand, ScanPins};
 use dft_netlist::NetId;
+use dft_takings::Shown;
 
 // Whether what shows this is still in the view of a domain.
 fn is_still(shown: Shown, view: NetId) -> bool

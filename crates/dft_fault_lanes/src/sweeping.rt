@@ -3,11 +3,11 @@
 ghost use Rattle.std.specs.Prelude.{◌≡◌, ◌<◌, [], ℕ, length, if◌then◌else◌};
 ghost use Rattle.dft_base.specs.Tri.{known};
 ghost use Rattle.dft_netlist.specs.Orders.{Has, numbers_of};
-ghost use Rattle.dft_netlist.specs.Settled as settled;
-ghost use Rattle.dft_netlist.specs.Settled.{inverse, value_given};
+ghost use Rattle.dft_behavior.specs.Settled as settled;
+ghost use Rattle.dft_behavior.specs.Settled.{inverse, value_given};
 ghost use Rattle.dft_logic.specs.Circuit as circuits;
 ghost use Rattle.dft_logic.specs.Circuit.{AreOrdered, Fits, meaning, op_at};
-ghost use Rattle.dft_logic.specs.Needs.{still_from};
+ghost use Rattle.dft_takings.specs.Needs.{still_from};
 ghost use Rattle.dft_logic.specs.Values as spec;
 ghost use Rattle.dft_evaluator.specs.Wides.{AreWides, IsWide, values_in};
 ghost use Rattle.dft_fault_lanes.specs.Lanes.{AreClamps, lane_given, situation_of};

@@ -3,10 +3,10 @@ use Rattle.std.proofs.Common.{ℕ, zero, suc, ◌≡◌, ◌==◌, ◌<◌, Bool
 use Rattle.std.specs.Prelude.{if◌then◌else◌}
 use Rattle.std.proofs.lemmas.Bool.{eq-eqb, eqb-true}
 use Rattle.dft_netlist.specs.Drivers.{Source, Tied, nets_of, AreBelow}
-use Rattle.dft_netlist.specs.Logic.{Logic, Meaning, Input, Clock, Gate, Joined, Flop, Lockup, Free, reads, IsRanked}
+use Rattle.dft_behavior.specs.Logic.{Logic, Meaning, Input, Clock, Gate, Joined, Flop, Lockup, Free, reads, IsRanked}
 use Rattle.dft_abstract.specs.Cycle.{Pulse}
-use Rattle.dft_logic.specs.Shows.{Shown, Nothing, Domain, Several, is_still, with_shown, shown_by, held_shown, lockup_shown, shown_given, IsShownOn}
-use Rattle.dft_logic.proofs.ShownLemmas.{both_still}
+use Rattle.dft_takings.specs.Shows.{Shown, Nothing, Domain, Several, is_still, with_shown, shown_by, held_shown, lockup_shown, shown_given, IsShownOn}
+use Rattle.dft_takings.proofs.ShownLemmas.{both_still}
 use Rattle.dft_fault_laws.specs.Stuck.{with_fault}
 use Rattle.dft_fault_laws.specs.Rounds.{every}
 use Rattle.dft_fault_laws.specs.Laws.{RankStays, StillStays}

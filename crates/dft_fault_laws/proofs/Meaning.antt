@@ -5,8 +5,8 @@ use Rattle.std.specs.Option.{option_or}
 use Rattle.std.proofs.lemmas.Bool.Decides.{eqb_tells}
 use Rattle.std.proofs.lemmas.Option.{slice_get-map}
 use Rattle.dft_cells.specs.declared.cell.Cell as library
-use Rattle.dft_cells.specs.declared.kind.Kind.{Kind}
-use Rattle.dft_cells.specs.declared.kind.Kind.TheVariants.{Buf, Inv, And, Nand, Or, Nor, Xor, Xnor, Mux2, Table, Tie0, Tie1, Dff, Dffr, Dffs, Sdff, Sdffr, Sdffs, Lockup, Opaque}
+use Rattle.dft_cells.specs.declared.kind.Gate.{Gate as GateKind}
+use Rattle.dft_cells.specs.declared.kind.Gate.TheVariants.{Buf}
 use Rattle.dft_cells.specs.declared.kind.Role.{Role}
 use Rattle.dft_cells.specs.declared.kind.Role.TheVariants as role
 use Rattle.dft_cells.specs.FlipFlops.{is_flip_flop}
@@ -16,10 +16,11 @@ use Rattle.dft_netlist.specs.declared.instance.Signal.{Signal}
 use Rattle.dft_netlist.specs.Netlist.{Netlist}
 use Rattle.dft_netlist.specs.Drivers.{Source, Net, Tied, Loose, Driver, Input, Gate, Flop, Free, driver, nets_of, pins_at, pins_of, kind_of, kind_at, shape_of, source_of, connections_from}
 use Rattle.dft_netlist.specs.Drivers as drivers
-use Rattle.dft_netlist.specs.Traces.{Root, root_of_passed, root_of_driver, root_within, passed_by_gate}
-use Rattle.dft_netlist.specs.ClockRoots.{ClockRoot, turn_of, turned_by, clock_of_gate, clock_of_driver, clock_within}
-use Rattle.dft_netlist.specs.Logic.{Ports, Joined, same_role, pin_of, or_loose, domain_of, domain_at, force_of, forcing, scan_of, modelled, flip_flop, is_lockup, locked, lock_up, cell_or_none, flop_meaning, lockup_meaning, meaning_of, logic_of}
-use Rattle.dft_logic.specs.Needs.{HasAll}
+use Rattle.dft_behavior.specs.Traces.{Root, root_of_passed, root_of_driver, root_within, passed_by_gate}
+use Rattle.dft_behavior.specs.ClockRoots.{ClockRoot, turn_of, turned_by, clock_of_gate, clock_of_driver, clock_within}
+use Rattle.dft_netlist.specs.Connections.{same_role, pin_of}
+use Rattle.dft_behavior.specs.Logic.{Ports, Joined, or_loose, domain_of, domain_at, force_of, forcing, scan_of, modelled, flip_flop, is_lockup, locked, lock_up, cell_or_none, flop_meaning, lockup_meaning, meaning_of, logic_of}
+use Rattle.dft_takings.specs.Needs.{HasAll}
 use Rattle.dft_faults.specs.declared.fault.Fault.{Fault}
 use Rattle.dft_faults.specs.Faulty.{loosened_pin, loosened_pins, loosened, faulty, IsFault}
 use Rattle.dft_faults.proofs.Finished.{drivers_stay}
@@ -99,30 +100,12 @@ driver_clock control a b net (Flop i inverted) has same = refl
 driver_clock control a b net (drivers.Lockup i) has same = refl
 driver_clock control a b net Free has same = refl
 
-gate_root : (control : ℕ → Bool) (a b : Source → Root) (kind : Kind) (inputs : List Source) → HasAll control (behind_gate (turn_of kind) inputs) →
+gate_root : (control : ℕ → Bool) (a b : Source → Root) (kind : GateKind) (inputs : List Source) → HasAll control (behind_gate (turn_of kind) inputs) →
     ((source : Source) → HasAll control (nets_of (source ∷ [])) → a source ≡ b source) → root_of_passed a (passed_by_gate kind inputs) ≡ root_of_passed b (passed_by_gate kind inputs)
 gate_root control a b Buf [] has same = refl
 gate_root control a b Buf (source ∷ []) has same = same source has
 gate_root control a b Buf (source ∷ more ∷ inputs) has same = refl
-gate_root control a b Inv inputs has same = refl
-gate_root control a b And inputs has same = refl
-gate_root control a b Nand inputs has same = refl
-gate_root control a b Or inputs has same = refl
-gate_root control a b Nor inputs has same = refl
-gate_root control a b Xor inputs has same = refl
-gate_root control a b Xnor inputs has same = refl
-gate_root control a b Mux2 inputs has same = refl
-gate_root control a b (Table number) inputs has same = refl
-gate_root control a b Tie0 inputs has same = refl
-gate_root control a b Tie1 inputs has same = refl
-gate_root control a b Dff inputs has same = refl
-gate_root control a b Dffr inputs has same = refl
-gate_root control a b Dffs inputs has same = refl
-gate_root control a b Sdff inputs has same = refl
-gate_root control a b Sdffr inputs has same = refl
-gate_root control a b Sdffs inputs has same = refl
-gate_root control a b Lockup inputs has same = refl
-gate_root control a b Opaque inputs has same = refl
+gate_root control a b _ inputs has same = refl
 
 driver_root : (control : ℕ → Bool) (a b : Source → Root) (net : ℕ) (d : Driver) → HasAll control (behind d) →
     ((source : Source) → HasAll control (nets_of (source ∷ [])) → a source ≡ b source) → root_of_driver a net d ≡ root_of_driver b net d

@@ -6,14 +6,14 @@ use Rattle.dft_base.specs.declared.tri.Tri.TheVariants.{Zero}
 use Rattle.dft_base.specs.Tri.{known}
 use Rattle.dft_base.proofs.SumLemmas.{and_false}
 use Rattle.dft_netlist.specs.Drivers.{Source, nets_of}
-use Rattle.dft_netlist.specs.Logic.{Logic}
-use Rattle.dft_netlist.specs.Settled.{TriSources, is_wire, value_from, IsTriSettled}
-use Rattle.dft_netlist.specs.Runs.{Vector}
+use Rattle.dft_behavior.specs.Logic.{Logic}
+use Rattle.dft_behavior.specs.Settled.{TriSources, is_wire, value_from, IsTriSettled}
+use Rattle.dft_behavior.specs.Runs.{Vector}
 use Rattle.dft_abstract.specs.Cycle.{Pulse, after_pulse, rise_of, fall_of, strobe_sources, IsLeast, Round}
 use Rattle.dft_abstract.proofs.Least.{none_changes}
-use Rattle.dft_logic.specs.Needs.{HasAll, before_from, next_reads}
-use Rattle.dft_logic.specs.Shows.{Shown, is_still, still_needs}
-use Rattle.dft_logic.proofs.ShownLemmas.{pass_of_shown}
+use Rattle.dft_takings.specs.Needs.{HasAll, before_from, next_reads}
+use Rattle.dft_takings.specs.Shows.{Shown, is_still, still_needs}
+use Rattle.dft_takings.proofs.ShownLemmas.{pass_of_shown}
 use Rattle.dft_fault_laws.specs.Rounds.{every, IsPass, IsRise, falls_of}
 use Rattle.dft_fault_laws.specs.Laws.{PassOfBound, RoundOfPasses, RoundOfRises}
 use Rattle.dft_fault_laws.proofs.Bounds.{shown_there}

@@ -2,10 +2,10 @@
 use Rattle.std.specs.Prelude.{ℕ, Bool, false, ◌≡◌}
 use Rattle.dft_base.specs.declared.tri.Tri.{Tri}
 use Rattle.dft_netlist.specs.Netlist.{Netlist}
-use Rattle.dft_netlist.specs.Logic.{Logic, Ports, logic_of, IsRanked}
-use Rattle.dft_netlist.specs.Runs.{Vector}
+use Rattle.dft_behavior.specs.Logic.{Logic, Ports, logic_of, IsRanked}
+use Rattle.dft_behavior.specs.Runs.{Vector}
 use Rattle.dft_abstract.specs.Cycle.{Pulse, changes, after_pulse, rise_of, IsLeast, Round, IsRound, after_round}
-use Rattle.dft_logic.specs.Shows.{Shown, IsShownOn}
+use Rattle.dft_takings.specs.Shows.{Shown, IsShownOn}
 use Rattle.dft_faults.specs.declared.fault.Fault.{Fault}
 use Rattle.dft_faults.specs.Faulty.{faulty, IsFault}
 use Rattle.dft_fault_laws.specs.Stuck.{with_fault, IsApart}

@@ -1,12 +1,12 @@
 -- A round of one pass: what cells have after the rises and after the falls of a vector, by one assignment each.
 use Rattle.std.specs.Prelude.{ℕ, Bool, true, ◌≡◌}
 use Rattle.dft_base.specs.declared.tri.Tri.{Tri}
-use Rattle.dft_netlist.specs.Logic.{Logic}
-use Rattle.dft_netlist.specs.Runs.{Vector}
+use Rattle.dft_behavior.specs.Logic.{Logic}
+use Rattle.dft_behavior.specs.Runs.{Vector}
 use Rattle.dft_abstract.specs.Cycle.{Pulse, changes, after_pulse, rise_of, falls_after, strobe_sources}
-use Rattle.dft_netlist.specs.Settled.{IsTriSettled}
-use Rattle.dft_logic.specs.Needs.{IsBefore}
-use Rattle.dft_logic.specs.Shows.{Shown, is_still, IsShownOn, HasStillReads}
+use Rattle.dft_behavior.specs.Settled.{IsTriSettled}
+use Rattle.dft_takings.specs.Needs.{IsBefore}
+use Rattle.dft_takings.specs.Shows.{Shown, is_still, IsShownOn, HasStillReads}
 
 -- all nets
 abbrev pub every : (net : ℕ) → Bool

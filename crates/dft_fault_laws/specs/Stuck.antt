@@ -5,9 +5,10 @@ use Rattle.dft_cells.specs.declared.kind.Role.TheVariants as role
 use Rattle.dft_netlist.specs.Netlist.{Netlist}
 use Rattle.dft_netlist.specs.Drivers.{Source, Net, Tied, Driver, Input, Gate, Flop, Free, driver, nets_of, pins_of}
 use Rattle.dft_netlist.specs.Drivers as drivers
-use Rattle.dft_netlist.specs.ClockRoots.{turn_of}
-use Rattle.dft_netlist.specs.Logic.{Logic, Joined, pin_of}
-use Rattle.dft_logic.specs.Needs.{HasAll}
+use Rattle.dft_behavior.specs.ClockRoots.{turn_of}
+use Rattle.dft_netlist.specs.Connections.{pin_of}
+use Rattle.dft_behavior.specs.Logic.{Logic, Joined}
+use Rattle.dft_takings.specs.Needs.{HasAll}
 use Rattle.dft_faults.specs.declared.fault.Fault.{Fault}
 
 -- a logic in which a net has a constant

@@ -3,7 +3,7 @@ use Rattle.std.specs.Prelude.{ℕ, Bool, true, false, not, ◌&&◌, List, [], �
 use Rattle.std.specs.List.{list_any, range_with_len}
 use Rattle.dft_netlist.specs.declared.ids.NetId.{NetId}
 use Rattle.dft_netlist.specs.Netlist.{Netlist}
-use Rattle.dft_netlist.specs.ClockRoots.{ClockRoot, clock_root_of}
+use Rattle.dft_behavior.specs.ClockRoots.{ClockRoot, clock_root_of}
 use Rattle.dft_netlist.specs.Connections.{is_input}
 use Rattle.dft_netlist.specs.Drivers.{Net, driver}
 use Rattle.dft_netlist.specs.NetDrivers.{times_driven}

@@ -1,12 +1,13 @@
 //! The faults of a design.
 
 ghost use Rattle.std.specs.Prelude.{◌≡◌, ◌<◌, IfOk, length};
-ghost use Rattle.dft_netlist.specs.ClockTables.{AreClocks};
+ghost use Rattle.dft_behavior.specs.ClockTables.{AreClocks};
 ghost use Rattle.dft_netlist.specs.Netlist.{Netlist};
 ghost use Rattle.dft_faults.specs.Faults as spec;
 
 use crate::fault::Fault;
-use dft_netlist::{ClockRoot, Design, NetDriver, NetId, Signal, clock_in};
+use dft_behavior::{ClockRoot, clock_in, find_clocks};
+use dft_netlist::{Design, NetDriver, NetId, Signal};
 use std::alloc::{AllocError, Global};
 
 // Whether this is one of the clocks.
@@ -43,7 +44,7 @@ fn has_faults(design: &Design, shown: &[Option<ClockRoot>], clocks: &[NetId], ne
 pub fn faults(alloc: Global, design: &Design, clocks: &[NetId]) -> Result<Vec<Fault>, AllocError>
     ensures { IfOk result (λ faults. faults.items ≡ spec.faults design.now (spec.is_clock_in clocks.now)) }
 {
-    let shown = design.clocks(alloc)?;
+    let shown = find_clocks(alloc, design)?;
     let mut faults = Vec::new(alloc);
     for number in 0..design.net_count() {
         let net = NetId(number);

@@ -3,33 +3,41 @@ ghost use Rattle.dft_files.specs.Outside.{Held, KeepsOthers, Rose, RoseBy, Told,
 ghost use Rattle.dft_files.specs.Put.{Adds, AddsPrefix};
 
 use std::alloc::{AllocError, Global};
+use thiserror::Error;
 
 /// Why a file was not loaded.
-#[derive(Debug, Drop)]
+#[derive(Debug, Error, Drop)]
 pub enum LoadError {
     /// The outside failed, or has no file of this name.
+    #[error("the file cannot be read")]
     Failed,
     /// The file has more bytes than the limit.
+    #[error("the file has more bytes than its limit")]
     TooLong,
     /// Memory ran out.
+    #[error("out of memory")]
     Memory(AllocError),
 }
 
 /// Why a file was not saved as a whole.
-#[derive(Debug, Drop)]
+#[derive(Debug, Error, Drop)]
 pub enum SaveError {
     /// The outside failed.
+    #[error("the file cannot be written")]
     Failed,
     /// Memory ran out.
+    #[error("out of memory")]
     Memory(AllocError),
 }
 
 /// Why not all bytes were put.
-#[derive(Debug, Drop)]
+#[derive(Debug, Error, Drop)]
 pub enum PutError {
     /// The outside failed.
+    #[error("standard output cannot be written")]
     Failed,
     /// Memory ran out.
+    #[error("out of memory")]
     Memory(AllocError),
 }
 

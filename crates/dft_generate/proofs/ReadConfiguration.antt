@@ -9,11 +9,11 @@ use Rattle.std.proofs.lemmas.Str.{IsUtf8-from_ascii}
 use Rattle.toml.specs.Data.{Members, array, integer, item, member, no_items, no_members, string, table}
 use Rattle.toml.specs.Parse.{parse_document}
 use Rattle.toml.proofs.OnLiterals.{toml_on_literals}
-use Rattle.dft_config.specs.Checks.{first_empty, first_repeated, first_unreached}
-use Rattle.dft_config.specs.Reading.{carrying_of, checked, clocking_of, compactor_of, keys_of, loading_of, names_of_ports, reading, ring_of, steering_of}
-use Rattle.dft_config.specs.Sections.{has_key, is_always_key}
-use Rattle.dft_config.specs.Settings.{domains, fill, groups, injectors, keep, number, numbers, phase, port_name, resets, taps}
-use Rattle.dft_config.specs.Unknown.{first_unknown}
+use Rattle.dft_config_text.specs.Checks.{first_empty, first_repeated, first_unreached}
+use Rattle.dft_config_text.specs.Reading.{carrying_of, checked, clocking_of, compactor_of, keys_of, loading_of, names_of_ports, reading, ring_of, steering_of}
+use Rattle.dft_config_text.specs.Sections.{has_key, is_always_key}
+use Rattle.dft_config_text.specs.Settings.{domains, fill, groups, injectors, keep, number, numbers, phase, port_name, resets, taps}
+use Rattle.dft_config_text.specs.Unknown.{first_unknown}
 use Rattle.dft_generate.specs.Configurations.{ConfigurationIsRead, configuration, configuration_text}
 
 -- ---- the table of the text

@@ -4,7 +4,7 @@ use Rattle.std.specs.Prelude.{◌++◌, ◌∷◌, [], codes}
 use Rattle.dft_base.specs.Lexing.{Text}
 use Rattle.dft_config.specs.Config.{Config}
 use Rattle.dft_config.specs.declared.config.FillRule.TheVariants.{Zeros}
-use Rattle.dft_config.specs.Refusals.{IsConfig}
+use Rattle.dft_config_text.specs.Refusals.{IsConfig}
 
 unfoldable pub configuration_text : Text
 configuration_text =

@@ -3,8 +3,10 @@ use Rattle.std.proofs.Common.{◌≡◌, ℕ, suc, ◌+◌, ◌*◌, ◌%◌, �
 use Rattle.std.proofs.Math.Nat.{mod-lt}
 use Rattle.dft_base.specs.Lexing.{Text}
 use Rattle.dft_base.specs.Words.{is_reserved, reserved_words}
-use Rattle.dft_cells.specs.declared.kind.Kind.{Kind}
-use Rattle.dft_cells.specs.declared.kind.Kind.TheVariants as primitive
+use Rattle.dft_cells.specs.declared.kind.Forcing.TheVariants as force
+use Rattle.dft_cells.specs.declared.kind.Kind.TheVariants as cell_kind
+use Rattle.dft_cells.specs.declared.kind.Gate.{Gate}
+use Rattle.dft_cells.specs.declared.kind.Gate.TheVariants as primitive
 use Rattle.dft_cells.specs.declared.cell.Cell.{Cell}
 use Rattle.dft_cells.specs.Cells.{find_cell}
 use Rattle.dft_cells.specs.Standard.{gate, flip_flop, standard_cells}
@@ -71,14 +73,14 @@ flop_some cell = omega arith
 -- ---- the cells
 
 -- the kinds of the gates
-pub data IsGateKind : Kind → Type 0 where
+pub data IsGateKind : Gate → Type 0 where
   IsNand : IsGateKind primitive.Nand
   IsNor : IsGateKind primitive.Nor
   IsXor : IsGateKind primitive.Xor
   IsAnd : IsGateKind primitive.And
 
 -- what holds of each of them holds of all
-pub each_kind : (P : Kind → Type 0) → P primitive.Nand → P primitive.Nor → P primitive.Xor → P primitive.And → (k : Kind) → IsGateKind k → P k
+pub each_kind : (P : Gate → Type 0) → P primitive.Nand → P primitive.Nor → P primitive.Xor → P primitive.And → (k : Gate) → IsGateKind k → P k
 each_kind P nand nor xor and _ IsNand = nand
 each_kind P nand nor xor and _ IsNor = nor
 each_kind P nand nor xor and _ IsXor = xor
@@ -86,12 +88,12 @@ each_kind P nand nor xor and _ IsAnd = and
 
 -- the gate of two inputs with this name and this number
 pub record IsGateCell (name : Text) (number : ℕ) : Type 0 where
-  pub kind : Kind
+  pub kind : Gate
   pub found : find_cell standard_cells name ≡ Some (record { 0 = number })
   pub there : slice_get standard_cells number ≡ Some (gate name kind (codes "AB"))
   pub plain : IsPlain name
   -- its output is driven by the gate of its inputs
-  pub acts : (i : ℕ) (inputs : List Source) → driver_of_kind kind i false inputs ≡ drivers.Gate kind inputs
+  pub acts : (i : ℕ) (inputs : List Source) → driver_of_kind (cell_kind.Gate kind) i false inputs ≡ drivers.Gate kind inputs
   pub among : IsGateKind kind
 
 gate_by : (a b c : Bool) → IsGateCell (cond a (codes "NAND2") (cond b (codes "NOR2") (cond c (codes "XOR2") (codes "AND2")))) (cond a 12 (cond b 15 (cond c 27 0)))
@@ -221,7 +223,7 @@ gate_step size words cell names nets instances all flops grows tied some wide sm
 
 -- the cell of flip-flops
 abbrev pub dff : Cell
-dff = flip_flop (codes "DFF") primitive.Dff 21
+dff = flip_flop (codes "DFF") force.Nothing 21
 
 flop_same : (cell : ℕ) (nets all : List Text) → has_name nets (d_of cell) ≡ true → Grows (with_net (q_of cell) nets) all
     → cell_instance (record { 0 = 5 }) (f_of cell) (Some (signal.Net (record { 0 = cell % 2 })) ∷ Some (net_in nets (d_of cell)) ∷ Some (net_in (with_net (q_of cell) nets) (q_of cell)) ∷ None ∷ []) ≡ flop_in all cell

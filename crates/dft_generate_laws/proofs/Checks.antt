@@ -6,10 +6,11 @@ use Rattle.std.proofs.lemmas.Bool.Decides.{nat_tests}
 use Rattle.std.proofs.lemmas.List.Sums.{sum_by-cons}
 use Rattle.std.proofs.lemmas.Bool.{and_right}
 use Rattle.dft_base.specs.Lexing.{Text}
+use Rattle.dft_cells.specs.declared.kind.Kind.TheVariants as cell_kind
 use Rattle.dft_cells.specs.declared.cell.Cell.{Cell}
 use Rattle.dft_cells.specs.Standard.{standard_cells}
 use Rattle.dft_netlist.specs.Drivers.{Source, Net, Driver, Input, Joined, Driven, driver, driver_in, shape_of_cell, connections_from}
-use Rattle.dft_netlist.specs.ClockRoots.{ClockRoot, turn_of, clock_of_gate, clock_of_driver, clock_within}
+use Rattle.dft_behavior.specs.ClockRoots.{ClockRoot, turn_of, clock_of_gate, clock_of_driver, clock_within}
 use Rattle.dft_rules.specs.declared.error.RuleError.{RuleError}
 use Rattle.dft_rules.specs.declared.judged.Judged.{Judged}
 use Rattle.dft_rules.specs.declared.judged.Judged.TheVariants.{Scanned}
@@ -35,7 +36,7 @@ ports_known size words = rw (clock0_net size words, clock1_net size words) refl
 gate_absent : (all : List Text) (size : ℕ) (words : List ℕ) (cell : ℕ) → present standard_cells (gate_in all size words cell) ≡ None
 gate_absent all size words cell =
     let g = gate_known (word_at words (cell * 3)) in
-    ap (λ (o : Option Cell). present_as (shape_of_cell o).kind (Some (g_of cell))) g.there ∙ each_kind (λ kind. present_as kind (Some (g_of cell)) ≡ None) refl refl refl refl g.kind g.among
+    ap (λ (o : Option Cell). present_as (shape_of_cell o).kind (Some (g_of cell))) g.there ∙ each_kind (λ k. present_as (cell_kind.Gate k) (Some (g_of cell)) ≡ None) refl refl refl refl g.kind g.among
 
 none_present : (all : List Text) (size : ℕ) (words : List ℕ) (count from : ℕ) → first_present standard_cells (instances_in all size words (range_with_len from count)) ≡ None
 none_present all size words zero from = refl
@@ -50,7 +51,7 @@ gate_data : (all : List Text) (size : ℕ) (words : List ℕ) (cell net : ℕ)
 gate_data all size words cell net a b =
     let g = gate_known (word_at words (cell * 3)) in
     ap (λ (o : Option Cell). uses_data (shape_of_cell o).kind && list_any (takes net) (connections_from 0 (shape_of_cell o).roles (gate_in all size words cell).pins)) g.there
-    ∙ each_kind (λ kind. (uses_data kind && (eqb (number_in all (q_of (first_of size words cell))) net || (eqb (number_in all (q_of (second_of size words cell))) net || (false || false)))) ≡ false)
+    ∙ each_kind (λ k. (uses_data (cell_kind.Gate k) && (eqb (number_in all (q_of (first_of size words cell))) net || (eqb (number_in all (q_of (second_of size words cell))) net || (false || false)))) ≡ false)
     (rw (a, b) refl) (rw (a, b) refl) (rw (a, b) refl) (rw (a, b) refl) g.kind g.among
 
 flop_data : (all : List Text) (cell net : ℕ) → eqb (number_in all (d_of cell)) net ≡ false → is_data_of standard_cells net (flop_in all cell) ≡ false

@@ -3,13 +3,13 @@ use Rattle.std.proofs.Common.{◌≡◌, ℕ, zero, suc, ◌+◌, ◌*◌, ◌%�
 use Rattle.std.specs.Prelude.{is_some, option_and_then}
 use Rattle.std.proofs.Math.Nat.{mod-lt}
 use Rattle.dft_base.specs.Lexing.{Text}
+use Rattle.dft_cells.specs.declared.kind.Kind.TheVariants as cell_kind
 use Rattle.dft_cells.specs.declared.kind.Role.TheVariants as role
 use Rattle.dft_cells.specs.declared.cell.Cell.{Cell}
 use Rattle.dft_cells.specs.Standard.{standard_cells}
 use Rattle.dft_netlist.specs.declared.instance.Instance.{Instance}
-use Rattle.dft_netlist.specs.Connections.{input_net}
+use Rattle.dft_netlist.specs.Connections.{input_net, pin_of}
 use Rattle.dft_netlist.specs.Drivers.{Net, kind_of, kind_at, pins_at, shape_of_cell}
-use Rattle.dft_netlist.specs.Logic.{pin_of}
 use Rattle.dft_netlist.specs.Names.{find_net, find_net_from}
 use Rattle.dft_rules.specs.declared.judged.Judged.TheVariants.{Scanned}
 use Rattle.dft_rules.specs.Rules.{may_be_scanned, clock_of_source, clocked_by, are_held, are_held_at, scan_cell_of, scan_cell_in, judged}
@@ -45,7 +45,7 @@ judged_gate size words k lt =
     let g = gate_known (word_at words (k * 3)) in
     let kind : may_be_scanned (kind_at (design size words) (k + k)) ≡ false =
     ap (λ (o : Option Instance). may_be_scanned (kind_of standard_cells o)) (gate_there size words k lt) ∙ ap (λ (o : Option Cell). may_be_scanned (shape_of_cell o).kind) g.there
-    ∙ each_kind (λ kind. may_be_scanned kind ≡ false) refl refl refl refl g.kind g.among in
+    ∙ each_kind (λ k. may_be_scanned (cell_kind.Gate k) ≡ false) refl refl refl refl g.kind g.among in
     rw kind refl
 
 -- a flip-flop is scanned

@@ -15,8 +15,8 @@ use Rattle.dft_base.specs.Words.{needs_escape}
 use Rattle.dft_cells.specs.declared.cell.Cell.{Cell}
 use Rattle.dft_cells.specs.declared.cell.CellId.{CellId}
 use Rattle.dft_cells.specs.declared.cell.Pin.{Pin}
-use Rattle.dft_cells.specs.declared.kind.Kind.{Kind}
-use Rattle.dft_cells.specs.declared.kind.Kind.TheVariants as kinds
+use Rattle.dft_cells.specs.declared.kind.Gate.{Gate as GateKind}
+use Rattle.dft_cells.specs.declared.kind.Gate.TheVariants as primitive
 use Rattle.dft_cells.specs.Standard.{standard_cells}
 use Rattle.dft_netlist.specs.declared.ids.NetId.{NetId}
 use Rattle.dft_netlist.specs.declared.instance.CellRef.{CellRef}
@@ -147,7 +147,7 @@ module _ (nets : List Text) (short : AllUnder 24 nets) where
       let source : Text = signal_text nets j.source in
       omega (arith, signal_short (Net j.target), signal_short j.source, length-append target (codes " = " ++ (source ++ codes ";\n")), length-append source (codes ";\n"))
 
-  gate_short : (kind : Kind) (i : Instance) → length (gate_line nets kind i) ≤ length (own_name_text i.name) + (20 + length i.pins * 26)
+  gate_short : (kind : GateKind) (i : Instance) → length (gate_line nets kind i) ≤ length (own_name_text i.name) + (20 + length i.pins * 26)
   unfolding gate_line
   gate_short kind i =
       let pins : Text = list_text (map (signal_text nets) (output_first i.pins)) in
@@ -162,27 +162,9 @@ module _ (nets : List Text) (short : AllUnder 24 nets) where
         length-append pins (codes ");\n"),
       )
     where
-      kind_short : (kind : Kind) → length (gate_text kind) ≤ 4
-      kind_short kinds.Buf = omega arith
-      kind_short kinds.Inv = omega arith
-      kind_short kinds.And = omega arith
-      kind_short kinds.Nand = omega arith
-      kind_short kinds.Or = omega arith
-      kind_short kinds.Nor = omega arith
-      kind_short kinds.Xor = omega arith
-      kind_short kinds.Xnor = omega arith
-      kind_short kinds.Mux2 = omega arith
-      kind_short kinds.Tie0 = omega arith
-      kind_short kinds.Tie1 = omega arith
-      kind_short kinds.Dff = omega arith
-      kind_short kinds.Dffr = omega arith
-      kind_short kinds.Dffs = omega arith
-      kind_short kinds.Sdff = omega arith
-      kind_short kinds.Sdffr = omega arith
-      kind_short kinds.Sdffs = omega arith
-      kind_short kinds.Lockup = omega arith
-      kind_short kinds.Opaque = omega arith
-      kind_short (kinds.Table table) = omega arith
+      kind_short : (kind : GateKind) → length (gate_text kind) ≤ 4
+      kind_short primitive.Nand = omega arith
+      kind_short _ = omega arith
 
       turned : (k : ℕ) (pins : List Signal) → length (drop k pins ++ take k pins) ≡ length pins
       turned k pins = let c = cut k pins in omega (arith, c, length-append (drop k pins) (take k pins))

@@ -9,8 +9,8 @@ use Rattle.std.proofs.lemmas.List.{length-map}
 use Rattle.dft_parts.specs.Parts.{Part, ANet, AnInstance, APin}
 use Rattle.dft_parts.specs.Recipes.{Start, Recipe, pure, ◌>>=◌, behind, each, collect, at_nets, a_net, a_gate, a_flop, a_lockup}
 use Rattle.dft_parts.specs.Sums.{a_driving_gate, pairs, levels, a_sum}
-use Rattle.dft_cells.specs.declared.kind.Kind.{Kind}
-use Rattle.dft_cells.specs.declared.kind.Kind.TheVariants.{Xor}
+use Rattle.dft_cells.specs.declared.kind.Gate.{Gate as GateKind}
+use Rattle.dft_cells.specs.declared.kind.Gate.TheVariants.{Xor}
 use Rattle.dft_netlist.specs.declared.ids.NetId.{NetId}
 use Rattle.dft_netlist.specs.declared.instance.CellRef.{CellRef}
 use Rattle.dft_netlist.specs.declared.instance.CellRef.TheVariants.{Library, Gate}
@@ -116,7 +116,7 @@ collect_same f most xs h = at_most (collect f xs) (sum_of (λ x. most) xs) (leng
 pub net_most : AtMost a_net 1
 net_most at = omega arith
 
-pub gate_most : (kind : Kind) (inputs : List NetId) (output : NetId) → AtMost (a_gate kind inputs output) (2 + length inputs)
+pub gate_most : (kind : GateKind) (inputs : List NetId) (output : NetId) → AtMost (a_gate kind inputs output) (2 + length inputs)
 gate_most kind inputs output at = omega (arith, length-append (at_nets inputs) (Net output ∷ []), length-map inputs (λ (net : NetId). Net net))
 
 pub flop_most : (clock input output : NetId) → AtMost (a_flop clock input output) 1
@@ -125,7 +125,7 @@ flop_most clock input output at = omega arith
 pub lockup_most : (clock input output : NetId) → AtMost (a_lockup clock input output) 1
 lockup_most clock input output at = omega arith
 
-pub driving_most : (kind : Kind) (inputs : List NetId) → AtMost (a_driving_gate kind inputs) (3 + length inputs)
+pub driving_most : (kind : GateKind) (inputs : List NetId) → AtMost (a_driving_gate kind inputs) (3 + length inputs)
 unfolding a_driving_gate
 driving_most kind inputs at = let output : NetId = record { 0 = at.next } in omega (arith, length-append (at_nets inputs) (Net output ∷ []), length-map inputs (λ (net : NetId). Net net))
 

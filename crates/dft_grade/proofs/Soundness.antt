@@ -3,12 +3,12 @@ use Rattle.std.proofs.Common.{ℕ, suc, ◌+◌, Bool, true, false, not, List, [
 use Rattle.dft_base.specs.declared.tri.Tri.{Tri}
 use Rattle.dft_base.specs.declared.tri.Tri.TheVariants.{Zero, One, Unknown}
 use Rattle.dft_base.specs.Tri.{Above}
-use Rattle.dft_netlist.specs.Logic.{Logic, IsRanked, logic_of}
+use Rattle.dft_behavior.specs.Logic.{Logic, IsRanked, logic_of}
 use Rattle.dft_netlist.specs.Netlist.{Netlist}
 use Rattle.dft_netlist.specs.Orders.{IsOrder}
-use Rattle.dft_netlist.specs.Runs.{Now, Turn, AreTurns, after_turn}
+use Rattle.dft_behavior.specs.Runs.{Now, Turn, AreTurns, after_turn}
 use Rattle.dft_netlist.specs.Sound.{IsNetlist}
-use Rattle.dft_netlist.proofs.Ranks.{order_is_rank}
+use Rattle.dft_behavior.proofs.Ranks.{order_is_rank}
 use Rattle.dft_netlist.proofs.RankLemmas.{order_ranks}
 use Rattle.dft_abstract.specs.Cycle.{Round, after_round, all_unknown}
 use Rattle.dft_abstract.specs.Laws.{Stands}

@@ -2,7 +2,7 @@
 use Rattle.std.specs.Prelude.{ℕ, suc, Bool, not, List, [], ◌∷◌, ◌≡◌, ◌⊎◌}
 use Rattle.dft_netlist.specs.Netlist.{Netlist}
 use Rattle.dft_netlist.specs.Drivers.{IsOrdered}
-use Rattle.dft_netlist.specs.Runs.{Now, Turn}
+use Rattle.dft_behavior.specs.Runs.{Now, Turn}
 use Rattle.dft_patterns.specs.Patterns.{Patterns}
 use Rattle.dft_replay.specs.declared.verdict.Unknowns.TheVariants.{Skip}
 use Rattle.dft_replay.specs.Laws.{IsRunOf}

@@ -7,6 +7,7 @@ use dft_grade::{Grade, Graded, grades};
 use dft_netlist::Design;
 use dft_patterns::PatternSet;
 use dft_replay::ReplayError;
+use dft_verilog::{MAX_TEXT, read};
 use std::alloc::{AllocError, Global};
 use std::test::Fail;
 
@@ -110,6 +111,14 @@ fn grades_under(alloc: Global, lanes: bool, design: &Design, text: &str) -> Resu
     Ok(grades_of(alloc, lanes, design, &patterns)?)
 }
 
+// The design of a netlist text, if it is not too long.
+pub(crate) fn design_of(alloc: Global, netlist: &str) -> Result<Option<Design>, Fail> {
+    if netlist.len() > MAX_TEXT {
+        return Ok(None);
+    }
+    Ok(Some(read(alloc, netlist.as_bytes(), Library::standard(alloc)?)?))
+}
+
 // The grades of all faults of a netlist text under a pattern text.
 pub(crate) fn grades_in(
     alloc: Global,
@@ -117,11 +126,10 @@ pub(crate) fn grades_in(
     netlist: &str,
     text: &str,
 ) -> Result<String, Fail> {
-    if netlist.len() > dft_verilog::MAX_TEXT {
-        return Ok(String::from_str(alloc, "too long")?);
+    match design_of(alloc, netlist)? {
+        Some(design) => grades_under(alloc, lanes, &design, text),
+        None => Ok(String::from_str(alloc, "too long")?),
     }
-    let design = dft_verilog::read(alloc, netlist.as_bytes(), Library::standard(alloc)?)?;
-    grades_under(alloc, lanes, &design, text)
 }
 
 #[test]

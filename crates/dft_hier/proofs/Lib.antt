@@ -36,10 +36,4 @@ pub mod SpotLemmas
 pub mod InstanceSpotLemmas
 pub mod OneForOne
 pub mod OneModule
-pub mod Positions
-pub mod Images
-pub mod DriverImages
-pub mod NetRanks
-pub mod JoinedRoots
-pub mod SettledByPath
 mod FlatExamples

@@ -1,11 +1,9 @@
 -- Laws of flat designs.
-use Rattle.std.specs.Prelude.{◌≡◌, ◌↔◌, None, Ok, ℕ, ◌<◌, ◌≤◌, Bool, List, length, Some, slice_get}
+use Rattle.std.specs.Prelude.{◌≡◌, None, Ok, ℕ, ◌<◌, List, length, Some, slice_get}
 use Rattle.dft_base.specs.Lexing.{Text}
 use Rattle.dft_cells.specs.declared.cell.Cell.{Cell}
 use Rattle.dft_netlist.specs.declared.instance.Instance.{Instance}
 use Rattle.dft_netlist.specs.Netlist.{Netlist}
-use Rattle.dft_netlist.specs.Logic.{Ports, logic_of}
-use Rattle.dft_netlist.specs.Settled.{Sources, IsSettled}
 use Rattle.dft_cells.specs.Cells.{find_cell}
 use Rattle.dft_netlist_text.specs.NetlistText.{StandsFor}
 use Rattle.dft_modules.specs.Modules.{Module}
@@ -13,7 +11,6 @@ use Rattle.dft_modules.specs.ModuleTexts.{modules_of}
 use Rattle.dft_modules.specs.Sound.{AreModules}
 use Rattle.dft_hier.specs.Hierarchy.{cells_of}
 use Rattle.dft_hier.specs.Paths.{Path, Spot, module_at, net_spots, instance_spots}
-use Rattle.dft_hier.specs.Joined.{JoinedSources, IsJoinedSettled}
 use Rattle.dft_hier.specs.Refusals.{IsFlat}
 
 -- ---- instances, one for one
@@ -44,31 +41,6 @@ pub record NetsAreOne (ms : List Module) (top : Module) (design : Netlist) : Typ
 abbrev pub FlatIsOneForOne : Type 0
 FlatIsOneForOne =
     (ms : List Module) (library : List Cell) (design : Netlist) → AreModules library ms → (flat : IsFlat ms library design) → InstancesAreOne ms flat.top design × NetsAreOne ms flat.top design
-
--- ---- settled assignments, read by path
-
--- what the flat design's bits come from is, read by path, what the joined ones come from
-pub record AreByPath (ms : List Module) (top : Module) (flat : Sources) (joined : JoinedSources) : Type 0 where
-  pub ports : (net : ℕ) → joined.ports net ≡ flat.ports net
-  pub high : (net : ℕ) → joined.high net ≡ flat.high net
-  pub flops : (number : ℕ) (spot : Spot) → slice_get (instance_spots ms top) number ≡ Some spot → joined.flops spot.path spot.at ≡ flat.flops number
-  pub free : (number : ℕ) (spot : Spot) → slice_get (net_spots ms top) number ≡ Some spot → joined.free spot.path spot.at ≡ flat.free number
-  pub loose : (number : ℕ) (spot : Spot) (pin : ℕ) → slice_get (instance_spots ms top) number ≡ Some spot → joined.loose spot.path spot.at pin ≡ flat.loose number pin
-
--- an assignment of the flat design is, read by path, a joined one
-abbrev pub ReadsByPath : List Module → (top : Module) → (flat : ℕ → Bool) → (joined : Path → ℕ → Bool) → Type 0
-ReadsByPath ms top flat joined = (number : ℕ) (spot : Spot) → slice_get (net_spots ms top) number ≡ Some spot → joined spot.path spot.at ≡ flat number
-
--- past the last net, bits are free
-abbrev pub IsFreePast : Netlist → Sources → (bits : ℕ → Bool) → Type 0
-IsFreePast design s bits = (net : ℕ) → length design.nets ≤ net → bits net ≡ s.free net
-
--- The settled assignments of the flat design, read by path, are the settled joined ones, for all ports, states, levels of clocks, held and free bits.
-abbrev pub FlatIsJoined : Type 0
-FlatIsJoined =
-    (ms : List Module) (library : List Cell) (design : Netlist) → AreModules library ms → (flat : IsFlat ms library design) (ports : Ports) (s : Sources) (j : JoinedSources) (bits : ℕ → Bool) (joined : Path → ℕ → Bool) →
-    AreByPath ms flat.top s j → ReadsByPath ms flat.top bits joined → IsFreePast design s bits →
-    (IsSettled (logic_of design ports) s bits ↔ IsJoinedSettled ms library flat.top ports j joined)
 
 -- ---- texts, and texts of one module
 

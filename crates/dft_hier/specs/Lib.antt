@@ -24,5 +24,4 @@ pub mod ItemWalkShown
 pub mod ItemsLaid
 pub mod ItemsWalked
 pub mod Paths
-pub mod Joined
 pub mod Laws

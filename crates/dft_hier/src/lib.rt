@@ -18,6 +18,6 @@ mod weights;
 pub use error::HierError;
 pub use flattening::{flatten, told};
 pub use laws::{
-    flat_designs_are_joined, flat_designs_are_one_for_one, given_designs_are_over,
-    one_module_gives_its_design, texts_give_one_design,
+    flat_designs_are_one_for_one, given_designs_are_over, one_module_gives_its_design,
+    texts_give_one_design,
 };

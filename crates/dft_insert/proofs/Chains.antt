@@ -3,11 +3,11 @@ use Rattle.std.proofs.Common.{ℕ, zero, suc, ◌+◌, ◌≡◌, ◌==◌, ◌�
 use Rattle.std.specs.Prelude.{slice_index_or, if◌then◌else◌}
 use Rattle.std.specs.List.{range_with_len, AllByRecursion}
 use Rattle.std.proofs.lemmas.Option.{none-some}
-use Rattle.dft_cells.specs.declared.kind.Kind.TheVariants.{Buf, Inv}
+use Rattle.dft_cells.specs.declared.kind.Gate.TheVariants.{Buf, Inv}
 use Rattle.dft_cells.specs.declared.kind.Role.TheVariants.{Output, ScanIn}
 use Rattle.dft_netlist.specs.declared.ids.NetId.{NetId}
 use Rattle.dft_netlist.specs.declared.ids.InstanceId.{InstanceId}
-use Rattle.dft_netlist.specs.Logic.{same_role}
+use Rattle.dft_netlist.specs.Connections.{same_role}
 use Rattle.dft_netlist.specs.Netlist.{Netlist}
 use Rattle.dft_config.specs.Config.{Config}
 use Rattle.dft_config.specs.Range.{IsInRange}

@@ -6,11 +6,11 @@ use Rattle.dft_netlist.specs.Netlist.{Netlist}
 use Rattle.dft_netlist.specs.Sound.{bits_of}
 use Rattle.dft_netlist.specs.Drivers.{Driver, Driven, driven_by_instances, driven_by_ports, driven_by_joins, driver, driver_in}
 use Rattle.dft_netlist.specs.Drivers as drivers
-use Rattle.dft_netlist.specs.Logic.{flip_flop, meaning_of, logic_of, Cell, cell_or_none}
-use Rattle.dft_netlist.specs.Logic as logic
+use Rattle.dft_behavior.specs.Logic.{flip_flop, meaning_of, logic_of, Cell, cell_or_none}
+use Rattle.dft_behavior.specs.Logic as logic
 use Rattle.dft_netlist.proofs.RankLemmas.{order_ranks}
-use Rattle.dft_netlist.proofs.Ranks.{order_is_rank}
-use Rattle.dft_netlist.proofs.StoredLemmas.{kept_cell}
+use Rattle.dft_behavior.proofs.Ranks.{order_is_rank}
+use Rattle.dft_behavior.proofs.StoredLemmas.{kept_cell}
 use Rattle.dft_config.specs.Config.{Config}
 use Rattle.dft_chains.specs.ScanOff.{moved_meaning, Contains, KeepsFlop}
 use Rattle.dft_chains.proofs.ScanOffLemmas.{scan_off}

@@ -6,7 +6,8 @@ use Rattle.std.proofs.lemmas.List.Sums.{sum_by-cons}
 use Rattle.std.proofs.Math.Seq.{drop-append_seam}
 use Rattle.std.proofs.lemmas.List.{length-map}
 use Rattle.dft_cells.specs.declared.kind.Kind.{Kind}
-use Rattle.dft_cells.specs.declared.kind.Kind.TheVariants.{Dff, Lockup}
+use Rattle.dft_cells.specs.declared.kind.TheConstants.{DFF}
+use Rattle.dft_cells.specs.declared.kind.Kind.TheVariants as kind
 use Rattle.dft_cells.specs.declared.cell.Cell.{Cell}
 use Rattle.dft_cells.specs.FlipFlops.{is_flip_flop}
 use Rattle.dft_netlist.specs.declared.instance.Instance.{Instance}
@@ -103,10 +104,10 @@ heads_are weight (falling ∷ heads) =
 
 module _ (test : Kind → Bool) (none : PassesNoGate test) (n : Netlist) (config : Config) (ready : IsReady n config) where
   abbrev a_flop : ℕ
-  a_flop = bit_weight (test Dff)
+  a_flop = bit_weight (test DFF)
 
   abbrev a_lock : ℕ
-  a_lock = bit_weight (test Lockup)
+  a_lock = bit_weight (test kind.Lockup)
 
   abbrev crossed : ℕ → ℕ
   crossed c = sum_of (λ (l : LockupPlace). if l.chain == c then a_lock else 0) (plan_of n config).lockups
@@ -147,10 +148,10 @@ module _ (test : Kind → Bool) (none : PassesNoGate test) (n : Netlist) (config
 -- ---- the law
 
 flip_flops_none : PassesNoGate is_flip_flop
-flip_flops_none = record { and = refl; or = refl; inv = refl; xor = refl; buf = refl }
+flip_flops_none = record { gates = λ gate. refl }
 
 lockups_none : PassesNoGate is_lockup
-lockups_none = record { and = refl; or = refl; inv = refl; xor = refl; buf = refl }
+lockups_none = record { gates = λ gate. refl }
 
 flip_flops_are : (style : Style) (n : Netlist) (config : Config) → IsReady n config → total (weight is_flip_flop n.library) (made_in style n config) ≡ flip_flops_in style config
 flip_flops_are Plain n config ready = plain_is is_flip_flop flip_flops_none n config ready ∙ times_zero (length (plan_of n config).lockups)

@@ -59,26 +59,10 @@ moved_nets f (Tied bit ∷ inputs) net h = moved_nets f inputs net h
 moved_nets f (Loose i pin ∷ inputs) net h = moved_nets f inputs net h
 
 plain_reads : (f : ℕ → ℕ) (k : Kind) (i : ℕ) (ins latch its : List Source) (net : ℕ) → is_plain k ≡ true → Has (reads_by (driver_of_kind k i false (map (moved_source f) ins)) its) net → IsRead f (reads_by (driver_of_kind k i false ins) latch) (nets_of ins) net
-plain_reads f kind.Dff i ins latch its net plain h = absurd h
-plain_reads f kind.Dffr i ins latch its net plain h = absurd h
-plain_reads f kind.Dffs i ins latch its net plain h = absurd h
-plain_reads f kind.Sdff i ins latch its net plain h = absurd h
-plain_reads f kind.Sdffr i ins latch its net plain h = absurd h
-plain_reads f kind.Sdffs i ins latch its net plain h = absurd h
+plain_reads f (kind.Flop flop) i ins latch its net plain h = absurd h
 plain_reads f kind.Opaque i ins latch its net plain h = absurd h
 plain_reads f kind.Lockup i ins latch its net plain h = absurd cc
-plain_reads f kind.Buf i ins latch its net plain h = moved_nets f ins net h
-plain_reads f kind.Inv i ins latch its net plain h = moved_nets f ins net h
-plain_reads f kind.And i ins latch its net plain h = moved_nets f ins net h
-plain_reads f kind.Nand i ins latch its net plain h = moved_nets f ins net h
-plain_reads f kind.Or i ins latch its net plain h = moved_nets f ins net h
-plain_reads f kind.Nor i ins latch its net plain h = moved_nets f ins net h
-plain_reads f kind.Xor i ins latch its net plain h = moved_nets f ins net h
-plain_reads f kind.Xnor i ins latch its net plain h = moved_nets f ins net h
-plain_reads f kind.Mux2 i ins latch its net plain h = moved_nets f ins net h
-plain_reads f (kind.Table number) i ins latch its net plain h = moved_nets f ins net h
-plain_reads f kind.Tie0 i ins latch its net plain h = moved_nets f ins net h
-plain_reads f kind.Tie1 i ins latch its net plain h = moved_nets f ins net h
+plain_reads f (kind.Gate gate) i ins latch its net plain h = moved_nets f ins net h
 
 -- ---- nets at pins are live
 

@@ -1,8 +1,8 @@
 -- Recipes that join no pin.
 use Rattle.std.proofs.Common.{ℕ, zero, suc, ◌+◌, List, [], ◌∷◌, ◌++◌, length, map}
 use Rattle.std.specs.List.{range_with_len}
-use Rattle.dft_cells.specs.declared.kind.Kind.{Kind}
-use Rattle.dft_cells.specs.declared.kind.Kind.TheVariants.{And, Or, Inv, Xor, Buf}
+use Rattle.dft_cells.specs.declared.kind.Gate.{Gate as GateKind}
+use Rattle.dft_cells.specs.declared.kind.Gate.TheVariants.{Buf, Inv, And, Or, Xor}
 use Rattle.dft_cells.specs.declared.cell.CellId.{CellId}
 use Rattle.dft_netlist.specs.declared.ids.NetId.{NetId}
 use Rattle.dft_netlist.specs.declared.instance.CellRef.TheVariants.{Library, Gate}
@@ -28,12 +28,12 @@ use Rattle.dft_insert.proofs.Joins.{Holds, holds_pure, holds_bind, holds_each, h
 pub record HoldsFree (P : Part → Type 0) : Type 0 where
   pub net : P ANet
   pub cell : (id : CellId) (pins : List Signal) → P (AnInstance (Library id) pins)
-  pub gate : (kind : Kind) (inputs : List NetId) (output : NetId) → P (AnInstance (Gate kind (length inputs)) (at_nets inputs ++ Net output ∷ []))
+  pub gate : (kind : GateKind) (inputs : List NetId) (output : NetId) → P (AnInstance (Gate kind (length inputs)) (at_nets inputs ++ Net output ∷ []))
 
 pub net_free : (P : Part → Type 0) → HoldsFree P → Holds P a_net
 net_free P f at = (f.net, tt)
 
-pub gate_free : (P : Part → Type 0) (kind : Kind) (inputs : List NetId) (output : NetId) → HoldsFree P → Holds P (a_gate kind inputs output)
+pub gate_free : (P : Part → Type 0) (kind : GateKind) (inputs : List NetId) (output : NetId) → HoldsFree P → Holds P (a_gate kind inputs output)
 gate_free P kind inputs output f at = (f.gate kind inputs output, tt)
 
 pub flop_free : (P : Part → Type 0) (clock input output : NetId) → HoldsFree P → Holds P (a_flop clock input output)
@@ -42,7 +42,7 @@ flop_free P clock input output f at = (f.cell _ _, tt)
 pub lockup_free : (P : Part → Type 0) (clock input output : NetId) → HoldsFree P → Holds P (a_lockup clock input output)
 lockup_free P clock input output f at = (f.cell _ _, tt)
 
-pub driving_free : (P : Part → Type 0) (kind : Kind) (inputs : List NetId) → HoldsFree P → Holds P (a_driving_gate kind inputs)
+pub driving_free : (P : Part → Type 0) (kind : GateKind) (inputs : List NetId) → HoldsFree P → Holds P (a_driving_gate kind inputs)
 unfolding a_driving_gate
 driving_free P kind inputs f =
     holds_bind P a_net (λ output. a_gate kind inputs output >> pure output) (net_free P f)

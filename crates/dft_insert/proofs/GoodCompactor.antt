@@ -3,7 +3,7 @@ use Rattle.std.proofs.Common.{ℕ, zero, suc, ◌+◌, ◌≡◌, ◌<◌, ◌�
 use Rattle.std.specs.List.{AllByRecursion, range_with_len}
 use Rattle.dft_base.proofs.ListLemmas.{all_append}
 use Rattle.dft_edt.proofs.PartLists.{nets_in-append}
-use Rattle.dft_cells.specs.declared.kind.Kind.TheVariants.{And, Buf, Inv, Or}
+use Rattle.dft_cells.specs.declared.kind.Gate.TheVariants.{Buf, Inv, And, Or}
 use Rattle.dft_netlist.specs.declared.ids.NetId.{NetId}
 use Rattle.dft_netlist.specs.Netlist.{Netlist}
 use Rattle.dft_config.specs.Config.{Config}

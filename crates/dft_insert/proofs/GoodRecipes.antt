@@ -1,7 +1,7 @@
 -- The parts of each style are good.
 use Rattle.std.proofs.Common.{ℕ, zero, suc, ◌+◌, ◌-◌, ◌≡◌, ◌<◌, ◌≤◌, List, [], ◌∷◌, ◌++◌, length, map, arith, ◌∙◌}
 use Rattle.std.specs.List.{AllByRecursion, range_with_len}
-use Rattle.dft_cells.specs.declared.kind.Kind.TheVariants.{Buf}
+use Rattle.dft_cells.specs.declared.kind.Gate.TheVariants.{Buf}
 use Rattle.dft_netlist.specs.declared.ids.NetId.{NetId}
 use Rattle.dft_netlist.specs.declared.ids.InstanceId.{InstanceId}
 use Rattle.dft_netlist.specs.Netlist.{Netlist}

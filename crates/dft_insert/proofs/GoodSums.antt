@@ -3,8 +3,8 @@ use Rattle.std.proofs.Common.{ℕ, zero, suc, ◌+◌, ◌≡◌, ◌<◌, ◌�
 use Rattle.std.proofs.lemmas.List.Sums.{sum_by-cons}
 use Rattle.std.specs.List.{AllByRecursion, range_with_len}
 use Rattle.dft_edt.proofs.PartLists.{nets_in-append}
-use Rattle.dft_cells.specs.declared.kind.Kind.{Kind}
-use Rattle.dft_cells.specs.declared.kind.Kind.TheVariants.{Xor}
+use Rattle.dft_cells.specs.declared.kind.Gate.{Gate}
+use Rattle.dft_cells.specs.declared.kind.Gate.TheVariants.{Xor}
 use Rattle.dft_netlist.specs.declared.ids.NetId.{NetId}
 use Rattle.dft_netlist.specs.Netlist.{Netlist}
 use Rattle.dft_netlist.specs.Orders.{numbers_of}
@@ -52,7 +52,7 @@ gives_end n rank at xs nets h = record {
 
 -- ---- sums
 
-pub gate_gives : (n : Netlist) (rank : ℕ → ℕ) (base : ℕ) (at : Start) (k : Kind) (inputs : List NetId) → Setting n.library rank base → base ≤ at.next → AreBelow rank at.next inputs →
+pub gate_gives : (n : Netlist) (rank : ℕ → ℕ) (base : ℕ) (at : Start) (k : Gate) (inputs : List NetId) → Setting n.library rank base → base ≤ at.next → AreBelow rank at.next inputs →
     Gives n rank at (a_driving_gate k inputs at).parts ((a_driving_gate k inputs at).value ∷ [])
 unfolding a_driving_gate
 gate_gives n rank base at k inputs s from below =

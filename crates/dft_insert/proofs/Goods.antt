@@ -4,8 +4,8 @@ use Rattle.std.specs.Prelude.{IsTrue}
 use Rattle.std.specs.List.{AllByRecursion, range_with_len}
 use Rattle.dft_base.proofs.ListLemmas.{range_split}
 use Rattle.dft_edt.proofs.PartLists.{nets_in-append}
-use Rattle.dft_cells.specs.declared.kind.Kind.{Kind}
-use Rattle.dft_cells.specs.declared.kind.Kind.TheVariants as kind
+use Rattle.dft_cells.specs.declared.kind.TheConstants.{DFF}
+use Rattle.dft_cells.specs.declared.kind.Gate.{Gate}
 use Rattle.dft_cells.specs.declared.kind.Role.{Role}
 use Rattle.dft_cells.specs.declared.kind.Role.TheVariants.{Clock, Din, Output, Inverted}
 use Rattle.dft_cells.specs.declared.cell.Cell.{Cell}
@@ -113,7 +113,7 @@ good_one n rank at part net no_nets fine drives = record {
       );
 }
 
-pub good_gate : (n : Netlist) (rank : ℕ → ℕ) (at : Start) (k : Kind) (inputs : List NetId) (output : NetId) → AllByRecursion (λ (net : NetId). rank net.0 < rank output.0) inputs → IsGood n rank at (a_gate k inputs output at).parts none (one output.0)
+pub good_gate : (n : Netlist) (rank : ℕ → ℕ) (at : Start) (k : Gate) (inputs : List NetId) (output : NetId) → AllByRecursion (λ (net : NetId). rank net.0 < rank output.0) inputs → IsGood n rank at (a_gate k inputs output at).parts none (one output.0)
 good_gate n rank at k inputs output less =
     good_one n rank at (AnInstance (cell_ref.Gate k (length inputs)) (at_nets inputs ++ Net output ∷ [])) output.0 refl
     (λ i x cell pins. gate_ranked n.library rank i x k inputs output cell pins less) (gate_drives inputs output)
@@ -125,7 +125,7 @@ store_drives library clock input output s more roles rest =
     ap (λ (r : List Role). nets_driven r (map (pin_between clock input output) r)) roles ∙ ap (λ (nets : List ℕ). output.0 ∷ nets) rest
 
 abbrev IsDff : Shape → Type 0
-IsDff s = (s ≡ shape_as kind.Dff (Clock ∷ Din ∷ Output ∷ [])) ⊎ (s ≡ shape_as kind.Dff (Clock ∷ Din ∷ Output ∷ Inverted ∷ []))
+IsDff s = (s ≡ shape_as DFF (Clock ∷ Din ∷ Output ∷ [])) ⊎ (s ≡ shape_as DFF (Clock ∷ Din ∷ Output ∷ Inverted ∷ []))
 
 dff_drives : (library : List Cell) (clock input output : NetId) (s : Shape) → IsDff s → nets_driven s.roles (map (pin_between clock input output) s.roles) ≡ output.0 ∷ []
 dff_drives library clock input output s (inl e) = store_drives library clock input output s [] (ap (λ (v : Shape). v.roles) e) refl

@@ -15,10 +15,9 @@ use Rattle.dft_netlist.specs.declared.instance.CellRef.TheVariants.{Library}
 use Rattle.dft_netlist.specs.declared.instance.Signal.{Signal}
 use Rattle.dft_netlist.specs.declared.instance.Signal.TheVariants.{Net, Constant, Unconnected}
 use Rattle.dft_netlist.specs.declared.instance.Instance.{Instance}
-use Rattle.dft_netlist.specs.Connections.{joined_to, signal_of}
+use Rattle.dft_netlist.specs.Connections.{joined_to, signal_of, same_role}
 use Rattle.dft_netlist.specs.Drivers.{Connection, Shape, connections_from, kind_at, shape_of}
 use Rattle.dft_netlist.specs.Names.{instance_name}
-use Rattle.dft_netlist.specs.Logic.{same_role}
 use Rattle.dft_netlist.specs.Netlist.{Netlist}
 use Rattle.dft_config.specs.Config.{Config}
 use Rattle.dft_rules.specs.declared.judged.Judged.{Judged}

@@ -6,14 +6,13 @@ use Rattle.std.proofs.lemmas.Bool.{eqb-true}
 use Rattle.std.proofs.lemmas.List.{drop_more}
 use Rattle.std.proofs.lemmas.List.Elements.{All-append}
 use Rattle.dft_base.specs.Lexing.{Text}
-use Rattle.dft_cells.specs.declared.kind.Kind.TheVariants.{Inv}
+use Rattle.dft_cells.specs.declared.kind.Gate.TheVariants.{Inv}
 use Rattle.dft_cells.specs.declared.kind.Role.{Role}
 use Rattle.dft_cells.specs.declared.kind.Role.TheVariants.{Output}
 use Rattle.dft_netlist.specs.declared.ids.NetId.{NetId}
 use Rattle.dft_netlist.specs.declared.ids.InstanceId.{InstanceId}
 use Rattle.dft_netlist.specs.declared.error.NetlistError.{NetlistError}
-use Rattle.dft_netlist.specs.Logic.{same_role}
-use Rattle.dft_netlist.specs.Connections.{input_net}
+use Rattle.dft_netlist.specs.Connections.{input_net, same_role}
 use Rattle.dft_netlist.specs.Names.{find_net}
 use Rattle.dft_netlist.specs.Netlist.{Netlist}
 use Rattle.dft_netlist.specs.NetNumbers.{nets_from}

@@ -14,9 +14,10 @@ use Rattle.dft_netlist.specs.declared.instance.Instance.{Instance}
 use Rattle.dft_netlist.specs.Netlist.{Netlist}
 use Rattle.dft_netlist.specs.Sound.{bits_of}
 use Rattle.dft_netlist.specs.Drivers.{Source, Shape, Connection, connections_from, connections_of, shape_of, kind_of, pins_at}
-use Rattle.dft_netlist.specs.Logic.{Ports, same_role, pin_of, or_loose, scan_of, domain_of, domain_at, force_of, forcing, modelled, modelled_of, flip_flop}
-use Rattle.dft_netlist.specs.Traces.{Root, Port, Constant, Other, root_of}
-use Rattle.dft_netlist.specs.ClockRoots.{ClockRoot, clock_root_of}
+use Rattle.dft_netlist.specs.Connections.{same_role, pin_of}
+use Rattle.dft_behavior.specs.Logic.{Ports, or_loose, scan_of, domain_of, domain_at, force_of, forcing, modelled, modelled_of, flip_flop}
+use Rattle.dft_behavior.specs.Traces.{Root, Port, Constant, Other, root_of}
+use Rattle.dft_behavior.specs.ClockRoots.{ClockRoot, clock_root_of}
 use Rattle.dft_netlist.proofs.RankLemmas.{order_ranks}
 use Rattle.dft_config.specs.Config.{Config}
 use Rattle.dft_rules.specs.Refusals.{is_scanned}

@@ -6,7 +6,7 @@ use Rattle.std.proofs.lemmas.Bool.Decides.{nat_tests}
 use Rattle.std.specs.List.{AllByRecursion}
 use Rattle.dft_base.proofs.NumberLemmas.{less_apart}
 use Rattle.dft_cells.specs.declared.kind.Kind.{Kind}
-use Rattle.dft_cells.specs.declared.kind.Kind.TheVariants.{Dff, Dffr, Dffs, Sdff, Sdffr, Sdffs}
+use Rattle.dft_cells.specs.declared.kind.Forcing.TheVariants as force
 use Rattle.dft_cells.specs.declared.kind.Role.{Role}
 use Rattle.dft_cells.specs.declared.kind.Role.TheVariants.{Clock, Din, Reset, Preset, ScanIn, ScanEnable, Output, Inverted}
 use Rattle.dft_netlist.specs.declared.ids.NetId.{NetId}
@@ -20,7 +20,7 @@ use Rattle.dft_parts.specs.Parts.{Part, ANet, AnInstance, APin, Making, pin_join
 use Rattle.dft_parts.proofs.Growing.{joined_length}
 use Rattle.dft_scan_frame.specs.Moves.{map_from, Gap, moved, moved_signal}
 use Rattle.dft_scan_frame.proofs.Mergings.{Merges, moved_driver, moved_driven, append_merges, all_kept, all_added, NoneAt}
-use Rattle.dft_scan_frame.proofs.ScanPairs.{ScanPair, Plain, PlainBoth, Resets, ResetsBoth, Sets, SetsBoth, ListOf3, ListOf4, ListOf5, three, four, five}
+use Rattle.dft_scan_frame.proofs.ScanPairs.{plain_flop, scan_flop, ScanPair, Plain, PlainBoth, Resets, ResetsBoth, Sets, SetsBoth, ListOf3, ListOf4, ListOf5, three, four, five}
 use Rattle.dft_scan_frame.proofs.Tabled.{map_from_same}
 use Rattle.dft_insert.proofs.Joins.{joined_in, stays_joined, joined_if, one_joined}
 
@@ -213,38 +213,38 @@ scan_carries gap k i _ _ _ _ ins its pins joined Plain h g fits =
     let l : ListOf3 pins = three pins h in
     let m : ListOf5 joined = five joined g in
     let out : IsOutput gap k l.2 m.4 = subst (λ (qs : List Signal). IsOutput gap k (pin_at qs 2) m.4) l.3 (subst (λ (ps : List Signal). IsOutput gap k (pin_at pins 2) (pin_at ps 4)) m.5 (fits 2 (omega arith) refl)) in
-    subst (λ (qs : List Signal). Drives gap k i Dff (Clock ∷ Din ∷ Output ∷ []) Sdff (Clock ∷ Din ∷ ScanIn ∷ ScanEnable ∷ Output ∷ []) ins its qs joined) (sym l.3)
-    (subst (λ (ps : List Signal). Drives gap k i Dff (Clock ∷ Din ∷ Output ∷ []) Sdff (Clock ∷ Din ∷ ScanIn ∷ ScanEnable ∷ Output ∷ []) ins its (l.0 ∷ l.1 ∷ l.2 ∷ []) ps) (sym m.5) (one_carries gap k i l.2 m.4 out))
+    subst (λ (qs : List Signal). Drives gap k i (plain_flop force.Nothing) (Clock ∷ Din ∷ Output ∷ []) (scan_flop force.Nothing) (Clock ∷ Din ∷ ScanIn ∷ ScanEnable ∷ Output ∷ []) ins its qs joined) (sym l.3)
+    (subst (λ (ps : List Signal). Drives gap k i (plain_flop force.Nothing) (Clock ∷ Din ∷ Output ∷ []) (scan_flop force.Nothing) (Clock ∷ Din ∷ ScanIn ∷ ScanEnable ∷ Output ∷ []) ins its (l.0 ∷ l.1 ∷ l.2 ∷ []) ps) (sym m.5) (one_carries gap k i l.2 m.4 out))
 scan_carries gap k i _ _ _ _ ins its pins joined PlainBoth h g fits =
     let l : ListOf4 pins = four pins h in
     let m : ListOf6 joined = six joined g in
     let out : IsOutput gap k l.2 m.e = subst (λ (qs : List Signal). IsOutput gap k (pin_at qs 2) m.e) l.4 (subst (λ (ps : List Signal). IsOutput gap k (pin_at pins 2) (pin_at ps 4)) m.is (fits 2 (omega arith) refl)) in
     let inv : IsOutput gap k l.3 m.f = subst (λ (qs : List Signal). IsOutput gap k (pin_at qs 3) m.f) l.4 (subst (λ (ps : List Signal). IsOutput gap k (pin_at pins 3) (pin_at ps 5)) m.is (fits 3 (omega arith) refl)) in
-    subst (λ (qs : List Signal). Drives gap k i Dff (Clock ∷ Din ∷ Output ∷ Inverted ∷ []) Sdff (Clock ∷ Din ∷ ScanIn ∷ ScanEnable ∷ Output ∷ Inverted ∷ []) ins its qs joined) (sym l.4)
-    (subst (λ (ps : List Signal). Drives gap k i Dff (Clock ∷ Din ∷ Output ∷ Inverted ∷ []) Sdff (Clock ∷ Din ∷ ScanIn ∷ ScanEnable ∷ Output ∷ Inverted ∷ []) ins its (l.0 ∷ l.1 ∷ l.2 ∷ l.3 ∷ []) ps) (sym m.is) (both_carry gap k i l.2 m.e l.3 m.f out inv))
+    subst (λ (qs : List Signal). Drives gap k i (plain_flop force.Nothing) (Clock ∷ Din ∷ Output ∷ Inverted ∷ []) (scan_flop force.Nothing) (Clock ∷ Din ∷ ScanIn ∷ ScanEnable ∷ Output ∷ Inverted ∷ []) ins its qs joined) (sym l.4)
+    (subst (λ (ps : List Signal). Drives gap k i (plain_flop force.Nothing) (Clock ∷ Din ∷ Output ∷ Inverted ∷ []) (scan_flop force.Nothing) (Clock ∷ Din ∷ ScanIn ∷ ScanEnable ∷ Output ∷ Inverted ∷ []) ins its (l.0 ∷ l.1 ∷ l.2 ∷ l.3 ∷ []) ps) (sym m.is) (both_carry gap k i l.2 m.e l.3 m.f out inv))
 scan_carries gap k i _ _ _ _ ins its pins joined Resets h g fits =
     let l : ListOf4 pins = four pins h in
     let m : ListOf6 joined = six joined g in
     let out : IsOutput gap k l.3 m.f = subst (λ (qs : List Signal). IsOutput gap k (pin_at qs 3) m.f) l.4 (subst (λ (ps : List Signal). IsOutput gap k (pin_at pins 3) (pin_at ps 5)) m.is (fits 3 (omega arith) refl)) in
-    subst (λ (qs : List Signal). Drives gap k i Dffr (Clock ∷ Din ∷ Reset ∷ Output ∷ []) Sdffr (Clock ∷ Din ∷ Reset ∷ ScanIn ∷ ScanEnable ∷ Output ∷ []) ins its qs joined) (sym l.4)
-    (subst (λ (ps : List Signal). Drives gap k i Dffr (Clock ∷ Din ∷ Reset ∷ Output ∷ []) Sdffr (Clock ∷ Din ∷ Reset ∷ ScanIn ∷ ScanEnable ∷ Output ∷ []) ins its (l.0 ∷ l.1 ∷ l.2 ∷ l.3 ∷ []) ps) (sym m.is) (one_carries gap k i l.3 m.f out))
+    subst (λ (qs : List Signal). Drives gap k i (plain_flop force.Reset) (Clock ∷ Din ∷ Reset ∷ Output ∷ []) (scan_flop force.Reset) (Clock ∷ Din ∷ Reset ∷ ScanIn ∷ ScanEnable ∷ Output ∷ []) ins its qs joined) (sym l.4)
+    (subst (λ (ps : List Signal). Drives gap k i (plain_flop force.Reset) (Clock ∷ Din ∷ Reset ∷ Output ∷ []) (scan_flop force.Reset) (Clock ∷ Din ∷ Reset ∷ ScanIn ∷ ScanEnable ∷ Output ∷ []) ins its (l.0 ∷ l.1 ∷ l.2 ∷ l.3 ∷ []) ps) (sym m.is) (one_carries gap k i l.3 m.f out))
 scan_carries gap k i _ _ _ _ ins its pins joined ResetsBoth h g fits =
     let l : ListOf5 pins = five pins h in
     let m : ListOf7 joined = seven joined g in
     let out : IsOutput gap k l.3 m.f = subst (λ (qs : List Signal). IsOutput gap k (pin_at qs 3) m.f) l.5 (subst (λ (ps : List Signal). IsOutput gap k (pin_at pins 3) (pin_at ps 5)) m.is (fits 3 (omega arith) refl)) in
     let inv : IsOutput gap k l.4 m.g = subst (λ (qs : List Signal). IsOutput gap k (pin_at qs 4) m.g) l.5 (subst (λ (ps : List Signal). IsOutput gap k (pin_at pins 4) (pin_at ps 6)) m.is (fits 4 (omega arith) refl)) in
-    subst (λ (qs : List Signal). Drives gap k i Dffr (Clock ∷ Din ∷ Reset ∷ Output ∷ Inverted ∷ []) Sdffr (Clock ∷ Din ∷ Reset ∷ ScanIn ∷ ScanEnable ∷ Output ∷ Inverted ∷ []) ins its qs joined) (sym l.5)
-    (subst (λ (ps : List Signal). Drives gap k i Dffr (Clock ∷ Din ∷ Reset ∷ Output ∷ Inverted ∷ []) Sdffr (Clock ∷ Din ∷ Reset ∷ ScanIn ∷ ScanEnable ∷ Output ∷ Inverted ∷ []) ins its (l.0 ∷ l.1 ∷ l.2 ∷ l.3 ∷ l.4 ∷ []) ps) (sym m.is) (both_carry gap k i l.3 m.f l.4 m.g out inv))
+    subst (λ (qs : List Signal). Drives gap k i (plain_flop force.Reset) (Clock ∷ Din ∷ Reset ∷ Output ∷ Inverted ∷ []) (scan_flop force.Reset) (Clock ∷ Din ∷ Reset ∷ ScanIn ∷ ScanEnable ∷ Output ∷ Inverted ∷ []) ins its qs joined) (sym l.5)
+    (subst (λ (ps : List Signal). Drives gap k i (plain_flop force.Reset) (Clock ∷ Din ∷ Reset ∷ Output ∷ Inverted ∷ []) (scan_flop force.Reset) (Clock ∷ Din ∷ Reset ∷ ScanIn ∷ ScanEnable ∷ Output ∷ Inverted ∷ []) ins its (l.0 ∷ l.1 ∷ l.2 ∷ l.3 ∷ l.4 ∷ []) ps) (sym m.is) (both_carry gap k i l.3 m.f l.4 m.g out inv))
 scan_carries gap k i _ _ _ _ ins its pins joined Sets h g fits =
     let l : ListOf4 pins = four pins h in
     let m : ListOf6 joined = six joined g in
     let out : IsOutput gap k l.3 m.f = subst (λ (qs : List Signal). IsOutput gap k (pin_at qs 3) m.f) l.4 (subst (λ (ps : List Signal). IsOutput gap k (pin_at pins 3) (pin_at ps 5)) m.is (fits 3 (omega arith) refl)) in
-    subst (λ (qs : List Signal). Drives gap k i Dffs (Clock ∷ Din ∷ Preset ∷ Output ∷ []) Sdffs (Clock ∷ Din ∷ Preset ∷ ScanIn ∷ ScanEnable ∷ Output ∷ []) ins its qs joined) (sym l.4)
-    (subst (λ (ps : List Signal). Drives gap k i Dffs (Clock ∷ Din ∷ Preset ∷ Output ∷ []) Sdffs (Clock ∷ Din ∷ Preset ∷ ScanIn ∷ ScanEnable ∷ Output ∷ []) ins its (l.0 ∷ l.1 ∷ l.2 ∷ l.3 ∷ []) ps) (sym m.is) (one_carries gap k i l.3 m.f out))
+    subst (λ (qs : List Signal). Drives gap k i (plain_flop force.Set) (Clock ∷ Din ∷ Preset ∷ Output ∷ []) (scan_flop force.Set) (Clock ∷ Din ∷ Preset ∷ ScanIn ∷ ScanEnable ∷ Output ∷ []) ins its qs joined) (sym l.4)
+    (subst (λ (ps : List Signal). Drives gap k i (plain_flop force.Set) (Clock ∷ Din ∷ Preset ∷ Output ∷ []) (scan_flop force.Set) (Clock ∷ Din ∷ Preset ∷ ScanIn ∷ ScanEnable ∷ Output ∷ []) ins its (l.0 ∷ l.1 ∷ l.2 ∷ l.3 ∷ []) ps) (sym m.is) (one_carries gap k i l.3 m.f out))
 scan_carries gap k i _ _ _ _ ins its pins joined SetsBoth h g fits =
     let l : ListOf5 pins = five pins h in
     let m : ListOf7 joined = seven joined g in
     let out : IsOutput gap k l.3 m.f = subst (λ (qs : List Signal). IsOutput gap k (pin_at qs 3) m.f) l.5 (subst (λ (ps : List Signal). IsOutput gap k (pin_at pins 3) (pin_at ps 5)) m.is (fits 3 (omega arith) refl)) in
     let inv : IsOutput gap k l.4 m.g = subst (λ (qs : List Signal). IsOutput gap k (pin_at qs 4) m.g) l.5 (subst (λ (ps : List Signal). IsOutput gap k (pin_at pins 4) (pin_at ps 6)) m.is (fits 4 (omega arith) refl)) in
-    subst (λ (qs : List Signal). Drives gap k i Dffs (Clock ∷ Din ∷ Preset ∷ Output ∷ Inverted ∷ []) Sdffs (Clock ∷ Din ∷ Preset ∷ ScanIn ∷ ScanEnable ∷ Output ∷ Inverted ∷ []) ins its qs joined) (sym l.5)
-    (subst (λ (ps : List Signal). Drives gap k i Dffs (Clock ∷ Din ∷ Preset ∷ Output ∷ Inverted ∷ []) Sdffs (Clock ∷ Din ∷ Preset ∷ ScanIn ∷ ScanEnable ∷ Output ∷ Inverted ∷ []) ins its (l.0 ∷ l.1 ∷ l.2 ∷ l.3 ∷ l.4 ∷ []) ps) (sym m.is) (both_carry gap k i l.3 m.f l.4 m.g out inv))
+    subst (λ (qs : List Signal). Drives gap k i (plain_flop force.Set) (Clock ∷ Din ∷ Preset ∷ Output ∷ Inverted ∷ []) (scan_flop force.Set) (Clock ∷ Din ∷ Preset ∷ ScanIn ∷ ScanEnable ∷ Output ∷ Inverted ∷ []) ins its qs joined) (sym l.5)
+    (subst (λ (ps : List Signal). Drives gap k i (plain_flop force.Set) (Clock ∷ Din ∷ Preset ∷ Output ∷ Inverted ∷ []) (scan_flop force.Set) (Clock ∷ Din ∷ Preset ∷ ScanIn ∷ ScanEnable ∷ Output ∷ Inverted ∷ []) ins its (l.0 ∷ l.1 ∷ l.2 ∷ l.3 ∷ l.4 ∷ []) ps) (sym m.is) (both_carry gap k i l.3 m.f l.4 m.g out inv))

@@ -7,7 +7,8 @@ use Rattle.dft_cells.specs.declared.kind.Role.{Role}
 use Rattle.dft_cells.specs.declared.kind.Role.TheVariants.{Input, Clock, Din, Reset, Preset, ScanIn, ScanEnable, Output, Inverted}
 use Rattle.dft_netlist.specs.declared.instance.Signal.{Signal}
 use Rattle.dft_netlist.specs.Drivers.{Source, Connection, connections_from, source_of}
-use Rattle.dft_netlist.specs.Logic.{same_role, pin_of, scan_of}
+use Rattle.dft_netlist.specs.Connections.{same_role, pin_of}
+use Rattle.dft_behavior.specs.Logic.{scan_of}
 use Rattle.dft_chains.specs.ScanOff.{moved_source, IsEnabledBy}
 use Rattle.dft_scan_frame.specs.Moves.{Gap, moved, moved_signal, at_net}
 use Rattle.dft_scan_frame.specs.Pins.{number_of}

@@ -4,7 +4,10 @@ use Rattle.std.specs.Prelude.{if◌then◌else◌}
 use Rattle.std.specs.List.{AllByRecursion, range_with_len}
 use Rattle.std.proofs.lemmas.List.FromFn.{length-range_with_len}
 use Rattle.dft_cells.specs.declared.kind.Kind.{Kind}
-use Rattle.dft_cells.specs.declared.kind.Kind.TheVariants.{And, Or, Inv, Xor, Buf, Dff, Lockup}
+use Rattle.dft_cells.specs.declared.kind.TheConstants.{DFF}
+use Rattle.dft_cells.specs.declared.kind.Kind.TheVariants as cell_kind
+use Rattle.dft_cells.specs.declared.kind.Gate.{Gate}
+use Rattle.dft_cells.specs.declared.kind.Gate.TheVariants.{Buf, Inv, And, Or, Xor}
 use Rattle.dft_cells.specs.declared.kind.Role.{Role}
 use Rattle.dft_cells.specs.declared.kind.Role.TheVariants.{ScanIn, Output}
 use Rattle.dft_cells.specs.declared.cell.Cell.{Cell}
@@ -13,7 +16,7 @@ use Rattle.dft_netlist.specs.declared.ids.NetId.{NetId}
 use Rattle.dft_netlist.specs.declared.ids.InstanceId.{InstanceId}
 use Rattle.dft_netlist.specs.declared.instance.CellRef.TheVariants.{Library}
 use Rattle.dft_netlist.specs.Drivers.{shape_of}
-use Rattle.dft_netlist.specs.Logic.{same_role}
+use Rattle.dft_netlist.specs.Connections.{same_role}
 use Rattle.dft_netlist.specs.Netlist.{Netlist}
 use Rattle.dft_config.specs.Config.{Config}
 use Rattle.dft_config.specs.declared.config.RingConfig.{RingConfig}
@@ -52,17 +55,13 @@ weight test library (APin i pin net) = 0
 
 -- no gate that is made passes
 pub record PassesNoGate (test : Kind → Bool) : Type 0 where
-  pub and : test And ≡ false
-  pub or : test Or ≡ false
-  pub inv : test Inv ≡ false
-  pub xor : test Xor ≡ false
-  pub buf : test Buf ≡ false
+  pub gates : (gate : Gate) → test (cell_kind.Gate gate) ≡ false
 
 -- the first flip-flop and the first lock-up of a library are of their kinds
-flop_kind : (library : List Cell) → IsWellFormed library → (shape_of library (Library (first_cell is_dff library))).kind ≡ Dff
+flop_kind : (library : List Cell) → IsWellFormed library → (shape_of library (Library (first_cell is_dff library))).kind ≡ DFF
 flop_kind library well = elim (dff_shape library well) [ inl e ↦ ap (λ s. s.kind) e | inr e ↦ ap (λ s. s.kind) e ]
 
-lockup_kind : (library : List Cell) → IsWellFormed library → (shape_of library (Library (first_cell is_lockup library))).kind ≡ Lockup
+lockup_kind : (library : List Cell) → IsWellFormed library → (shape_of library (Library (first_cell is_lockup library))).kind ≡ cell_kind.Lockup
 lockup_kind library well = ap (λ s. s.kind) (lockup_shape library well)
 
 module _ (test : Kind → Bool) (library : List Cell) (well : IsWellFormed library) (none : PassesNoGate test) where
@@ -70,30 +69,30 @@ module _ (test : Kind → Bool) (library : List Cell) (well : IsWellFormed libra
   Has r count = Weighs (weight test library) library r count
 
   abbrev flop : ℕ
-  flop = bit_weight (test Dff)
+  flop = bit_weight (test DFF)
 
   abbrev lock : ℕ
-  lock = bit_weight (test Lockup)
+  lock = bit_weight (test cell_kind.Lockup)
 
   net_has : Has a_net 0
   net_has at is = refl
 
-  gate_has : (kind : Kind) (inputs : List NetId) (output : NetId) → test kind ≡ false → Has (a_gate kind inputs output) 0
+  gate_has : (kind : Gate) (inputs : List NetId) (output : NetId) → test (cell_kind.Gate kind) ≡ false → Has (a_gate kind inputs output) 0
   gate_has kind inputs output fails at is = ap (λ b. bit_weight b + 0) fails
 
   flop_has : (clock input output : NetId) → Has (a_flop clock input output) flop
   flop_has clock input output at is =
-      let e : (shape_of library (Library (first_cell is_dff at.library))).kind ≡ Dff = ap (λ (l : List Cell). (shape_of library (Library (first_cell is_dff l))).kind) is ∙ flop_kind library well in
+      let e : (shape_of library (Library (first_cell is_dff at.library))).kind ≡ DFF = ap (λ (l : List Cell). (shape_of library (Library (first_cell is_dff l))).kind) is ∙ flop_kind library well in
       ap (λ k. bit_weight (test k) + 0) e ∙ omega arith
 
   lockup_has : (clock input output : NetId) → Has (a_lockup clock input output) lock
   lockup_has clock input output at is =
-      let e : (shape_of library (Library (first_cell is_lockup at.library))).kind ≡ Lockup = ap (λ (l : List Cell). (shape_of library (Library (first_cell is_lockup l))).kind) is ∙ lockup_kind library well in
+      let e : (shape_of library (Library (first_cell is_lockup at.library))).kind ≡ cell_kind.Lockup = ap (λ (l : List Cell). (shape_of library (Library (first_cell is_lockup l))).kind) is ∙ lockup_kind library well in
       ap (λ k. bit_weight (test k) + 0) e ∙ omega arith
 
   -- ---- sums
 
-  driving_has : (kind : Kind) (inputs : List NetId) → test kind ≡ false → Has (a_driving_gate kind inputs) 0
+  driving_has : (kind : Gate) (inputs : List NetId) → test (cell_kind.Gate kind) ≡ false → Has (a_driving_gate kind inputs) 0
   unfolding a_driving_gate
   driving_has kind inputs fails =
       weighs_bind (weight test library) library a_net (λ output. a_gate kind inputs output >> pure output) 0 0 net_has
@@ -104,7 +103,7 @@ module _ (test : Kind → Bool) (library : List Cell) (well : IsWellFormed libra
   pairs_has [] = weighs_pure {A = List NetId} (weight test library) library []
   pairs_has (a ∷ []) = weighs_pure (weight test library) library (a ∷ [])
   pairs_has (a ∷ b ∷ nets) =
-      weighs_bind (weight test library) library (a_driving_gate Xor (a ∷ b ∷ [])) (λ joined. pairs nets >>= (λ more. pure (joined ∷ more))) 0 0 (driving_has Xor (a ∷ b ∷ []) none.xor)
+      weighs_bind (weight test library) library (a_driving_gate Xor (a ∷ b ∷ [])) (λ joined. pairs nets >>= (λ more. pure (joined ∷ more))) 0 0 (driving_has Xor (a ∷ b ∷ []) (none.gates Xor))
       (λ joined. weighs_bind (weight test library) library (pairs nets) (λ more. pure (joined ∷ more)) 0 0 (pairs_has nets) (λ more. weighs_pure (weight test library) library (joined ∷ more)))
 
   levels_has : (count : ℕ) (nets : List NetId) → Has (levels count nets) 0
@@ -124,7 +123,7 @@ module _ (test : Kind → Bool) (library : List Cell) (well : IsWellFormed libra
       weighs_as (weight test library) library (a_stage ring ports run stages stage) (0 + (0 + flop)) flop (omega arith)
       (weighs_bind (weight test library) library (a_sum (stage_terms ring ports.channels stages stage)) (λ sum. a_driving_gate And (sum ∷ run ∷ []) >>= (λ kept. a_flop ports.edt_clock kept (net_at stages stage))) 0 (0 + flop)
       (sum_has (stage_terms ring ports.channels stages stage))
-      (λ sum. weighs_bind (weight test library) library (a_driving_gate And (sum ∷ run ∷ [])) (λ kept. a_flop ports.edt_clock kept (net_at stages stage)) 0 flop (driving_has And (sum ∷ run ∷ []) none.and) (λ kept. flop_has ports.edt_clock kept (net_at stages stage))))
+      (λ sum. weighs_bind (weight test library) library (a_driving_gate And (sum ∷ run ∷ [])) (λ kept. a_flop ports.edt_clock kept (net_at stages stage)) 0 flop (driving_has And (sum ∷ run ∷ []) (none.gates And)) (λ kept. flop_has ports.edt_clock kept (net_at stages stage))))
 
   abbrev ring_end : (run : NetId) → (phases : List NetId) → Recipe Ring
   ring_end run phases = pure (record { run = run; phases = phases })
@@ -148,7 +147,7 @@ module _ (test : Kind → Bool) (library : List Cell) (well : IsWellFormed libra
   unfolding a_ring
   ring_has config ports =
       weighs_as (weight test library) library (a_ring config ports) (0 + (0 + (times config.ring.stages flop + (0 + 0)))) (times config.ring.stages flop) (omega arith)
-      (weighs_bind (weight test library) library (a_driving_gate Inv (ports.edt_update ∷ [])) (running config ports) 0 (0 + (times config.ring.stages flop + (0 + 0))) (driving_has Inv (ports.edt_update ∷ []) none.inv)
+      (weighs_bind (weight test library) library (a_driving_gate Inv (ports.edt_update ∷ [])) (running config ports) 0 (0 + (times config.ring.stages flop + (0 + 0))) (driving_has Inv (ports.edt_update ∷ []) (none.gates Inv))
       (λ run. weighs_bind (weight test library) library (nets_made config.ring.stages) (staged config ports run) 0 (times config.ring.stages flop + (0 + 0)) (none_collect (weight test library) library (λ _. a_net) (range_with_len 0 config.ring.stages) (λ x. net_has))
       (λ stages. weighs_bind (weight test library) library (each (a_stage config.ring ports run stages) (range_with_len 0 config.ring.stages)) (phased config run stages) (times config.ring.stages flop) (0 + 0)
       (stages_have config ports run stages)
@@ -160,8 +159,8 @@ module _ (test : Kind → Bool) (library : List Cell) (well : IsWellFormed libra
   next_has : (ports : EdtPorts) (run : NetId) (nets : MaskNets) → Has (a_next ports run nets) 0
   unfolding a_next
   next_has ports run nets =
-      weighs_bind (weight test library) library (a_driving_gate And (ports.edt_update ∷ nets.mask ∷ [])) (λ taken. a_driving_gate And (run ∷ nets.hold ∷ []) >>= (λ kept. a_driving_gate Or (taken ∷ kept ∷ []))) 0 0 (driving_has And (ports.edt_update ∷ nets.mask ∷ []) none.and)
-      (λ taken. weighs_bind (weight test library) library (a_driving_gate And (run ∷ nets.hold ∷ [])) (λ kept. a_driving_gate Or (taken ∷ kept ∷ [])) 0 0 (driving_has And (run ∷ nets.hold ∷ []) none.and) (λ kept. driving_has Or (taken ∷ kept ∷ []) none.or))
+      weighs_bind (weight test library) library (a_driving_gate And (ports.edt_update ∷ nets.mask ∷ [])) (λ taken. a_driving_gate And (run ∷ nets.hold ∷ []) >>= (λ kept. a_driving_gate Or (taken ∷ kept ∷ []))) 0 0 (driving_has And (ports.edt_update ∷ nets.mask ∷ []) (none.gates And))
+      (λ taken. weighs_bind (weight test library) library (a_driving_gate And (run ∷ nets.hold ∷ [])) (λ kept. a_driving_gate Or (taken ∷ kept ∷ [])) 0 0 (driving_has And (run ∷ nets.hold ∷ []) (none.gates And)) (λ kept. driving_has Or (taken ∷ kept ∷ []) (none.gates Or)))
 
   abbrev mask_of : (mask hold : NetId) → MaskNets
   mask_of mask hold = record { mask = mask; hold = hold }
@@ -205,12 +204,12 @@ module _ (test : Kind → Bool) (library : List Cell) (well : IsWellFormed libra
 
   gated_has : (hold end : NetId) → Has (a_gated hold end) 0
   unfolding a_gated
-  gated_has hold end = weighs_bind (weight test library) library (a_driving_gate Inv (hold ∷ [])) (λ shown. a_driving_gate And (shown ∷ end ∷ [])) 0 0 (driving_has Inv (hold ∷ []) none.inv) (λ shown. driving_has And (shown ∷ end ∷ []) none.and)
+  gated_has hold end = weighs_bind (weight test library) library (a_driving_gate Inv (hold ∷ [])) (λ shown. a_driving_gate And (shown ∷ end ∷ [])) 0 0 (driving_has Inv (hold ∷ []) (none.gates Inv)) (λ shown. driving_has And (shown ∷ end ∷ []) (none.gates And))
 
   output_has : (config : Config) (ports : EdtPorts) (gated : List NetId) (output : ℕ) → Has (an_output config ports gated output) 0
   unfolding an_output
   output_has config ports gated output =
-      weighs_bind (weight test library) library (a_sum (map (net_at gated) (group_of config output))) (λ sum. a_gate Buf (sum ∷ []) (net_at ports.outputs output)) 0 0 (sum_has (map (net_at gated) (group_of config output))) (λ sum. gate_has Buf (sum ∷ []) (net_at ports.outputs output) none.buf)
+      weighs_bind (weight test library) library (a_sum (map (net_at gated) (group_of config output))) (λ sum. a_gate Buf (sum ∷ []) (net_at ports.outputs output)) 0 0 (sum_has (map (net_at gated) (group_of config output))) (λ sum. gate_has Buf (sum ∷ []) (net_at ports.outputs output) (none.gates Buf))
 
   abbrev gates_of : Config → (ends : List NetId) → (masks : List MaskNets) → Recipe (List NetId)
   gates_of config ends masks = collect (λ chain. a_gated (masks_at masks chain).hold (net_at ends chain)) (range_with_len 0 config.chains)
@@ -257,7 +256,7 @@ module _ (test : Kind → Bool) (library : List Cell) (well : IsWellFormed libra
 
     clock_has : (port : NetId) (high : Bool) → Has (a_lockup_clock port high) 0
     clock_has port false = weighs_pure {A = NetId} (weight test library) library port
-    clock_has port true = driving_has Inv (port ∷ []) none.inv
+    clock_has port true = driving_has Inv (port ∷ []) (none.gates Inv)
 
     behind_cell_has : (cells : List InstanceId) (outputs : List NetId) (after : ℕ) (clock : NetId) → Has (a_lockup_behind n cells outputs after clock) (0 + (lock + 0))
     unfolding a_lockup_behind
@@ -324,7 +323,7 @@ module _ (test : Kind → Bool) (library : List Cell) (well : IsWellFormed libra
         (weighs_bind (weight test library) library (rows n gap plan.chains) (λ outputs. each (a_plain_chain n config plan gap outputs) chain_numbers >> each (a_plain_end config gap outputs) chain_numbers) 0 (sum_of crossings chain_numbers + 0) rows_have
         (λ outputs. weighs_bind (weight test library) library (each (a_plain_chain n config plan gap outputs) chain_numbers) (λ _. each (a_plain_end config gap outputs) chain_numbers) (sum_of crossings chain_numbers) 0
         (weighs_each (weight test library) library (a_plain_chain n config plan gap outputs) crossings chain_numbers (λ chain. chain_has chain (cells_at plan.chains chain) (row_at outputs chain) (plain_in gap.before chain)))
-        (λ _. none_each (weight test library) library (a_plain_end config gap outputs) chain_numbers (λ chain. gate_has Buf (last_net (row_at outputs chain) ∷ []) (plain_out gap.before config.chains chain) none.buf))))
+        (λ _. none_each (weight test library) library (a_plain_end config gap outputs) chain_numbers (λ chain. gate_has Buf (last_net (row_at outputs chain) ∷ []) (plain_out gap.before config.chains chain) (none.gates Buf)))))
 
     abbrev fed : (chain : ℕ) → ℕ
     fed chain = entered (falling_head plan chain) + crossings chain

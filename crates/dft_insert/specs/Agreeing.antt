@@ -3,8 +3,8 @@ use Rattle.std.specs.Prelude.{ℕ, ◌+◌, ◌<◌, ◌≡◌, ◌==◌, ◌||�
 use Rattle.dft_base.specs.declared.tri.Tri.{Tri}
 use Rattle.dft_base.specs.declared.tri.Tri.TheVariants.{Zero}
 use Rattle.dft_netlist.specs.Netlist.{Netlist}
-use Rattle.dft_netlist.specs.Logic.{Ports, logic_of, flip_flop}
-use Rattle.dft_netlist.specs.Runs.{Now, Moment, Step, next_now, AreSteps, AreLow}
+use Rattle.dft_behavior.specs.Logic.{Ports, logic_of, flip_flop}
+use Rattle.dft_behavior.specs.Runs.{Now, Moment, Step, next_now, AreSteps, AreLow}
 use Rattle.dft_config.specs.Config.{Config}
 use Rattle.dft_chains.specs.ScanOff.{Places, Contains, AreFreeAlike, AreSameSteps, AllAgree, set_to}
 use Rattle.dft_scan_frame.specs.Moves.{moved}

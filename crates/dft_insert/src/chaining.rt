@@ -8,7 +8,7 @@ ghost use Rattle.dft_insert.specs.Chained.{a_chain, a_crossing, a_lockup_behind,
 
 use crate::outputs::net_at;
 use crate::pins::{cell_in, join_scan_in};
-use dft_cells::Kind;
+use dft_cells::Gate;
 use dft_config::Config;
 use dft_netlist::{Design, InstanceId, NetId, NetlistError};
 use dft_parts::PartsBuilder;
@@ -129,7 +129,7 @@ fn make_clock(parts: &mut PartsBuilder, port: NetId, high: bool) -> Result<NetId
     ensures nets { OnOk result (length parts.old.netlist.nets ≤ length parts.new.netlist.nets) }
 {
     if high {
-        parts.driving_gate(Kind::Inv, &[port])
+        parts.driving_gate(Gate::Inv, &[port])
     } else {
         Ok(port)
     }

@@ -2,7 +2,7 @@
 
 ghost use Rattle.std.specs.Prelude.{◌≡◌, ◌<◌, ◌≤◌, ◌^◌, Ok, length, map, slice_get};
 ghost use Rattle.dft_cells.specs.WellFormed.{role_of};
-ghost use Rattle.dft_netlist.specs.Logic.{same_role};
+ghost use Rattle.dft_netlist.specs.Connections.{same_role};
 ghost use Rattle.dft_rules.specs.Rules.{scan_cell_of};
 ghost use Rattle.dft_parts.specs.Recipes.{outcome};
 ghost use Rattle.dft_scan_frame.specs.Pins.{number_of};

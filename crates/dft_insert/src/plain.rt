@@ -9,7 +9,7 @@ ghost use Rattle.dft_insert.specs.Scanned.{a_plain_chain, a_plain_end, plain_rec
 use crate::chaining::make_chain;
 use crate::outputs::{last_net, make_rows, row_at};
 use dft_base::Listed;
-use dft_cells::Kind;
+use dft_cells::Gate;
 use dft_config::Config;
 use dft_netlist::{Design, NetId, NetlistError};
 use dft_parts::PartsBuilder;
@@ -78,7 +78,7 @@ fn make_plain_ends(
     let count = chains.count();
     for chain in 0..count {
         let end = last_net(row_at(rows, chain));
-        parts.gate(Kind::Buf, &[end], NetId(first + u32::from(chain)))?;
+        parts.gate(Gate::Buf, &[end], NetId(first + u32::from(chain)))?;
     }
     Ok(())
 }

@@ -2,13 +2,16 @@ ghost use Rattle.std.specs.Prelude.{◌≡◌, alloc_error};
 ghost use Rattle.dft_lexing.specs.declared.read_error.ReadError.TheVariants as errors;
 
 use std::alloc::{AllocError, AllocFailed};
+use thiserror::Error;
 
 /// Why a text was not read. The faults of texts are each reader's own.
-#[derive(Debug, Drop)]
+#[derive(Debug, Error, Drop)]
 pub enum ReadError<F> {
     /// The first fault of the text.
+    #[error("the text is refused")]
     Fault(F),
     /// Memory ran out.
+    #[error("out of memory")]
     Memory(AllocError),
 }
 

@@ -8,7 +8,7 @@ use Rattle.dft_base.proofs.BitLemmas.{true_false}
 use Rattle.dft_base.specs.Solutions.{sum_over}
 use Rattle.dft_base.proofs.SumLemmas.{sum_same}
 use Rattle.dft_netlist.specs.declared.ids.InstanceId.{InstanceId}
-use Rattle.dft_netlist.specs.Logic.{Ports}
+use Rattle.dft_behavior.specs.Logic.{Ports}
 use Rattle.dft_netlist.specs.Netlist.{Netlist}
 use Rattle.dft_config.specs.Config.{Config}
 use Rattle.dft_config.specs.Ring.{Table}

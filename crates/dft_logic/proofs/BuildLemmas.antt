@@ -3,7 +3,7 @@ use Rattle.std.proofs.Common.{false, ℕ, List, [], ◌∷◌, ◌++◌, ◌≡�
 use Rattle.std.proofs.Math.ListN.{get_or-append}
 use Rattle.std.proofs.Math.Seq.{get_or-append_seam}
 use Rattle.dft_netlist.specs.Netlist.{Netlist}
-use Rattle.dft_netlist.specs.Logic.{Ports, Cell, is_lockup, cell_or_none}
+use Rattle.dft_behavior.specs.Logic.{Ports, Cell, is_lockup, cell_or_none}
 use Rattle.std.specs.Prelude.{if◌then◌else◌}
 use Rattle.std.specs.Option.{option_or}
 use Rattle.dft_cells.specs.declared.kind.Kind.{Kind}

@@ -16,13 +16,14 @@ use Rattle.dft_netlist.specs.declared.ids.NetId.{NetId}
 use Rattle.dft_netlist.specs.declared.instance.Instance.{Instance}
 use Rattle.dft_netlist.specs.Netlist.{Netlist}
 use Rattle.dft_netlist.specs.Sound.{IsNetlist}
-use Rattle.dft_netlist.specs.ClockRoots.{ClockRoot, clock_root_of}
+use Rattle.dft_behavior.specs.ClockRoots.{ClockRoot, clock_root_of}
 use Rattle.dft_netlist.specs.Drivers.{Source, Net, Tied, Loose, Driver, Connection, source_of, kind_of, kind_at, pins_of, driver, nets_of, nets_read, is_lockup_input, lockup_inputs}
 use Rattle.dft_netlist.specs.Drivers as drivers
-use Rattle.dft_netlist.specs.Logic.{Ports, Cell, Meaning, same_role, pin_of, or_loose, domain_of, domain_at, flip_flop, modelled_of, locked, is_lockup, no_cell, cell_or_none, flop_meaning, lockup_meaning, meaning_of, logic_of, reads}
-use Rattle.dft_netlist.specs.Logic as meanings
+use Rattle.dft_netlist.specs.Connections.{same_role, pin_of}
+use Rattle.dft_behavior.specs.Logic.{Ports, Cell, Meaning, or_loose, domain_of, domain_at, flip_flop, modelled_of, locked, is_lockup, no_cell, cell_or_none, flop_meaning, lockup_meaning, meaning_of, logic_of, reads}
+use Rattle.dft_behavior.specs.Logic as meanings
 use Rattle.dft_netlist.specs.Orders.{Has, IsOrderFrom, IsOrder, numbers_of}
-use Rattle.dft_netlist.proofs.StoredLemmas.{lockup_stored}
+use Rattle.dft_behavior.proofs.StoredLemmas.{lockup_stored}
 use Rattle.dft_logic.specs.declared.circuit.Op.{Op}
 use Rattle.dft_logic.specs.declared.circuit.Op.TheVariants.{Free}
 use Rattle.dft_logic.specs.declared.circuit.Latch.{Latch}
@@ -108,25 +109,9 @@ past_cell n ports i far =
 
 kept_is : (k : Kind) (latch : Option (ℕ × Source)) (found : ℕ × Source) → latch_kept k latch ≡ Some found → latch ≡ Some found
 kept_is kind.Lockup latch found h = h
+kept_is (kind.Gate gate) latch found h = absurd cc
+kept_is (kind.Flop flop) latch found h = absurd cc
 kept_is kind.Opaque latch found h = absurd cc
-kept_is kind.Dff latch found h = absurd cc
-kept_is kind.Dffr latch found h = absurd cc
-kept_is kind.Dffs latch found h = absurd cc
-kept_is kind.Sdff latch found h = absurd cc
-kept_is kind.Sdffr latch found h = absurd cc
-kept_is kind.Sdffs latch found h = absurd cc
-kept_is kind.Buf latch found h = absurd cc
-kept_is kind.Inv latch found h = absurd cc
-kept_is kind.And latch found h = absurd cc
-kept_is kind.Nand latch found h = absurd cc
-kept_is kind.Or latch found h = absurd cc
-kept_is kind.Nor latch found h = absurd cc
-kept_is kind.Xor latch found h = absurd cc
-kept_is kind.Xnor latch found h = absurd cc
-kept_is kind.Mux2 latch found h = absurd cc
-kept_is (kind.Table number) latch found h = absurd cc
-kept_is kind.Tie0 latch found h = absurd cc
-kept_is kind.Tie1 latch found h = absurd cc
 
 pair_same : (p q : ℕ × Source) → Some p ≡ Some q → p ≡ q
 pair_same p q h = cc

@@ -1,15 +1,4 @@
-mod Examples
-pub mod LockupLemmas
-pub mod ReadLemmas
-pub mod NeededLemmas
-pub mod StillLemmas
-pub mod ShownLemmas
-pub mod TakeLemmas
-pub mod ListLemmas
-pub mod EntryLemmas
-pub mod RiseLemmas
 pub mod Settlings
-pub mod CircuitRanks
 pub mod CircuitReads
 pub mod Writings
 pub mod TableLemmas
@@ -19,14 +8,5 @@ pub mod OpLemmas
 pub mod BuildLemmas
 pub mod Compiled
 pub mod Fillings
-pub mod NeedLemmas
-pub mod Listings
-pub mod Strobes
-pub mod ShownTableLemmas
-pub mod OriginLemmas
-pub mod EntryTableLemmas
-pub mod TakingLemmas
-pub mod PlanLemmas
-pub mod LookLemmas
 pub mod FlagLemmas
 pub mod Sweeps

@@ -1,10 +1,11 @@
 -- What a net is that is joined to an output pin, from the pins of the instance.
 use Rattle.std.proofs.Common.{ℕ, zero, suc, Bool, true, false, List, [], ◌∷◌, ◌≡◌, ◌<◌, ◌++◌, Option, None, Some, length, map, refl, sym, ap, ◌∙◌, subst, slice_get, arith}
-use Rattle.std.specs.Prelude.{if◌then◌else◌, replicate, IsTrue}
+use Rattle.std.specs.Prelude.{if◌then◌else◌, replicate}
 use Rattle.std.proofs.lemmas.List.{length-map}
 use Rattle.std.proofs.lemmas.Option.{slice_get_within}
 use Rattle.dft_cells.specs.declared.kind.Kind.{Kind}
 use Rattle.dft_cells.specs.declared.kind.Kind.TheVariants as kind
+use Rattle.dft_cells.specs.declared.kind.Gate.{Gate as GateKind}
 use Rattle.dft_cells.specs.declared.kind.Role.{Role}
 use Rattle.dft_cells.specs.declared.kind.Role.TheVariants as role
 use Rattle.dft_cells.specs.FlipFlops.{is_flip_flop}
@@ -15,12 +16,13 @@ use Rattle.dft_netlist.specs.declared.instance.Instance.{Instance}
 use Rattle.dft_netlist.specs.declared.instance.CellRef.{CellRef}
 use Rattle.dft_netlist.specs.declared.instance.CellRef.TheVariants as cell_ref
 use Rattle.dft_base.specs.Lexing.{Text}
-use Rattle.dft_netlist.specs.Sound.{IsNetlist, IsCellOf, is_primitive}
+use Rattle.dft_netlist.specs.Sound.{IsNetlist, IsCellOf}
 use Rattle.dft_netlist.specs.Netlist.{Netlist}
-use Rattle.dft_netlist.specs.ClockRoots.{ClockRoot}
+use Rattle.dft_behavior.specs.ClockRoots.{ClockRoot}
 use Rattle.dft_netlist.specs.Drivers.{Source, Connection, source_of, is_input, inputs_of, gate_roles, shape_of_cell, shape_of, connections_from, driver_of_kind, driver, kind_of, kind_at, pins_at, pins_of}
-use Rattle.dft_netlist.specs.Logic.{Ports, Cell, Meaning, Gate, Lockup, Free, Input, Clock, Joined, Flop, same_role, pin_of, or_loose, domain_at, forcing, scan_of, modelled, modelled_of, flip_flop, locked, lockup_meaning, flop_meaning, meaning_of}
-use Rattle.dft_netlist.proofs.SettledLemmas.{no_flop}
+use Rattle.dft_netlist.specs.Connections.{same_role, pin_of}
+use Rattle.dft_behavior.specs.Logic.{Ports, Cell, Meaning, Gate, Lockup, Free, Input, Clock, Joined, Flop, or_loose, domain_at, forcing, scan_of, modelled, modelled_of, flip_flop, locked, lockup_meaning, flop_meaning, meaning_of}
+use Rattle.dft_behavior.proofs.SettledLemmas.{no_flop}
 use Rattle.dft_logic.specs.declared.circuit.Op.{Op}
 use Rattle.dft_logic.specs.declared.circuit.Op.TheVariants as op
 use Rattle.dft_logic.specs.Circuit.{source_at, meaning, Fits}
@@ -63,31 +65,15 @@ lockup_same : (n : Netlist) (ports : Ports) (i : ℕ) (pins : List Connection) �
     ≡ lockup_meaning i (domain_at n ports (pin_of role.Clock i pins)) (or_loose i (pin_of role.Din i pins))
 lockup_same n ports i pins = λ t. lockup_meaning i (domain_at n ports (found_same role.Clock i pins t)) (or_loose i (found_same role.Din i pins t))
 
-gate_same : (k : Kind) (i : ℕ) (pins : List Connection) → Gate k (inputs_in (map (wired_by i) pins)) ≡ Gate k (inputs_of i pins)
+gate_same : (k : GateKind) (i : ℕ) (pins : List Connection) → Gate k (inputs_in (map (wired_by i) pins)) ≡ Gate k (inputs_of i pins)
 gate_same k i pins = ap (Gate k) (inputs_same i pins)
 
 pub meaning_same : (n : Netlist) (ports : Ports) (net i : ℕ) (inverted : Bool) (k : Kind) → k ≡ kind_at n i →
     meaning_in n ports i k inverted (map (wired_by i) (pins_of n i)) ≡ meaning_of n ports net (driver_of_kind k i inverted (inputs_of i (pins_of n i)))
 meaning_same n ports net i inverted kind.Opaque e = refl
 meaning_same n ports net i inverted kind.Lockup e = lockup_same n ports i (pins_of n i)
-meaning_same n ports net i inverted kind.Dff e = flop_same n ports i inverted kind.Dff refl e
-meaning_same n ports net i inverted kind.Dffr e = flop_same n ports i inverted kind.Dffr refl e
-meaning_same n ports net i inverted kind.Dffs e = flop_same n ports i inverted kind.Dffs refl e
-meaning_same n ports net i inverted kind.Sdff e = flop_same n ports i inverted kind.Sdff refl e
-meaning_same n ports net i inverted kind.Sdffr e = flop_same n ports i inverted kind.Sdffr refl e
-meaning_same n ports net i inverted kind.Sdffs e = flop_same n ports i inverted kind.Sdffs refl e
-meaning_same n ports net i inverted kind.Buf e = gate_same kind.Buf i (pins_of n i)
-meaning_same n ports net i inverted kind.Inv e = gate_same kind.Inv i (pins_of n i)
-meaning_same n ports net i inverted kind.And e = gate_same kind.And i (pins_of n i)
-meaning_same n ports net i inverted kind.Nand e = gate_same kind.Nand i (pins_of n i)
-meaning_same n ports net i inverted kind.Or e = gate_same kind.Or i (pins_of n i)
-meaning_same n ports net i inverted kind.Nor e = gate_same kind.Nor i (pins_of n i)
-meaning_same n ports net i inverted kind.Xor e = gate_same kind.Xor i (pins_of n i)
-meaning_same n ports net i inverted kind.Xnor e = gate_same kind.Xnor i (pins_of n i)
-meaning_same n ports net i inverted kind.Mux2 e = gate_same kind.Mux2 i (pins_of n i)
-meaning_same n ports net i inverted (kind.Table number) e = gate_same (kind.Table number) i (pins_of n i)
-meaning_same n ports net i inverted kind.Tie0 e = gate_same kind.Tie0 i (pins_of n i)
-meaning_same n ports net i inverted kind.Tie1 e = gate_same kind.Tie1 i (pins_of n i)
+meaning_same n ports net i inverted (kind.Flop flop) e = flop_same n ports i inverted (kind.Flop flop) refl e
+meaning_same n ports net i inverted (kind.Gate gate) e = gate_same gate i (pins_of n i)
 
 -- ---- a lock-up is that of its instance
 
@@ -95,31 +81,15 @@ lockup_is : (i : ℕ) (domain : Option ClockRoot) (src : Source) (c e : ℕ) (hi
 lockup_is i None src c e high source h = absurd cc
 lockup_is i (Some d) src c e high source h = (let a : i ≡ c = cc in a, let b : d.port ≡ e = cc in let s : src ≡ source = cc in λ t. Some (b t, s t))
 
-no_gate : (k : Kind) (inputs : List Source) (c e : ℕ) (high : Bool) (source : Source) → Gate k inputs ≡ Lockup c e high source → ⊥
+no_gate : (k : GateKind) (inputs : List Source) (c e : ℕ) (high : Bool) (source : Source) → Gate k inputs ≡ Lockup c e high source → ⊥
 no_gate k inputs c e high source h = cc
 
 pub latch_is : (n : Netlist) (ports : Ports) (i : ℕ) (inverted : Bool) (k : Kind) (ws : List Wired) (c e : ℕ) (high : Bool) (source : Source) → meaning_in n ports i k inverted ws ≡ Lockup c e high source →
     (i ≡ c) × (latch_kept k (latch_in n ports i ws) ≡ Some (e, source))
 latch_is n ports i inverted kind.Opaque ws c e high source h = absurd cc
 latch_is n ports i inverted kind.Lockup ws c e high source h = lockup_is i (domain_at n ports (found_in role.Clock ws)) (or_loose i (found_in role.Din ws)) c e high source h
-latch_is n ports i inverted kind.Dff ws c e high source h = absurd (no_flop i inverted _ c e high source h)
-latch_is n ports i inverted kind.Dffr ws c e high source h = absurd (no_flop i inverted _ c e high source h)
-latch_is n ports i inverted kind.Dffs ws c e high source h = absurd (no_flop i inverted _ c e high source h)
-latch_is n ports i inverted kind.Sdff ws c e high source h = absurd (no_flop i inverted _ c e high source h)
-latch_is n ports i inverted kind.Sdffr ws c e high source h = absurd (no_flop i inverted _ c e high source h)
-latch_is n ports i inverted kind.Sdffs ws c e high source h = absurd (no_flop i inverted _ c e high source h)
-latch_is n ports i inverted kind.Buf ws c e high source h = absurd (no_gate kind.Buf _ c e high source h)
-latch_is n ports i inverted kind.Inv ws c e high source h = absurd (no_gate kind.Inv _ c e high source h)
-latch_is n ports i inverted kind.And ws c e high source h = absurd (no_gate kind.And _ c e high source h)
-latch_is n ports i inverted kind.Nand ws c e high source h = absurd (no_gate kind.Nand _ c e high source h)
-latch_is n ports i inverted kind.Or ws c e high source h = absurd (no_gate kind.Or _ c e high source h)
-latch_is n ports i inverted kind.Nor ws c e high source h = absurd (no_gate kind.Nor _ c e high source h)
-latch_is n ports i inverted kind.Xor ws c e high source h = absurd (no_gate kind.Xor _ c e high source h)
-latch_is n ports i inverted kind.Xnor ws c e high source h = absurd (no_gate kind.Xnor _ c e high source h)
-latch_is n ports i inverted kind.Mux2 ws c e high source h = absurd (no_gate kind.Mux2 _ c e high source h)
-latch_is n ports i inverted (kind.Table number) ws c e high source h = absurd (no_gate (kind.Table number) _ c e high source h)
-latch_is n ports i inverted kind.Tie0 ws c e high source h = absurd (no_gate kind.Tie0 _ c e high source h)
-latch_is n ports i inverted kind.Tie1 ws c e high source h = absurd (no_gate kind.Tie1 _ c e high source h)
+latch_is n ports i inverted (kind.Flop flop) ws c e high source h = absurd (no_flop i inverted _ c e high source h)
+latch_is n ports i inverted (kind.Gate gate) ws c e high source h = absurd (no_gate gate _ c e high source h)
 
 -- ---- a gate has as many inputs as it takes
 
@@ -143,74 +113,23 @@ fits_by op.Free m e f = tt
 
 -- what the roles of a gate are
 abbrev pub GateFits : Kind → List Role → Type 0
-GateFits kind.Opaque roles = Unit {0}
+GateFits (kind.Gate gate) roles = GateRoles (TakesInputs gate) roles
+GateFits (kind.Flop flop) roles = Unit {0}
 GateFits kind.Lockup roles = Unit {0}
-GateFits kind.Dff roles = Unit {0}
-GateFits kind.Dffr roles = Unit {0}
-GateFits kind.Dffs roles = Unit {0}
-GateFits kind.Sdff roles = Unit {0}
-GateFits kind.Sdffr roles = Unit {0}
-GateFits kind.Sdffs roles = Unit {0}
-GateFits kind.Buf roles = GateRoles (TakesInputs kind.Buf) roles
-GateFits kind.Inv roles = GateRoles (TakesInputs kind.Inv) roles
-GateFits kind.And roles = GateRoles (TakesInputs kind.And) roles
-GateFits kind.Nand roles = GateRoles (TakesInputs kind.Nand) roles
-GateFits kind.Or roles = GateRoles (TakesInputs kind.Or) roles
-GateFits kind.Nor roles = GateRoles (TakesInputs kind.Nor) roles
-GateFits kind.Xor roles = GateRoles (TakesInputs kind.Xor) roles
-GateFits kind.Xnor roles = GateRoles (TakesInputs kind.Xnor) roles
-GateFits kind.Mux2 roles = GateRoles (TakesInputs kind.Mux2) roles
-GateFits (kind.Table number) roles = GateRoles (TakesInputs (kind.Table number)) roles
-GateFits kind.Tie0 roles = GateRoles (TakesInputs kind.Tie0) roles
-GateFits kind.Tie1 roles = GateRoles (TakesInputs kind.Tie1) roles
+GateFits kind.Opaque roles = Unit {0}
 
 from_cell : (k : Kind) (roles : List Role) → HasRoles k roles → GateFits k roles
+from_cell (kind.Flop flop) roles h = tt
 from_cell kind.Opaque roles h = tt
 from_cell kind.Lockup roles h = tt
-from_cell kind.Dff roles h = tt
-from_cell kind.Dffr roles h = tt
-from_cell kind.Dffs roles h = tt
-from_cell kind.Sdff roles h = tt
-from_cell kind.Sdffr roles h = tt
-from_cell kind.Sdffs roles h = tt
-from_cell kind.Buf roles h = h
-from_cell kind.Inv roles h = h
-from_cell kind.And roles h = h
-from_cell kind.Nand roles h = h
-from_cell kind.Or roles h = h
-from_cell kind.Nor roles h = h
-from_cell kind.Xor roles h = h
-from_cell kind.Xnor roles h = h
-from_cell kind.Mux2 roles h = h
-from_cell (kind.Table number) roles h = h
-from_cell kind.Tie0 roles h = h
-from_cell kind.Tie1 roles h = h
+from_cell (kind.Gate gate) roles h = h
 
 gate_replicates : (inputs : ℕ) → gate_roles inputs ≡ replicate inputs role.Input ++ role.Output ∷ []
 gate_replicates zero = refl
 gate_replicates (suc inputs) = ap (λ (l : List Role). role.Input ∷ l) (gate_replicates inputs)
 
-from_gate : (k : Kind) (inputs : ℕ) → IsTrue (is_primitive k) → TakesInputs k inputs → GateFits k (gate_roles inputs)
-from_gate kind.Buf inputs h t = (inputs, t, gate_replicates inputs)
-from_gate kind.Inv inputs h t = (inputs, t, gate_replicates inputs)
-from_gate kind.And inputs h t = (inputs, t, gate_replicates inputs)
-from_gate kind.Nand inputs h t = (inputs, t, gate_replicates inputs)
-from_gate kind.Or inputs h t = (inputs, t, gate_replicates inputs)
-from_gate kind.Nor inputs h t = (inputs, t, gate_replicates inputs)
-from_gate kind.Xor inputs h t = (inputs, t, gate_replicates inputs)
-from_gate kind.Xnor inputs h t = (inputs, t, gate_replicates inputs)
-from_gate kind.Opaque inputs h t = tt
-from_gate kind.Lockup inputs h t = tt
-from_gate kind.Dff inputs h t = tt
-from_gate kind.Dffr inputs h t = tt
-from_gate kind.Dffs inputs h t = tt
-from_gate kind.Sdff inputs h t = tt
-from_gate kind.Sdffr inputs h t = tt
-from_gate kind.Sdffs inputs h t = tt
-from_gate kind.Mux2 inputs h t = absurd cc
-from_gate (kind.Table number) inputs h t = absurd cc
-from_gate kind.Tie0 inputs h t = absurd cc
-from_gate kind.Tie1 inputs h t = absurd cc
+from_gate : (k : GateKind) (inputs : ℕ) → TakesInputs k inputs → GateFits (kind.Gate k) (gate_roles inputs)
+from_gate k inputs t = (inputs, t, gate_replicates inputs)
 
 count_inputs : (n p i : ℕ) (signals : List Signal) → length signals ≡ suc n → length (inputs_of i (connections_from p (replicate n role.Input ++ role.Output ∷ []) signals)) ≡ n
 count_inputs zero p i [] e = absurd (omega arith)
@@ -244,27 +163,11 @@ pins_fit : (n : Netlist) (ports : Ports) (i : ℕ) (inverted : Bool) (k : Kind) 
     FitsMeaning (meaning_in n ports i k inverted (map (wired_by i) (connections_from 0 roles signals)))
 pins_fit n ports i inverted kind.Opaque roles signals g e = tt
 pins_fit n ports i inverted kind.Lockup roles signals g e = lockup_fits i _ _
-pins_fit n ports i inverted kind.Dff roles signals g e = flop_fits i inverted _
-pins_fit n ports i inverted kind.Dffr roles signals g e = flop_fits i inverted _
-pins_fit n ports i inverted kind.Dffs roles signals g e = flop_fits i inverted _
-pins_fit n ports i inverted kind.Sdff roles signals g e = flop_fits i inverted _
-pins_fit n ports i inverted kind.Sdffr roles signals g e = flop_fits i inverted _
-pins_fit n ports i inverted kind.Sdffs roles signals g e = flop_fits i inverted _
-pins_fit n ports i inverted kind.Buf roles signals g e = gate_takes (TakesInputs kind.Buf) roles signals i g e
-pins_fit n ports i inverted kind.Inv roles signals g e = gate_takes (TakesInputs kind.Inv) roles signals i g e
-pins_fit n ports i inverted kind.And roles signals g e = gate_takes (TakesInputs kind.And) roles signals i g e
-pins_fit n ports i inverted kind.Nand roles signals g e = gate_takes (TakesInputs kind.Nand) roles signals i g e
-pins_fit n ports i inverted kind.Or roles signals g e = gate_takes (TakesInputs kind.Or) roles signals i g e
-pins_fit n ports i inverted kind.Nor roles signals g e = gate_takes (TakesInputs kind.Nor) roles signals i g e
-pins_fit n ports i inverted kind.Xor roles signals g e = gate_takes (TakesInputs kind.Xor) roles signals i g e
-pins_fit n ports i inverted kind.Xnor roles signals g e = gate_takes (TakesInputs kind.Xnor) roles signals i g e
-pins_fit n ports i inverted kind.Mux2 roles signals g e = gate_takes (TakesInputs kind.Mux2) roles signals i g e
-pins_fit n ports i inverted (kind.Table number) roles signals g e = gate_takes (TakesInputs (kind.Table number)) roles signals i g e
-pins_fit n ports i inverted kind.Tie0 roles signals g e = gate_takes (TakesInputs kind.Tie0) roles signals i g e
-pins_fit n ports i inverted kind.Tie1 roles signals g e = gate_takes (TakesInputs kind.Tie1) roles signals i g e
+pins_fit n ports i inverted (kind.Flop flop) roles signals g e = flop_fits i inverted _
+pins_fit n ports i inverted (kind.Gate gate) roles signals g e = gate_takes (TakesInputs gate) roles signals i g e
 
 cell_fits : (library : List ACell) (name : Option Text) (c : CellRef) → IsWellFormed library → IsCellOf library name c → GateFits (shape_of library c).kind (shape_of library c).roles
-cell_fits library name (cell_ref.Gate k inputs) well fits = from_gate k inputs fits.0 fits.1
+cell_fits library name (cell_ref.Gate k inputs) well fits = from_gate k inputs fits.1
 cell_fits library name (cell_ref.Library id) well fits = found (slice_get library id.0) (λ cell at. (well.each id.0 cell at).roles) where
   found : (o : Option ACell) → ((cell : ACell) → o ≡ Some cell → HasRoles cell.kind (map role_of cell.pins)) → GateFits (shape_of_cell o).kind (shape_of_cell o).roles
   found None h = tt

@@ -6,8 +6,8 @@ use Rattle.dft_base.specs.declared.tri.Tri.TheVariants.{Unknown}
 use Rattle.dft_base.specs.Tri.{known}
 use Rattle.dft_cells.specs.Gates.{tri_of}
 use Rattle.dft_netlist.specs.Drivers.{Source, Net, Tied, Loose, nets_of}
-use Rattle.dft_netlist.specs.Logic.{Meaning, Input, Clock, Gate, Joined, Flop, Lockup, Free, reads}
-use Rattle.dft_netlist.specs.Settled.{value_from, value_given}
+use Rattle.dft_behavior.specs.Logic.{Meaning, Input, Clock, Gate, Joined, Flop, Lockup, Free, reads}
+use Rattle.dft_behavior.specs.Settled.{value_from, value_given}
 use Rattle.dft_netlist.specs.Orders.{Has}
 use Rattle.dft_logic.specs.declared.circuit.Op.{Op}
 use Rattle.dft_logic.specs.Values.{value_at}

@@ -5,7 +5,7 @@ use Rattle.std.proofs.lemmas.Bool.Decides.{leb_tells}
 use Rattle.std.proofs.lemmas.List.{get_or_past, drop_all}
 use Rattle.dft_netlist.proofs.StandLemmas.{has_all}
 use Rattle.dft_netlist.specs.declared.ids.NetId.{NetId}
-use Rattle.dft_netlist.specs.Logic.{reads}
+use Rattle.dft_behavior.specs.Logic.{reads}
 use Rattle.dft_netlist.specs.Orders.{Has, numbers_of}
 use Rattle.dft_logic.specs.declared.circuit.Op.{Op}
 use Rattle.dft_logic.specs.Circuit.{Circuit, meaning, op_at, AreOrdered, IsCircuit, flag_at}

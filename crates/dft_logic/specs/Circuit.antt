@@ -1,15 +1,14 @@
 -- A design made ready for settling: what each net takes its value from, and the flip-flop or lock-up of each instance.
-use Rattle.std.specs.Prelude.{ℕ, Bool, false, ◌≡◌, ◌<◌, ◌==◌, ◌&&◌, List, [], ◌∷◌, map, length, Option, None, Some, slice_index_or, if◌then◌else◌}
+use Rattle.std.specs.Prelude.{ℕ, Bool, false, ◌≡◌, ◌<◌, List, [], ◌∷◌, map, length, Option, None, Some, slice_index_or}
 use Rattle.std.specs.List.{AllByRecursion}
 use Rattle.dft_base.specs.declared.tri.Tri.{Tri}
-use Rattle.dft_base.specs.Tri.{known}
 use Rattle.dft_cells.specs.WellFormed.{TakesInputs}
 use Rattle.dft_netlist.specs.declared.ids.NetId.{NetId}
 use Rattle.dft_netlist.specs.Drivers.{Source}
 use Rattle.dft_netlist.specs.Drivers as drivers
-use Rattle.dft_netlist.specs.Logic.{Logic, Meaning, Cell, Scan, Force, reads, lockup_cell, no_cell}
-use Rattle.dft_netlist.specs.Logic as meanings
-use Rattle.dft_netlist.specs.Settled.{TriSources, is_wire, value_from, value_given}
+use Rattle.dft_behavior.specs.Logic.{Logic, Meaning, Cell, Scan, Force, reads, lockup_cell, no_cell}
+use Rattle.dft_behavior.specs.Logic as meanings
+use Rattle.dft_behavior.specs.Settled.{TriSources, value_from}
 use Rattle.dft_netlist.specs.Orders.{Has, numbers_of}
 use Rattle.dft_logic.specs.declared.circuit.Operand.{Operand}
 use Rattle.dft_logic.specs.declared.circuit.Operand.TheVariants.{Net, Tied, Loose}
@@ -19,12 +18,7 @@ use Rattle.dft_logic.specs.declared.circuit.ScanPins.{ScanPins}
 use Rattle.dft_logic.specs.declared.circuit.Acting.{Acting}
 use Rattle.dft_logic.specs.declared.circuit.FlipFlop.{FlipFlop}
 use Rattle.dft_logic.specs.declared.circuit.Latch.{Latch}
-use Rattle.dft_logic.specs.declared.settling.Pulse.{Pulse}
-use Rattle.dft_logic.specs.declared.settling.View.{View}
-use Rattle.dft_netlist.specs.Runs.{takes}
-use Rattle.dft_abstract.specs.Cycle.{tri_forced_by, tri_taken_by, level_before, clock_value, lockup_shown}
-use Rattle.dft_abstract.specs.Cycle as Cycle
-use Rattle.dft_logic.specs.Values.{value_at}
+use Rattle.dft_abstract.specs.Cycle.{tri_forced_by, tri_taken_by}
 use Rattle.dft_logic.specs.Tables.{IsTable}
 
 -- ---- what the parts stand for
@@ -173,47 +167,6 @@ leaves_from s values = record { ports = s.ports; clocks = s.clocks; flops = s.fl
 -- a bit at a place of a list, and 0 past its end
 abbrev pub flag_at : List Bool → ℕ → Bool
 flag_at flags place = slice_index_or flags place false
-
--- a phase of a pulse, from values by net and by instance
-abbrev pub pulse_at : Pulse → Cycle.Pulse
-pulse_at p = record { rising = p.rising; ports = value_at p.ports.now; pulsed = flag_at p.pulsed.now; old = value_at p.old.now.values }
-
--- whether a cell takes a value in a phase
-abbrev pub changed : Cell → Cycle.Pulse → Bool
-changed cell p = p.pulsed cell.domain && takes p.rising cell.falling
-
--- What the view of a domain is settled from. A lock-up that takes its bit in the phase shows what it is held at, by instance.
-abbrev pub base_of : List Cell → Cycle.Pulse → (poss held : List Tri) → (domain : ℕ) → Supply
-base_of cells p poss held d = record {
-  ports = p.ports;
-  clocks = clock_value p d;
-  flops = λ c. if changed (cell_at cells c) p then (if (cell_at cells c).domain == d then p.old c else value_at poss c) else p.old c;
-  lockups = λ c e high input. lockup_shown p.rising (p.pulsed e) (e == d) high (p.old c) input (value_at held c);
-}
-
--- what all is settled from before the edges of a phase
-abbrev pub before_base : Cycle.Pulse → Supply
-before_base p = record { ports = p.ports; clocks = λ e. known (level_before p e); flops = p.old; lockups = λ c e high input. if is_wire high (level_before p e) then input else p.old c }
-
-abbrev pub view_base : (cells : List Cell) → View → Supply
-view_base cells v = base_of cells (pulse_at v.pulse) v.poss.now v.held.now v.domain.0
-
--- the net has its driver's value in the view of a domain
-abbrev pub GivenIn : Circuit → Cycle.Pulse → (poss held : List Tri) → (domain : ℕ) → (values : List Tri) → ℕ → Type 0
-GivenIn x p poss held d values k =
-    value_at values k ≡ value_given (leaves_from (base_of (map cell_of x.flops) p poss held d) (value_at values)) (value_at values) k (meaning (op_at x.ops k))
-
--- the same where the view is that of this domain, and in the view itself
-abbrev pub IsGivenIn : Circuit → View → (domain : ℕ) → (values : List Tri) → ℕ → Type 0
-IsGivenIn x v d values k = GivenIn x (pulse_at v.pulse) v.poss.now v.held.now d values k
-
-abbrev pub IsGiven : Circuit → View → (values : List Tri) → ℕ → Type 0
-IsGiven x v values k = IsGivenIn x v v.domain.0 values k
-
--- all nets have the values that they have from some sources
-pub record IsReady (x : Circuit) (values : List Tri) : Type 0 where
-  pub base : Supply
-  pub given : (k : ℕ) → value_at values k ≡ value_given (leaves_from base (value_at values)) (value_at values) k (meaning (op_at x.ops k))
 
 -- ---- a flip-flop, from the values of a view
 

@@ -4,14 +4,15 @@ use Rattle.std.specs.Option.{option_or}
 use Rattle.dft_cells.specs.FlipFlops.{is_flip_flop}
 use Rattle.dft_cells.specs.declared.kind.Role.{Role}
 use Rattle.dft_cells.specs.declared.kind.Role.TheVariants as role
-use Rattle.dft_netlist.specs.ClockTables.{AreClocks}
-use Rattle.dft_netlist.specs.RootTables.{AreRoots}
+use Rattle.dft_behavior.specs.ClockTables.{AreClocks}
+use Rattle.dft_behavior.specs.RootTables.{AreRoots}
 use Rattle.dft_netlist.specs.Netlist.{Netlist}
-use Rattle.dft_netlist.specs.ClockRoots.{ClockRoot}
+use Rattle.dft_behavior.specs.ClockRoots.{ClockRoot}
 use Rattle.dft_netlist.specs.Drivers.{Source, Connection, source_of, is_input, kind_at, pins_of}
 use Rattle.dft_cells.specs.declared.kind.Kind.{Kind}
 use Rattle.dft_cells.specs.declared.kind.Kind.TheVariants as kind
-use Rattle.dft_netlist.specs.Logic.{Ports, Cell, Meaning, Gate, Lockup, Free, logic_of, same_role, or_loose, domain_at, forcing, scan_of, modelled, locked, is_lockup, lockup_meaning, flop_meaning}
+use Rattle.dft_netlist.specs.Connections.{same_role}
+use Rattle.dft_behavior.specs.Logic.{Ports, Cell, Meaning, Gate, Lockup, Free, logic_of, or_loose, domain_at, forcing, scan_of, modelled, locked, is_lockup, lockup_meaning, flop_meaning}
 use Rattle.dft_logic.specs.declared.compiling.Traced.{Traced}
 use Rattle.dft_logic.specs.declared.circuit.Operand.TheVariants.{Net}
 use Rattle.dft_logic.specs.declared.circuit.Op.{Op}
@@ -79,13 +80,8 @@ latch_in n ports i ws = with_source (or_loose i (found_in role.Din ws)) (domain_
 abbrev pub meaning_in : Netlist → Ports → (instance : ℕ) → Kind → (inverted : Bool) → List Wired → Meaning
 meaning_in n ports i kind.Opaque inverted ws = Free
 meaning_in n ports i kind.Lockup inverted ws = lockup_meaning i (domain_at n ports (found_in role.Clock ws)) (or_loose i (found_in role.Din ws))
-meaning_in n ports i kind.Dff inverted ws = flop_meaning i inverted (modelled_in n ports i ws)
-meaning_in n ports i kind.Dffr inverted ws = flop_meaning i inverted (modelled_in n ports i ws)
-meaning_in n ports i kind.Dffs inverted ws = flop_meaning i inverted (modelled_in n ports i ws)
-meaning_in n ports i kind.Sdff inverted ws = flop_meaning i inverted (modelled_in n ports i ws)
-meaning_in n ports i kind.Sdffr inverted ws = flop_meaning i inverted (modelled_in n ports i ws)
-meaning_in n ports i kind.Sdffs inverted ws = flop_meaning i inverted (modelled_in n ports i ws)
-meaning_in n ports i kind inverted ws = Gate kind (inputs_in ws)
+meaning_in n ports i (kind.Flop flop) inverted ws = flop_meaning i inverted (modelled_in n ports i ws)
+meaning_in n ports i (kind.Gate gate) inverted ws = Gate gate (inputs_in ws)
 
 -- ---- a net and an instance
 

@@ -1,10 +1,3 @@
-pub mod Needs
-pub mod Moves
-pub mod Shows
-pub mod Takes
-pub mod Lists
-pub mod Entries
-pub mod Laws
 pub mod Values
 pub mod Circuit
 pub mod Sweepings
@@ -12,7 +5,3 @@ pub mod CircuitShown
 pub mod Tables
 pub mod Packed
 pub mod Compiling
-pub mod Ranks
-pub mod ShownTables
-pub mod EntryTables
-pub mod Takings

@@ -8,9 +8,10 @@ ghost use Rattle.dft_logic.specs.Compiling.{ports_by, wired_at, wired_by, IsTrac
 
 use crate::circuit::{Circuit, FlipFlop, Latch, Op};
 use crate::compiling::{Part, Traced, flop_at, latch_of, pin_op};
-use crate::settling::flag_at;
 use crate::tables::{cells, followers, holders, leaves, readers, sources};
+use crate::values::flag_at;
 use crate::wires::{Wire, operand, wires};
+use dft_behavior::{find_clocks, find_roots};
 use dft_cells::{Kind, Role};
 use dft_netlist::{Design, InstanceId, NetDriver, NetId};
 use std::alloc::{AllocError, Global};
@@ -155,8 +156,8 @@ pub fn compile(alloc: Global, design: &Design, flags: &[bool]) -> Result<Circuit
     ensures { IfOk result (IsCircuitOf design.now (ports_by flags.now)) }
 {
     let order = Vec::from_slice(alloc, design.order())?;
-    let roots = design.roots(alloc)?;
-    let clocks = design.clocks(alloc)?;
+    let roots = find_roots(alloc, design)?;
+    let clocks = find_clocks(alloc, design)?;
     let traced = Traced {
         design,
         flags,

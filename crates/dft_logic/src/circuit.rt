@@ -4,7 +4,7 @@ ghost use Rattle.std.specs.Prelude.{◌≡◌, ◌++◌, ◌∷◌, [], OnOk, On
 ghost use Rattle.dft_logic.specs.Circuit as spec;
 
 use crate::packed::Table;
-use dft_cells::Kind;
+use dft_cells::Gate;
 use dft_netlist::{InstanceId, NetId};
 use std::alloc::{AllocError, Global};
 use std::marker::Model;
@@ -120,7 +120,7 @@ pub enum Op {
     Input,
     /// The bit of a clock port.
     Clock,
-    Gate(Kind, Operands),
+    Gate(Gate, Operands),
     Joined(Operand),
     /// A flip-flop, by its instance, or its inverse.
     Flop(InstanceId, bool),

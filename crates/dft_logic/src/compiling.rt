@@ -3,20 +3,21 @@
 ghost use Rattle.std.specs.Prelude.{◌≡◌, ℕ, length, map, option_map, None, IfOk, if◌then◌else◌};
 ghost use Rattle.dft_cells.specs.declared.kind.Role.TheVariants as role;
 ghost use Rattle.dft_cells.specs.FlipFlops.{is_flip_flop as takes_clock};
-ghost use Rattle.dft_netlist.specs.ClockRoots as clocks;
-ghost use Rattle.dft_netlist.specs.ClockSteps.{shown_clock};
-ghost use Rattle.dft_netlist.specs.Logic as logics;
-ghost use Rattle.dft_netlist.specs.Logic.{is_lockup};
-ghost use Rattle.dft_netlist.specs.Roots.{shown_root};
-ghost use Rattle.dft_netlist.specs.Traces as traces;
+ghost use Rattle.dft_behavior.specs.ClockRoots as clocks;
+ghost use Rattle.dft_behavior.specs.ClockSteps.{shown_clock};
+ghost use Rattle.dft_behavior.specs.Logic as logics;
+ghost use Rattle.dft_behavior.specs.Logic.{is_lockup};
+ghost use Rattle.dft_behavior.specs.Roots.{shown_root};
+ghost use Rattle.dft_behavior.specs.Traces as traces;
 ghost use Rattle.dft_logic.specs.Circuit.{source_at, cell_of, scan_at, force_at, latch_of as latched, meaning};
 ghost use Rattle.dft_logic.specs.Compiling.{ports_by, wired_at, found_in, IsTraced, modelled_in, lockup_in, stored_in, latch_in, meaning_in};
 
 use crate::circuit::{Acting, FlipFlop, Latch, Op, Operand, ScanPins};
-use crate::settling::flag_at;
+use crate::values::flag_at;
 use crate::wires::{Wire, find, gate_inputs};
+use dft_behavior::{ClockRoot, Root, clock_in, root_in};
 use dft_cells::{Kind, Role};
-use dft_netlist::{ClockRoot, Design, InstanceId, NetId, Root, Signal, clock_in, root_in};
+use dft_netlist::{Design, InstanceId, NetId, Signal};
 use std::alloc::{AllocError, Global};
 
 // A design whose clocks are flagged, with the roots and the clocks of its nets.
@@ -141,10 +142,7 @@ fn data_in(part: Part<'_>) -> Operand
 fn is_flip_flop(kind: Kind) -> bool
     ensures { result ≡ takes_clock kind }
 {
-    match kind {
-        Kind::Dff | Kind::Dffr | Kind::Dffs | Kind::Sdff | Kind::Sdffr | Kind::Sdffs => true,
-        _ => false,
-    }
+    matches!(kind, Kind::Flop(_))
 }
 
 // The flip-flop with these pins, if it is modelled.
@@ -272,15 +270,13 @@ pub(crate) fn pin_op(
             }
             None => Ok(Op::Free),
         },
-        Kind::Dff | Kind::Dffr | Kind::Dffs | Kind::Sdff | Kind::Sdffr | Kind::Sdffs => {
-            match modelled(traced, part) {
-                Some(_) => Ok(Op::Flop(part.number, inverted)),
-                None => Ok(Op::Free),
-            }
-        }
-        _ => {
+        Kind::Flop(_) => match modelled(traced, part) {
+            Some(_) => Ok(Op::Flop(part.number, inverted)),
+            None => Ok(Op::Free),
+        },
+        Kind::Gate(gate) => {
             let inputs = gate_inputs(alloc, part.wires)?;
-            Ok(Op::Gate(part.kind, inputs))
+            Ok(Op::Gate(gate, inputs))
         }
     }
 }

@@ -8,7 +8,7 @@ ghost use Rattle.dft_logic.specs.Circuit as circuits;
 ghost use Rattle.dft_logic.specs.Circuit.{taken_at, next_at};
 
 use crate::circuit::{Acting, FlipFlop};
-use crate::settling::value_at;
+use crate::values::value_at;
 use dft_base::Tri;
 
 /// What a reset (value 0) or a set (value 1) leaves of a value, where its pin has this one.

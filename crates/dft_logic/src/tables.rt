@@ -1,7 +1,7 @@
 //! Tables of lists of numbers: what is listed at each place.
 
 ghost use Rattle.std.specs.Prelude.{◌≡◌, ◌∷◌, [], ◌<◌, ◌^◌, length, map, replicate, IfOk, OnOk};
-ghost use Rattle.dft_netlist.specs.Logic.{reads};
+ghost use Rattle.dft_behavior.specs.Logic.{reads};
 ghost use Rattle.dft_netlist.specs.Drivers.{nets_of};
 ghost use Rattle.dft_logic.specs.Circuit.{source_at, meaning, op_at, cell_of, cell_at, latch_at, source_places, leaf_domains, latch_domains, force_nets};
 ghost use Rattle.dft_logic.specs.Circuit as circuits;
@@ -9,7 +9,7 @@ ghost use Rattle.dft_logic.specs.Tables.{list_at, listed, IsAdded, IsTable};
 
 use crate::circuit::{Acting, FlipFlop, Latch, Numbers, Op, Operand};
 use crate::packed::{Table, packed};
-use crate::settling::domain_at;
+use crate::values::domain_at;
 use dft_netlist::NetId;
 use std::alloc::{AllocError, Global};
 

@@ -3,7 +3,7 @@ use Rattle.std.proofs.Common.{true, false, ◌≡◌, refl, codes, Some, None, [
 use Rattle.std.specs.Fmt as fmt
 use Rattle.dft_base.specs.Words as words
 use Rattle.dft_base.specs.Lexing.{place_after, next_place}
-use Rattle.dft_cells.specs.declared.kind.Kind.TheVariants as primitive
+use Rattle.dft_cells.specs.declared.kind.Gate.TheVariants as primitive
 use Rattle.dft_base.specs.declared.dir.Dir.TheVariants as dir
 use Rattle.dft_netlist.specs.declared.instance.Signal.TheVariants as signal
 use Rattle.dft_netlist.specs.declared.instance.CellRef.TheVariants as cell_ref

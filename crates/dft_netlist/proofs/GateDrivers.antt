@@ -1,7 +1,9 @@
 -- A gate that drives a net is an instance, of the gate's kind and with its inputs.
-use Rattle.std.proofs.Common.{ℕ, ◌≡◌, ◌<◌, ◌⊎◌, inl, inr, Bool, List, length, Option, None, Some, slice_get, sym, ap, ◌∙◌}
+use Rattle.std.proofs.Common.{ℕ, ◌≡◌, ◌<◌, ◌⊎◌, inl, inr, Bool, List, length, Option, None, Some, slice_get, refl, sym, ap, ◌∙◌}
 use Rattle.dft_cells.specs.declared.kind.Kind.{Kind}
 use Rattle.dft_cells.specs.declared.kind.Kind.TheVariants as kind
+use Rattle.dft_cells.specs.declared.kind.Gate.{Gate as GateKind}
+use Rattle.dft_netlist.specs.declared.ids.InstanceId.{InstanceId}
 use Rattle.dft_netlist.specs.declared.instance.Instance.{Instance}
 use Rattle.dft_netlist.specs.declared.instance.Join.{Join}
 use Rattle.dft_netlist.specs.declared.net_driver.NetDriver.{NetDriver}
@@ -14,7 +16,6 @@ use Rattle.dft_netlist.specs.Sound.{IsNetlist}
 use Rattle.dft_netlist.proofs.ClashLemmas.{driver_same, first_drives}
 use Rattle.dft_netlist.proofs.DriveLemmas.{all_entries, first_by}
 use Rattle.dft_netlist.proofs.LiveLemmas.{drive_live}
-use Rattle.dft_netlist.proofs.TraceLemmas.{pin_driver}
 
 -- ---- the place that drives a net
 
@@ -44,45 +45,33 @@ driven_live n net sound some = by (driven n net).by (driven n net).driver (drive
     by (Pin i p) is (inr d) = drive_live n sound (Pin i p) net (λ e. cc) d
     by (AJoin j) is (inr d) = drive_live n sound (AJoin j) net (λ e. cc) d
 
+-- what an output pin drives its net with
+pub pin_driver : (n : Netlist) (id : InstanceId) (p : ℕ) (x : Instance) → slice_get n.instances id.0 ≡ Some x → driver_at n (Pin id p) ≡ driver_of_kind (shape_of n.library x.cell).kind id.0 (is_inverted (slice_get (roles_at n id.0) p)) (inputs_of id.0 (connections_of n.library x))
+pin_driver n id p x at = rw at refl
+
 -- ---- gates
 
-pub record IsGate (n : Netlist) (k : Kind) (inputs : List Source) : Type 0 where
+pub record IsGate (n : Netlist) (k : GateKind) (inputs : List Source) : Type 0 where
   pub number : ℕ
   pub instance : Instance
   pub at : slice_get n.instances number ≡ Some instance
-  pub kind : (shape_of n.library instance.cell).kind ≡ k
+  pub kind : (shape_of n.library instance.cell).kind ≡ kind.Gate k
   pub reads : inputs_of number (connections_of n.library instance) ≡ inputs
 
-gate_same : (a k : Kind) (own inputs : List Source) → Gate a own ≡ Gate k inputs → (a ≡ k) × (own ≡ inputs)
+gate_same : (a k : GateKind) (own inputs : List Source) → Gate a own ≡ Gate k inputs → (kind.Gate a ≡ kind.Gate k) × (own ≡ inputs)
 gate_same a k own inputs h = ((cc), (cc))
 
-kind_same : (a : Kind) (i : ℕ) (inverted : Bool) (own : List Source) (k : Kind) (inputs : List Source) → driver_of_kind a i inverted own ≡ Gate k inputs → (a ≡ k) × (own ≡ inputs)
+kind_same : (a : Kind) (i : ℕ) (inverted : Bool) (own : List Source) (k : GateKind) (inputs : List Source) → driver_of_kind a i inverted own ≡ Gate k inputs → (a ≡ kind.Gate k) × (own ≡ inputs)
+kind_same (kind.Flop flop) i inverted own k inputs h = absurd cc
 kind_same kind.Opaque i inverted own k inputs h = absurd cc
 kind_same kind.Lockup i inverted own k inputs h = absurd cc
-kind_same kind.Dff i inverted own k inputs h = absurd cc
-kind_same kind.Dffr i inverted own k inputs h = absurd cc
-kind_same kind.Dffs i inverted own k inputs h = absurd cc
-kind_same kind.Sdff i inverted own k inputs h = absurd cc
-kind_same kind.Sdffr i inverted own k inputs h = absurd cc
-kind_same kind.Sdffs i inverted own k inputs h = absurd cc
-kind_same kind.Buf i inverted own k inputs h = gate_same kind.Buf k own inputs h
-kind_same kind.Inv i inverted own k inputs h = gate_same kind.Inv k own inputs h
-kind_same kind.And i inverted own k inputs h = gate_same kind.And k own inputs h
-kind_same kind.Nand i inverted own k inputs h = gate_same kind.Nand k own inputs h
-kind_same kind.Or i inverted own k inputs h = gate_same kind.Or k own inputs h
-kind_same kind.Nor i inverted own k inputs h = gate_same kind.Nor k own inputs h
-kind_same kind.Xor i inverted own k inputs h = gate_same kind.Xor k own inputs h
-kind_same kind.Xnor i inverted own k inputs h = gate_same kind.Xnor k own inputs h
-kind_same kind.Mux2 i inverted own k inputs h = gate_same kind.Mux2 k own inputs h
-kind_same (kind.Table number) i inverted own k inputs h = gate_same (kind.Table number) k own inputs h
-kind_same kind.Tie0 i inverted own k inputs h = gate_same kind.Tie0 k own inputs h
-kind_same kind.Tie1 i inverted own k inputs h = gate_same kind.Tie1 k own inputs h
+kind_same (kind.Gate gate) i inverted own k inputs h = gate_same gate k own inputs h
 
-no_join : (o : Option Join) (k : Kind) (inputs : List Source) → joined_by o ≡ Gate k inputs → ⊥
+no_join : (o : Option Join) (k : GateKind) (inputs : List Source) → joined_by o ≡ Gate k inputs → ⊥
 no_join None k inputs h = cc
 no_join (Some join) k inputs h = cc
 
-pub gate_drives : (n : Netlist) (net : ℕ) (k : Kind) (inputs : List Source) → driver n net ≡ Gate k inputs → IsGate n k inputs
+pub gate_drives : (n : Netlist) (net : ℕ) (k : GateKind) (inputs : List Source) → driver n net ≡ Gate k inputs → IsGate n k inputs
 gate_drives n net k inputs is = by (driven n net).by (sym (driven n net).driver ∙ is) (driven n net).drives
   where
     by : (b : NetDriver) → driver_at n b ≡ Gate k inputs → (b ≡ Nothing) ⊎ Drives n b net → IsGate n k inputs

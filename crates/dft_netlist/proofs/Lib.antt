@@ -1,9 +1,3 @@
-pub mod Meanings
-pub mod Steps
-pub mod StoredLemmas
-pub mod Ranks
-pub mod OneSettled
-pub mod Walks
 pub mod StoreLemmas
 pub mod TableLemmas
 pub mod Places
@@ -22,13 +16,7 @@ pub mod ReadLemmas
 pub mod StandLemmas
 pub mod Weights
 pub mod DriverLaws
-pub mod TraceLemmas
-pub mod ClockWalks
 pub mod GateDrivers
-pub mod LockupPins
-pub mod ClockLemmas
-pub mod RootTables
-pub mod ClockTables
 pub mod NumberLemmas
 pub mod BitLemmas
 pub mod RankLemmas
@@ -36,6 +24,5 @@ pub mod NewNames
 pub mod FirstTaken
 pub mod PortNames
 pub mod PortLemmas
-pub mod SettledLemmas
 pub mod LiveDriven
 pub mod ListingLemmas

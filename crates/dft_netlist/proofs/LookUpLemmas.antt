@@ -54,24 +54,8 @@ is_input_driver (by.Join number) = false
 is_input_driver by.Nothing = false
 
 pub kind_is_no_input : (kind : Kind) (i : ℕ) (inverted : Bool) (inputs : List Source) → is_input (driver_of_kind kind i inverted inputs) ≡ false
-kind_is_no_input kind.Buf i inverted inputs = refl
-kind_is_no_input kind.Inv i inverted inputs = refl
-kind_is_no_input kind.And i inverted inputs = refl
-kind_is_no_input kind.Nand i inverted inputs = refl
-kind_is_no_input kind.Or i inverted inputs = refl
-kind_is_no_input kind.Nor i inverted inputs = refl
-kind_is_no_input kind.Xor i inverted inputs = refl
-kind_is_no_input kind.Xnor i inverted inputs = refl
-kind_is_no_input kind.Mux2 i inverted inputs = refl
-kind_is_no_input (kind.Table number) i inverted inputs = refl
-kind_is_no_input kind.Tie0 i inverted inputs = refl
-kind_is_no_input kind.Tie1 i inverted inputs = refl
-kind_is_no_input kind.Dff i inverted inputs = refl
-kind_is_no_input kind.Dffr i inverted inputs = refl
-kind_is_no_input kind.Dffs i inverted inputs = refl
-kind_is_no_input kind.Sdff i inverted inputs = refl
-kind_is_no_input kind.Sdffr i inverted inputs = refl
-kind_is_no_input kind.Sdffs i inverted inputs = refl
+kind_is_no_input (kind.Gate gate) i inverted inputs = refl
+kind_is_no_input (kind.Flop flop) i inverted inputs = refl
 kind_is_no_input kind.Lockup i inverted inputs = refl
 kind_is_no_input kind.Opaque i inverted inputs = refl
 

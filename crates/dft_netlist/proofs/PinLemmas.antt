@@ -9,9 +9,8 @@ use Rattle.dft_cells.specs.declared.kind.Role.TheVariants.{Input, Output}
 use Rattle.dft_netlist.specs.declared.instance.Signal.{Signal}
 use Rattle.dft_netlist.specs.declared.instance.Instance.{Instance}
 use Rattle.dft_netlist.specs.Netlist.{Netlist}
-use Rattle.dft_netlist.specs.Connections.{joined_to, signal_of}
+use Rattle.dft_netlist.specs.Connections.{joined_to, signal_of, same_role}
 use Rattle.dft_netlist.specs.Drivers.{Connection, connections_from, connections_of, gate_roles, pins_at, pins_of, shape_of}
-use Rattle.dft_netlist.specs.Logic.{same_role}
 use Rattle.dft_netlist.specs.Sound.{IsLive, AreLive, IsNetlist}
 use Rattle.dft_netlist.proofs.NotesLemmas.{drop_role}
 

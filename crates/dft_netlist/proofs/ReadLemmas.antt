@@ -2,7 +2,7 @@
 use Rattle.std.proofs.Common.{◌≡◌, ℕ, suc, ◌+◌, ◌<◌, ◌≤◌, Bool, true, false, cond, List, [], ◌∷◌, ◌++◌, length, get_or, drop, Option, None, Some, refl, sym, ◌∙◌, ap, slice_get}
 use Rattle.std.proofs.lemmas.List.{drop_more, drop_all}
 use Rattle.dft_cells.specs.declared.kind.Kind.{Kind}
-use Rattle.dft_cells.specs.declared.kind.Kind.TheVariants.{Buf, Inv, And, Nand, Or, Nor, Xor, Xnor, Mux2, Table, Tie0, Tie1, Dff, Dffr, Dffs, Sdff, Sdffr, Sdffs, Lockup, Opaque}
+use Rattle.dft_cells.specs.declared.kind.Kind.TheVariants as cell_kind
 use Rattle.dft_cells.specs.declared.kind.Role.{Role}
 use Rattle.dft_netlist.specs.declared.ids.InstanceId.{InstanceId}
 use Rattle.dft_netlist.specs.declared.instance.Instance.{Instance}
@@ -74,26 +74,10 @@ no_reads kind same (r ∷ roles) [] = refl
 no_reads kind same (r ∷ roles) (to ∷ pins) = ap (λ t. cond t (net_of_signal to) [] ++ pins_read kind roles pins) (same r) ∙ no_reads kind same roles pins
 
 by_kind : (n : Netlist) (i : ℕ) (inverted : Bool) (roles : List Role) (pins : List Signal) → pins_of n i ≡ connections_from 0 roles pins → (kind : Kind) → pins_read kind roles pins ≡ nets_read n (driver_of_kind kind i inverted (inputs_of i (connections_from 0 roles pins)))
-by_kind n i inverted roles pins same Buf = gate_reads Buf (λ r. refl) i 0 roles pins
-by_kind n i inverted roles pins same Inv = gate_reads Inv (λ r. refl) i 0 roles pins
-by_kind n i inverted roles pins same And = gate_reads And (λ r. refl) i 0 roles pins
-by_kind n i inverted roles pins same Nand = gate_reads Nand (λ r. refl) i 0 roles pins
-by_kind n i inverted roles pins same Or = gate_reads Or (λ r. refl) i 0 roles pins
-by_kind n i inverted roles pins same Nor = gate_reads Nor (λ r. refl) i 0 roles pins
-by_kind n i inverted roles pins same Xor = gate_reads Xor (λ r. refl) i 0 roles pins
-by_kind n i inverted roles pins same Xnor = gate_reads Xnor (λ r. refl) i 0 roles pins
-by_kind n i inverted roles pins same Mux2 = gate_reads Mux2 (λ r. refl) i 0 roles pins
-by_kind n i inverted roles pins same (Table k) = gate_reads (Table k) (λ r. refl) i 0 roles pins
-by_kind n i inverted roles pins same Tie0 = gate_reads Tie0 (λ r. refl) i 0 roles pins
-by_kind n i inverted roles pins same Tie1 = gate_reads Tie1 (λ r. refl) i 0 roles pins
-by_kind n i inverted roles pins same Dff = no_reads Dff (λ r. refl) roles pins
-by_kind n i inverted roles pins same Dffr = no_reads Dffr (λ r. refl) roles pins
-by_kind n i inverted roles pins same Dffs = no_reads Dffs (λ r. refl) roles pins
-by_kind n i inverted roles pins same Sdff = no_reads Sdff (λ r. refl) roles pins
-by_kind n i inverted roles pins same Sdffr = no_reads Sdffr (λ r. refl) roles pins
-by_kind n i inverted roles pins same Sdffs = no_reads Sdffs (λ r. refl) roles pins
-by_kind n i inverted roles pins same Lockup = rw same (lockup_reads Lockup (λ r. refl) i 0 roles pins)
-by_kind n i inverted roles pins same Opaque = no_reads Opaque (λ r. refl) roles pins
+by_kind n i inverted roles pins same (cell_kind.Gate gate) = gate_reads (cell_kind.Gate gate) (λ r. refl) i 0 roles pins
+by_kind n i inverted roles pins same (cell_kind.Flop flop) = no_reads (cell_kind.Flop flop) (λ r. refl) roles pins
+by_kind n i inverted roles pins same cell_kind.Opaque = no_reads cell_kind.Opaque (λ r. refl) roles pins
+by_kind n i inverted roles pins same cell_kind.Lockup = rw same (lockup_reads cell_kind.Lockup (λ r. refl) i 0 roles pins)
 
 pub pin_reads : (n : Netlist) (id : InstanceId) (p : ℕ) (x : Instance) → slice_get n.instances id.0 ≡ Some x → pins_read (shape_of n.library x.cell).kind (shape_of n.library x.cell).roles x.pins ≡ nets_read n (driver_at n (Pin id p))
 pin_reads n id p x at =

@@ -1,8 +1,8 @@
 -- What drives each net of a design.
 use Rattle.std.specs.Prelude.{ℕ, zero, suc, ◌<◌, ◌≤◌, length, Bool, true, false, List, [], ◌∷◌, ◌++◌, Option, None, Some, map, slice_get, if◌then◌else◌, ◌==◌}
 use Rattle.dft_cells.specs.declared.kind.Kind.{Kind}
-use Rattle.dft_cells.specs.declared.kind.Kind.TheVariants.{Buf, Inv, And, Nand, Or, Nor, Xor, Xnor, Mux2, Table, Tie0, Tie1, Dff, Dffr, Dffs, Sdff, Sdffr, Sdffs, Opaque}
 use Rattle.dft_cells.specs.declared.kind.Kind.TheVariants as kind
+use Rattle.dft_cells.specs.declared.kind.Gate.{Gate as GateKind}
 use Rattle.dft_cells.specs.declared.kind.Role.{Role}
 use Rattle.dft_cells.specs.declared.kind.Role.TheVariants as role
 use Rattle.dft_cells.specs.declared.cell.Cell.{Cell}
@@ -33,12 +33,12 @@ gate_roles (suc inputs) = role.Input ∷ gate_roles inputs
 
 -- a number that names no cell is that of a cell without pins
 abbrev pub shape_of_cell : Option Cell → Shape
-shape_of_cell None = record { kind = Opaque; roles = [] }
+shape_of_cell None = record { kind = kind.Opaque; roles = [] }
 shape_of_cell (Some cell) = record { kind = cell.kind; roles = map (λ pin. pin.role) cell.pins }
 
 abbrev pub shape_of : List Cell → CellRef → Shape
 shape_of library (cell_ref.Library cell) = shape_of_cell (slice_get library cell.0)
-shape_of library (cell_ref.Gate kind inputs) = record { kind = kind; roles = gate_roles inputs }
+shape_of library (cell_ref.Gate gate inputs) = record { kind = kind.Gate gate; roles = gate_roles inputs }
 
 -- a pin of an instance: what it is for, its number, and what it is joined to
 pub record Connection : Type 0 where
@@ -79,7 +79,7 @@ pub data Driver : Type 0 where
   -- an input port's bit
   Input : Driver
   -- a gate, a table or a tie
-  Gate : (kind : Kind) → (inputs : List Source) → Driver
+  Gate : (gate : GateKind) → (inputs : List Source) → Driver
   -- a join
   Joined : (source : Source) → Driver
   -- a flip-flop's output, or its inverse
@@ -89,26 +89,10 @@ pub data Driver : Type 0 where
   Free : Driver
 
 abbrev pub driver_of_kind : Kind → (instance : ℕ) → (inverted : Bool) → List Source → Driver
-driver_of_kind Opaque i inverted inputs = Free
+driver_of_kind kind.Opaque i inverted inputs = Free
 driver_of_kind kind.Lockup i inverted inputs = Lockup i
-driver_of_kind Dff i inverted inputs = Flop i inverted
-driver_of_kind Dffr i inverted inputs = Flop i inverted
-driver_of_kind Dffs i inverted inputs = Flop i inverted
-driver_of_kind Sdff i inverted inputs = Flop i inverted
-driver_of_kind Sdffr i inverted inputs = Flop i inverted
-driver_of_kind Sdffs i inverted inputs = Flop i inverted
-driver_of_kind Buf i inverted inputs = Gate Buf inputs
-driver_of_kind Inv i inverted inputs = Gate Inv inputs
-driver_of_kind And i inverted inputs = Gate And inputs
-driver_of_kind Nand i inverted inputs = Gate Nand inputs
-driver_of_kind Or i inverted inputs = Gate Or inputs
-driver_of_kind Nor i inverted inputs = Gate Nor inputs
-driver_of_kind Xor i inverted inputs = Gate Xor inputs
-driver_of_kind Xnor i inverted inputs = Gate Xnor inputs
-driver_of_kind Mux2 i inverted inputs = Gate Mux2 inputs
-driver_of_kind (Table number) i inverted inputs = Gate (Table number) inputs
-driver_of_kind Tie0 i inverted inputs = Gate Tie0 inputs
-driver_of_kind Tie1 i inverted inputs = Gate Tie1 inputs
+driver_of_kind (kind.Flop flop) i inverted inputs = Flop i inverted
+driver_of_kind (kind.Gate gate) i inverted inputs = Gate gate inputs
 
 -- a net and what drives it
 abbrev pub Driven : Type 0
@@ -206,7 +190,7 @@ pins_of n i = pins_at n.library (slice_get n.instances i)
 
 -- the kind of the instance with this number; a number past the end is as a cell that is not modelled
 abbrev pub kind_of : List Cell → Option Instance → Kind
-kind_of library None = Opaque
+kind_of library None = kind.Opaque
 kind_of library (Some instance) = (shape_of library instance.cell).kind
 
 abbrev pub kind_at : Netlist → (instance : ℕ) → Kind

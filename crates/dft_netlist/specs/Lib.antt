@@ -1,13 +1,5 @@
 pub mod Netlist
 pub mod Drivers
-pub mod Traces
-pub mod ClockRoots
-pub mod ClockSteps
-pub mod ClockTables
-pub mod Logic
-pub mod Settled
-pub mod Runs
-pub mod Laws
 pub mod Building
 pub mod Names
 pub mod Sound
@@ -16,8 +8,6 @@ pub mod Orders
 pub mod Finishing
 pub mod Finding
 pub mod Connections
-pub mod Roots
-pub mod RootTables
 pub mod NameTables
 pub mod NameStoreShown
 pub mod NameTableShown
@@ -29,7 +19,6 @@ pub mod Reading
 pub mod Notes
 pub mod NotesShown
 pub mod NetNumbers
-pub mod WalkSteps
 pub mod Progress
 pub mod ProgressShown
 pub mod OrderSteps

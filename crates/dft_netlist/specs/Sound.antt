@@ -1,7 +1,7 @@
 -- What every netlist keeps that a builder holds.
 use Rattle.std.specs.Prelude.{ℕ, ◌≡◌, ◌<◌, ◌≤◌, Bool, true, false, IsTrue, List, [], ◌∷◌, ◌++◌, length, Option, Some, IsSome, slice_get}
-use Rattle.dft_cells.specs.declared.kind.Kind.{Kind}
-use Rattle.dft_cells.specs.declared.kind.Kind.TheVariants.{Buf, Inv, And, Nand, Or, Nor, Xor, Xnor}
+use Rattle.dft_cells.specs.declared.kind.Gate.{Gate as GateKind}
+use Rattle.dft_cells.specs.declared.kind.Gate.TheVariants.{Buf, Inv, And, Nand, Or, Nor, Xor, Xnor}
 use Rattle.dft_cells.specs.declared.kind.Role.{Role}
 use Rattle.dft_cells.specs.declared.cell.Cell.{Cell}
 pub use Rattle.dft_cells.specs.Pins.{is_output}
@@ -22,7 +22,7 @@ use Rattle.dft_netlist.specs.Names.{bit_names, HasNames, NamesDiffer}
 use Rattle.dft_base.specs.Lexing.{Text}
 
 -- the gate primitives that a netlist may use (IEEE 1364)
-abbrev pub is_primitive : Kind → Bool
+abbrev pub is_primitive : GateKind → Bool
 is_primitive Buf = true
 is_primitive Inv = true
 is_primitive And = true
@@ -36,7 +36,7 @@ is_primitive _ = false
 -- an instance is of a cell of the library and has a name, or is of a gate primitive with a number of inputs that it takes
 abbrev pub IsCellOf : List Cell → Option Text → CellRef → Type 0
 IsCellOf library name (Library cell) = (cell.0 < length library) × IsSome name
-IsCellOf library name (Gate kind inputs) = IsTrue (is_primitive kind) × TakesInputs kind inputs
+IsCellOf library name (Gate gate inputs) = IsTrue (is_primitive gate) × TakesInputs gate inputs
 
 -- a net of a signal is one of the first `count`
 abbrev pub IsLive : (count : ℕ) → Signal → Type 0

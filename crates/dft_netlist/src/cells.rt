@@ -4,7 +4,7 @@ ghost use Rattle.std.specs.Prelude.{◌≡◌, ◌<◌, ◌≤◌, false, length
 ghost use Rattle.std.specs.Option.{option_map_or};
 ghost use Rattle.dft_netlist.specs.Connections as connections;
 ghost use Rattle.dft_netlist.specs.Drivers.{connections_of, gate_roles, shape_of};
-ghost use Rattle.dft_netlist.specs.Logic.{same_role};
+ghost use Rattle.dft_netlist.specs.Connections.{same_role};
 ghost use Rattle.dft_netlist.specs.Reading as spec;
 
 use crate::instance::{CellRef, Instance, Signal};
@@ -19,7 +19,7 @@ pub fn kind_of(cells: &[Cell], cell: CellRef) -> Kind
             Some(cell) => cell.kind,
             None => Kind::Opaque,
         },
-        CellRef::Gate(kind, _) => kind,
+        CellRef::Gate(gate, _) => Kind::Gate(gate),
     }
 }
 
@@ -122,14 +122,8 @@ pub(crate) fn reads_role(kind: Kind, role: Role) -> bool
     ensures { result ≡ spec.reads_role kind role }
 {
     match kind {
-        Kind::Dff
-        | Kind::Dffr
-        | Kind::Dffs
-        | Kind::Sdff
-        | Kind::Sdffr
-        | Kind::Sdffs
-        | Kind::Opaque => false,
+        Kind::Gate(_) => matches!(role, Role::Input),
         Kind::Lockup => matches!(role, Role::Clock | Role::Din),
-        _ => matches!(role, Role::Input),
+        Kind::Flop(_) | Kind::Opaque => false,
     }
 }

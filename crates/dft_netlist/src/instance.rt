@@ -1,7 +1,7 @@
 use crate::ids::NetId;
 use crate::pins::PinSignals;
 use dft_base::Name;
-use dft_cells::{CellId, Kind};
+use dft_cells::{CellId, Gate};
 
 /// What a pin is joined to.
 #[derive(Clone, Copy, Debug, Default, PartialEq, Eq)]
@@ -18,7 +18,7 @@ pub enum CellRef {
     /// A cell of the design's library.
     Library(CellId),
     /// A gate primitive (IEEE 1364) and how many inputs it has; its pins are its inputs, then its output.
-    Gate(Kind, u8),
+    Gate(Gate, u8),
 }
 
 /// An instance. Its pins follow the order of its cell's pins.

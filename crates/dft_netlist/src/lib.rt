@@ -1,10 +1,9 @@
-//! Gate-level netlists: their parts, what drives each net, settled values, events and runs.
+//! Gate-level netlists: their parts, what drives each net, and an order of the nets.
 #![tactic(auto)]
 
 mod bits;
 mod builder;
 mod cells;
-mod clock_roots;
 mod design;
 mod driver_notes;
 mod drivers;
@@ -24,25 +23,18 @@ mod order;
 mod pins;
 mod port;
 mod progress;
-mod root;
-mod tables;
 
 pub use bits::index_at;
 pub use builder::DesignBuilder;
 pub use cells::{is_role, kind_of, role_at, signal_of};
-pub use clock_roots::ClockRoot;
 pub use design::Design;
 pub use dft_base::Dir;
 pub use error::{Counted, NetlistError};
 pub use ids::{InstanceId, NetId, PortId};
 pub use instance::{CellRef, Instance, Join, Signal};
-pub use laws::{
-    clocks_are_exact, listed_drivers_drive, orders_rank, settled_is_one, traces_are_exact,
-};
+pub use laws::{listed_drivers_drive, orders_rank};
 pub use limits::{MAX_INSTANCES, MAX_NETS, MAX_PORTS};
 pub use named::Named;
 pub use net_driver::NetDriver;
 pub use pins::PinSignals;
 pub use port::{NetIds, Port};
-pub use root::Root;
-pub use tables::{clock_in, root_in};

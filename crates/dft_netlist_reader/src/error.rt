@@ -5,13 +5,16 @@ ghost use Rattle.dft_netlist_reader.specs.declared.error.DesignError.TheVariants
 use dft_hier::{HierError, told};
 use dft_netlist::NetlistError;
 use dft_verilog::ModulesError;
+use thiserror::Error;
 
 /// Why a netlist text stands for no design.
-#[derive(Debug, Drop)]
+#[derive(Debug, Error, Drop)]
 pub enum DesignError {
     /// The text is refused, or memory ran out.
+    #[error("the text is refused")]
     Text(ModulesError),
     /// Its modules have no flat design, or memory ran out.
+    #[error("the modules give no design")]
     Modules(HierError),
 }
 

@@ -5,8 +5,8 @@ use Rattle.std.specs.Str.{bytes_eq}
 use Rattle.dft_base.specs.declared.place.Range.{Range}
 use Rattle.dft_base.specs.Lexing.{Text}
 use Rattle.dft_base.specs.Parser.{pure, ◌>>=◌, ◌>>◌}
-use Rattle.dft_cells.specs.declared.kind.Kind.{Kind}
-use Rattle.dft_cells.specs.declared.kind.Kind.TheVariants as primitive
+use Rattle.dft_cells.specs.declared.kind.Gate.{Gate}
+use Rattle.dft_cells.specs.declared.kind.Gate.TheVariants as primitive
 use Rattle.dft_cells.specs.declared.cell.CellId.{CellId}
 use Rattle.dft_cells.specs.declared.cell.Pin.{Pin}
 use Rattle.dft_cells.specs.declared.cell.Cell.{Cell}
@@ -134,7 +134,7 @@ one_bit place d (bit ∷ more ∷ bits) = λ ts. Err (fault cause.Misfit place)
 -- ---- gate instantiations
 
 -- the kind of a gate primitive
-abbrev pub gate_kind : TokenKind → Option Kind
+abbrev pub gate_kind : TokenKind → Option Gate
 gate_kind kind.And = Some primitive.And
 gate_kind kind.Nand = Some primitive.Nand
 gate_kind kind.Or = Some primitive.Or
@@ -161,11 +161,11 @@ unfoldable pub input_terminals : Draft → Rule (Draft × List Signal)
 input_terminals d = λ ts. input_terminals_from (left ts) d [] ts
 
 -- a gate's pins are its inputs, then its output
-abbrev pub gate_instance : Kind → Option Text → Signal → List Signal → Instance
+abbrev pub gate_instance : Gate → Option Text → Signal → List Signal → Instance
 gate_instance k word output ins = record { name = word; cell = cell_ref.Gate k (length ins); pins = ins ++ output ∷ [] }
 
 -- the terminals of a gate behind the bracket that stands at this place, where the number of terminals is refused
-unfoldable pub terminals : Kind → Option Text → ℕ → Draft → Rule Draft
+unfoldable pub terminals : Gate → Option Text → ℕ → Draft → Rule Draft
 terminals k word place d = do
   output ← terminal true d
   ins ← input_terminals output.0
@@ -173,25 +173,25 @@ terminals k word place d = do
   needed cause.Misfit place (takes_inputs k (length ins.1)) (pure (with_instance (gate_instance k word output.1 ins.1) ins.0))
 
 -- a gate with a name
-unfoldable pub named_gate : Kind → Draft → Rule Draft
+unfoldable pub named_gate : Gate → Draft → Rule Draft
 named_gate k d = λ ts. (do
   word ← expect kind.Name
   more ← checked (name_instance (left ts) word d)
   λ us. (expect kind.OpenParen >> terminals k (Some word) (left us) more) us) ts
 
 -- a gate without a name: the room for it is tested at its bracket
-unfoldable pub unnamed_gate : Kind → Draft → Rule Draft
+unfoldable pub unnamed_gate : Gate → Draft → Rule Draft
 unnamed_gate k d = λ ts. (do
   expect kind.OpenParen
   more ← checked (room_for_instance (left ts) d)
   terminals k None (left ts) more) ts
 
 -- a gate with or without a name
-unfoldable pub one_gate : Kind → Draft → Rule Draft
+unfoldable pub one_gate : Gate → Draft → Rule Draft
 one_gate k d = λ ts. if sees kind.Name ts then named_gate k d ts else unnamed_gate k d ts
 
 -- the gates that are left of a list
-unfoldable pub gates_from : ℕ → Kind → Draft → Rule Draft
+unfoldable pub gates_from : ℕ → Gate → Draft → Rule Draft
 gates_from zero k d = refuse
 gates_from (suc n) k d = do
   more ← one_gate k d
@@ -199,11 +199,11 @@ gates_from (suc n) k d = do
   if comma then gates_from n k more else pure more
 
 -- gates of one kind with commas between them
-unfoldable pub gates : Kind → Draft → Rule Draft
+unfoldable pub gates : Gate → Draft → Rule Draft
 gates k d = λ ts. gates_from (left ts) k d ts
 
 -- the kind of gate and its gates
-unfoldable pub gate_item : Kind → Draft → Rule Draft
+unfoldable pub gate_item : Gate → Draft → Rule Draft
 gate_item k d = λ ts. (do
   more ← gates k d
   expect kind.Semicolon
@@ -333,7 +333,7 @@ cell_item d = λ ts. (expect kind.Name >>= (λ word. instances_named (left ts) w
 -- ---- items
 
 -- gates of a kind, or instances of a cell
-abbrev pub gate_or_cell : Option Kind → Draft → Rule Draft
+abbrev pub gate_or_cell : Option Gate → Draft → Rule Draft
 gate_or_cell (Some k) d = gate_item k d
 gate_or_cell None d = cell_item d
 

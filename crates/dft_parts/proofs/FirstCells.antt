@@ -3,55 +3,26 @@ use Rattle.std.proofs.Common.{ℕ, zero, suc, ◌+◌, ◌≡◌, ◌<◌, Bool,
 use Rattle.std.specs.Prelude.{if◌then◌else◌}
 use Rattle.std.proofs.lemmas.Option.{none-some, same_Some, slice_get_within}
 use Rattle.dft_cells.specs.declared.kind.Kind.{Kind}
+use Rattle.dft_cells.specs.declared.kind.TheConstants.{DFF}
 use Rattle.dft_cells.specs.declared.kind.Kind.TheVariants as kind
 use Rattle.dft_cells.specs.declared.cell.Cell.{Cell}
 use Rattle.dft_cells.specs.declared.cell.CellId.{CellId}
 use Rattle.dft_cells.specs.Cells.{IsFirstOf}
+use Rattle.dft_cells.proofs.KindLemmas.{dff_only}
 use Rattle.dft_parts.specs.Cells.{is_dff, is_lockup, first_from, numbered_cell, first_cell}
 
-not_dff : (k : Kind) → (k ≡ kind.Dff → ⊥) → is_dff k ≡ false
-not_dff kind.Buf h = refl
-not_dff kind.Inv h = refl
-not_dff kind.And h = refl
-not_dff kind.Nand h = refl
-not_dff kind.Or h = refl
-not_dff kind.Nor h = refl
-not_dff kind.Xor h = refl
-not_dff kind.Xnor h = refl
-not_dff kind.Mux2 h = refl
-not_dff (kind.Table number) h = refl
-not_dff kind.Tie0 h = refl
-not_dff kind.Tie1 h = refl
-not_dff kind.Dff h = absurd (h refl)
-not_dff kind.Dffr h = refl
-not_dff kind.Dffs h = refl
-not_dff kind.Sdff h = refl
-not_dff kind.Sdffr h = refl
-not_dff kind.Sdffs h = refl
-not_dff kind.Lockup h = refl
-not_dff kind.Opaque h = refl
+not_dff : (k : Kind) → (k ≡ DFF → ⊥) → is_dff k ≡ false
+not_dff k h = by (is_dff k) refl
+  where
+    by : (b : Bool) → is_dff k ≡ b → b ≡ false
+    by true e = absurd (h (dff_only k e))
+    by false e = refl
 
 not_lockup : (k : Kind) → (k ≡ kind.Lockup → ⊥) → is_lockup k ≡ false
-not_lockup kind.Buf h = refl
-not_lockup kind.Inv h = refl
-not_lockup kind.And h = refl
-not_lockup kind.Nand h = refl
-not_lockup kind.Or h = refl
-not_lockup kind.Nor h = refl
-not_lockup kind.Xor h = refl
-not_lockup kind.Xnor h = refl
-not_lockup kind.Mux2 h = refl
-not_lockup (kind.Table number) h = refl
-not_lockup kind.Tie0 h = refl
-not_lockup kind.Tie1 h = refl
-not_lockup kind.Dff h = refl
-not_lockup kind.Dffr h = refl
-not_lockup kind.Dffs h = refl
-not_lockup kind.Sdff h = refl
-not_lockup kind.Sdffr h = refl
-not_lockup kind.Sdffs h = refl
-not_lockup kind.Lockup h = absurd (h refl)
+not_lockup (kind.Gate gate) h = refl
+not_lockup (kind.Flop flop) h = refl
 not_lockup kind.Opaque h = refl
+not_lockup kind.Lockup h = absurd (h refl)
 
 -- the number of the first cell that passes
 first_at : (test : Kind → Bool) (from k : ℕ) (xs : List Cell) (x : Cell) → slice_get xs k ≡ Some x → test x.kind ≡ true → ((j : ℕ) (z : Cell) → j < k → slice_get xs j ≡ Some z → test z.kind ≡ false) → first_from test from xs ≡ Some (from + k)
@@ -68,8 +39,8 @@ first_is test k library id is other first =
     let same : zero + id.0 ≡ id.0 = omega arith in
     sym (ap numbered_cell (number ∙ ap Some same))
 
-pub first_dff_is : (library : List Cell) (id : CellId) → IsFirstOf library kind.Dff id → id ≡ first_cell is_dff library
-first_dff_is library id first = first_is is_dff kind.Dff library id refl not_dff first
+pub first_dff_is : (library : List Cell) (id : CellId) → IsFirstOf library DFF id → id ≡ first_cell is_dff library
+first_dff_is library id first = first_is is_dff DFF library id refl not_dff first
 
 pub first_lockup_is : (library : List Cell) (id : CellId) → IsFirstOf library kind.Lockup id → id ≡ first_cell is_lockup library
 first_lockup_is library id first = first_is is_lockup kind.Lockup library id refl not_lockup first

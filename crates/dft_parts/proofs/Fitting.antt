@@ -5,7 +5,7 @@ use Rattle.std.specs.List.{All}
 use Rattle.std.proofs.lemmas.Option.{none-some, same_Some}
 use Rattle.std.proofs.lemmas.List.{length-map}
 use Rattle.std.proofs.lemmas.List.Elements.{All-head, All-tail}
-use Rattle.dft_cells.specs.declared.kind.Kind.{Kind}
+use Rattle.dft_cells.specs.declared.kind.Gate.{Gate as GateKind}
 use Rattle.dft_cells.specs.declared.kind.Role.{Role}
 use Rattle.dft_cells.specs.declared.kind.Role.TheVariants as role
 use Rattle.dft_cells.specs.declared.cell.Cell.{Cell}
@@ -48,7 +48,7 @@ gate_nets [] o (suc place) bit at = none-some (Constant bit) at
 gate_nets (x ∷ xs) o zero bit at = not_constant x bit at
 gate_nets (x ∷ xs) o (suc place) bit at = gate_nets xs o place bit at
 
-pub gate_fits : (library : List Cell) (count : ℕ) (kind : Kind) (xs : List NetId) (o : NetId) → IsTrue (is_primitive kind) → TakesInputs kind (length xs) → All (λ net. net.0 < count) xs → o.0 < count →
+pub gate_fits : (library : List Cell) (count : ℕ) (kind : GateKind) (xs : List NetId) (o : NetId) → IsTrue (is_primitive kind) → TakesInputs kind (length xs) → All (λ net. net.0 < count) xs → o.0 < count →
     IsInstance library count (Some []) (Gate kind (length xs)) (at_nets xs ++ Net o ∷ [])
 gate_fits library count kind xs o primitive takes there live = record {
   fits = (primitive, takes);

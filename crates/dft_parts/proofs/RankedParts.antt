@@ -4,6 +4,7 @@ use Rattle.std.specs.Prelude.{IsTrue}
 use Rattle.std.specs.List.{AllByRecursion}
 use Rattle.dft_cells.specs.declared.kind.Kind.{Kind}
 use Rattle.dft_cells.specs.declared.kind.Kind.TheVariants as kind
+use Rattle.dft_cells.specs.declared.kind.Gate.{Gate}
 use Rattle.dft_cells.specs.declared.kind.Role.TheVariants.{Clock, Din, Output}
 use Rattle.dft_cells.specs.FlipFlops.{is_flip_flop}
 use Rattle.dft_netlist.specs.declared.ids.NetId.{NetId}
@@ -24,24 +25,8 @@ use Rattle.dft_parts.proofs.Stores.{shape_as, lockup_shape}
 -- ---- flip-flops
 
 reads_none : (k : Kind) (i : ℕ) (ins latch : List Source) (read : ℕ) → IsTrue (is_flip_flop k) → Has (reads_by (driver_of_kind k i false ins) latch) read → ⊥
-reads_none kind.Dff i ins latch read is has = has
-reads_none kind.Dffr i ins latch read is has = has
-reads_none kind.Dffs i ins latch read is has = has
-reads_none kind.Sdff i ins latch read is has = has
-reads_none kind.Sdffr i ins latch read is has = has
-reads_none kind.Sdffs i ins latch read is has = has
-reads_none kind.Buf i ins latch read is has = absurd cc
-reads_none kind.Inv i ins latch read is has = absurd cc
-reads_none kind.And i ins latch read is has = absurd cc
-reads_none kind.Nand i ins latch read is has = absurd cc
-reads_none kind.Or i ins latch read is has = absurd cc
-reads_none kind.Nor i ins latch read is has = absurd cc
-reads_none kind.Xor i ins latch read is has = absurd cc
-reads_none kind.Xnor i ins latch read is has = absurd cc
-reads_none kind.Mux2 i ins latch read is has = absurd cc
-reads_none (kind.Table number) i ins latch read is has = absurd cc
-reads_none kind.Tie0 i ins latch read is has = absurd cc
-reads_none kind.Tie1 i ins latch read is has = absurd cc
+reads_none (kind.Flop flop) i ins latch read is has = has
+reads_none (kind.Gate gate) i ins latch read is has = absurd cc
 reads_none kind.Lockup i ins latch read is has = absurd cc
 reads_none kind.Opaque i ins latch read is has = absurd cc
 
@@ -61,26 +46,10 @@ IsRankedAs rank i s pins = (read net : ℕ) → Has (read_as s i pins) read → 
 
 -- a gate reads among its inputs, a lock-up its clock and input
 reads_some : (k : Kind) (i : ℕ) (ins latch : List Source) (read : ℕ) → Has (reads_by (driver_of_kind k i false ins) latch) read → Has (nets_of ins) read ⊎ Has (nets_of latch) read
-reads_some kind.Dff i ins latch read has = absurd has
-reads_some kind.Dffr i ins latch read has = absurd has
-reads_some kind.Dffs i ins latch read has = absurd has
-reads_some kind.Sdff i ins latch read has = absurd has
-reads_some kind.Sdffr i ins latch read has = absurd has
-reads_some kind.Sdffs i ins latch read has = absurd has
+reads_some (kind.Flop flop) i ins latch read has = absurd has
 reads_some kind.Opaque i ins latch read has = absurd has
 reads_some kind.Lockup i ins latch read has = inr has
-reads_some kind.Buf i ins latch read has = inl has
-reads_some kind.Inv i ins latch read has = inl has
-reads_some kind.And i ins latch read has = inl has
-reads_some kind.Nand i ins latch read has = inl has
-reads_some kind.Or i ins latch read has = inl has
-reads_some kind.Nor i ins latch read has = inl has
-reads_some kind.Xor i ins latch read has = inl has
-reads_some kind.Xnor i ins latch read has = inl has
-reads_some kind.Mux2 i ins latch read has = inl has
-reads_some (kind.Table number) i ins latch read has = inl has
-reads_some kind.Tie0 i ins latch read has = inl has
-reads_some kind.Tie1 i ins latch read has = inl has
+reads_some (kind.Gate gate) i ins latch read has = inl has
 
 -- ---- gates
 
@@ -101,10 +70,10 @@ only : (rank : ℕ → ℕ) (read net o : ℕ) → rank read < rank o → Has (o
 only rank read net o less (inl e) = subst (λ k. rank read < rank k) (sym e) less
 only rank read net o less (inr h) = absurd h
 
-gate_as : (rank : ℕ → ℕ) (i : ℕ) (k : Kind) (xs : List NetId) (o : NetId) → AllByRecursion (λ (net : NetId). rank net.0 < rank o.0) xs → IsRankedAs rank i (shape_as k (gate_roles (length xs))) (at_nets xs ++ signal.Net o ∷ [])
+gate_as : (rank : ℕ → ℕ) (i : ℕ) (k : Gate) (xs : List NetId) (o : NetId) → AllByRecursion (λ (net : NetId). rank net.0 < rank o.0) xs → IsRankedAs rank i (shape_as (kind.Gate k) (gate_roles (length xs))) (at_nets xs ++ signal.Net o ∷ [])
 gate_as rank i k xs o h read net has there =
     let cs = connections_from 0 (gate_roles (length xs)) (at_nets xs ++ signal.Net o ∷ []) in
-    let less : rank read < rank o.0 = elim (reads_some k i (inputs_of i cs) (lockup_inputs i cs) read has) [
+    let less : rank read < rank o.0 = elim (reads_some (kind.Gate k) i (inputs_of i cs) (lockup_inputs i cs) read has) [
       | inl own ↦ among rank (rank o.0) read xs h (subst (λ (ss : List Source). Has (nets_of ss) read) (gate_inputs i 0 xs o) own)
       | inr latch ↦ absurd (subst (λ (ss : List Source). Has (nets_of ss) read) (gate_latch i 0 xs o) latch)
     ] in

@@ -33,26 +33,10 @@ use Rattle.dft_parts.proofs.Standing.{instance_drives}
 
 -- a driver of an instance reads what the instance reads
 same_reads : (n : Netlist) (k : Kind) (i : ℕ) (inverted : Bool) (inputs : List Source) (pins : List Connection) → pins_of n i ≡ pins → nets_read n (driver_of_kind k i inverted inputs) ≡ reads_by (driver_of_kind k i false inputs) (lockup_inputs i pins)
+same_reads n (kind.Gate gate) i b ins pins at = refl
+same_reads n (kind.Flop flop) i b ins pins at = refl
 same_reads n kind.Opaque i b ins pins at = refl
 same_reads n kind.Lockup i b ins pins at = ap (λ (cs : List Connection). nets_of (lockup_inputs i cs)) at
-same_reads n kind.Dff i b ins pins at = refl
-same_reads n kind.Dffr i b ins pins at = refl
-same_reads n kind.Dffs i b ins pins at = refl
-same_reads n kind.Sdff i b ins pins at = refl
-same_reads n kind.Sdffr i b ins pins at = refl
-same_reads n kind.Sdffs i b ins pins at = refl
-same_reads n kind.Buf i b ins pins at = refl
-same_reads n kind.Inv i b ins pins at = refl
-same_reads n kind.And i b ins pins at = refl
-same_reads n kind.Nand i b ins pins at = refl
-same_reads n kind.Or i b ins pins at = refl
-same_reads n kind.Nor i b ins pins at = refl
-same_reads n kind.Xor i b ins pins at = refl
-same_reads n kind.Xnor i b ins pins at = refl
-same_reads n kind.Mux2 i b ins pins at = refl
-same_reads n (kind.Table number) i b ins pins at = refl
-same_reads n kind.Tie0 i b ins pins at = refl
-same_reads n kind.Tie1 i b ins pins at = refl
 
 own_reads : (n : Netlist) (i : ℕ) (x : Instance) (inverted : Bool) → slice_get n.instances i ≡ Some x →
     nets_read n (driver_of_kind (shape_of n.library x.cell).kind i inverted (inputs_of i (connections_of n.library x))) ≡ read_by n.library i x

@@ -5,6 +5,7 @@ use Rattle.std.proofs.lemmas.Option.{none-some, same_Some}
 use Rattle.dft_base.proofs.ListLemmas.{get_left, get_right}
 use Rattle.dft_cells.specs.declared.kind.Kind.{Kind}
 use Rattle.dft_cells.specs.declared.kind.Kind.TheVariants as kind
+use Rattle.dft_cells.specs.declared.kind.Gate.{Gate as GateKind}
 use Rattle.dft_cells.specs.declared.cell.Cell.{Cell}
 use Rattle.dft_netlist.specs.declared.ids.NetId.{NetId}
 use Rattle.dft_netlist.specs.declared.instance.Signal.{Signal}
@@ -15,7 +16,7 @@ use Rattle.dft_netlist.specs.Netlist.{Netlist}
 use Rattle.dft_netlist.specs.NetDrivers.{IsSingle}
 use Rattle.dft_netlist.specs.Sound.{is_primitive}
 use Rattle.dft_netlist.specs.Drivers.{Shape, Source, Net, Driver, Driven, Gate, gate_roles, connections_from, inputs_of, driver_of_kind, driven_by, driven_by_pins, driven_by_instances, driven_by_ports, driven_by_joins, driver, shape_of}
-use Rattle.dft_netlist.specs.Logic.{meaning_of}
+use Rattle.dft_behavior.specs.Logic.{meaning_of}
 use Rattle.dft_netlist.proofs.DriverLaws.{listed_drives}
 use Rattle.dft_parts.specs.Recipes.{at_nets}
 use Rattle.dft_parts.specs.Growth.{AreKept}
@@ -57,40 +58,18 @@ gate_output : (k : Kind) (i pin : ℕ) (ins : List Source) (xs : List NetId) (o 
 gate_output k i pin ins [] o = refl
 gate_output k i pin ins (x ∷ xs) o = gate_output k i (suc pin) ins xs o
 
-primitive_drives : (k : Kind) (i : ℕ) (ins : List Source) → IsTrue (is_primitive k) → driver_of_kind k i false ins ≡ Gate k ins
-primitive_drives kind.Buf i ins h = refl
-primitive_drives kind.Inv i ins h = refl
-primitive_drives kind.And i ins h = refl
-primitive_drives kind.Nand i ins h = refl
-primitive_drives kind.Or i ins h = refl
-primitive_drives kind.Nor i ins h = refl
-primitive_drives kind.Xor i ins h = refl
-primitive_drives kind.Xnor i ins h = refl
-primitive_drives kind.Mux2 i ins h = absurd cc
-primitive_drives (kind.Table number) i ins h = absurd cc
-primitive_drives kind.Tie0 i ins h = absurd cc
-primitive_drives kind.Tie1 i ins h = absurd cc
-primitive_drives kind.Dff i ins h = absurd cc
-primitive_drives kind.Dffr i ins h = absurd cc
-primitive_drives kind.Dffs i ins h = absurd cc
-primitive_drives kind.Sdff i ins h = absurd cc
-primitive_drives kind.Sdffr i ins h = absurd cc
-primitive_drives kind.Sdffs i ins h = absurd cc
-primitive_drives kind.Lockup i ins h = absurd cc
-primitive_drives kind.Opaque i ins h = absurd cc
-
 -- what a gate with these pins drives
 abbrev pub driven_as : Shape → (i : ℕ) → List Signal → List Driven
 driven_as s i pins = let cs = connections_from 0 s.roles pins in driven_by_pins s.kind i (inputs_of i cs) cs
 
-pub gate_driven : (library : List Cell) (i : ℕ) (k : Kind) (xs : List NetId) (o : NetId) (x : Instance) → IsTrue (is_primitive k) → x.cell ≡ cell_ref.Gate k (length xs) → AreKept (at_nets xs ++ AtNet o ∷ []) x.pins →
+pub gate_driven : (library : List Cell) (i : ℕ) (k : GateKind) (xs : List NetId) (o : NetId) (x : Instance) → IsTrue (is_primitive k) → x.cell ≡ cell_ref.Gate k (length xs) → AreKept (at_nets xs ++ AtNet o ∷ []) x.pins →
     slice_get (driven_by library i x) 0 ≡ Some (o.0, Gate k (sources_at xs))
 gate_driven library i k xs o x is cell kept =
     let cs = connections_from 0 (gate_roles (length xs)) (at_nets xs ++ AtNet o ∷ []) in
     ap (λ c. slice_get (driven_as (shape_of library c) i x.pins) 0) cell
     ∙ ap (λ (ps : List Signal). slice_get (driven_as (shape_of library (cell_ref.Gate k (length xs))) i ps) 0) (kept_nets xs o x.pins kept)
-    ∙ ap (λ (ds : List Driven). slice_get ds 0) (gate_output k i 0 (inputs_of i cs) xs o)
-    ∙ ap (λ (d : Driver). Some (o.0, d)) (primitive_drives k i (inputs_of i cs) is ∙ ap (Gate k) (gate_inputs i 0 xs o))
+    ∙ ap (λ (ds : List Driven). slice_get ds 0) (gate_output (kind.Gate k) i 0 (inputs_of i cs) xs o)
+    ∙ ap (λ (d : Driver). Some (o.0, d)) (ap (Gate k) (gate_inputs i 0 xs o))
 
 pub gate_stands : GateStands
 gate_stands n ports i k xs o single is h = ap (meaning_of n ports o.0) (instance_drives n i 0 h.instance (o.0, Gate k (sources_at xs)) single h.at (gate_driven n.library i k xs o h.instance is h.cell_is h.kept))

@@ -3,13 +3,16 @@ use Rattle.std.proofs.Common.{ℕ, zero, suc, ◌+◌, ◌-◌, ◌≡◌, ◌�
 use Rattle.std.specs.Prelude.{if◌then◌else◌}
 use Rattle.std.proofs.lemmas.Option.{none-some, same_Some}
 use Rattle.dft_cells.specs.declared.kind.Kind.{Kind}
+use Rattle.dft_cells.specs.declared.kind.TheConstants.{DFF}
 use Rattle.dft_cells.specs.declared.kind.Kind.TheVariants as kind
+use Rattle.dft_cells.specs.declared.kind.Gate.TheVariants as gate
 use Rattle.dft_cells.specs.declared.kind.Role.{Role}
 use Rattle.dft_cells.specs.declared.kind.Role.TheVariants.{Clock as AClock, Din, Output, Inverted}
 use Rattle.dft_cells.specs.declared.cell.Cell.{Cell}
 use Rattle.dft_cells.specs.declared.cell.CellId.{CellId}
 use Rattle.dft_cells.specs.WellFormed.{IsWellFormed, HasRoles, role_of}
 use Rattle.dft_cells.specs.FlipFlops.{is_flip_flop}
+use Rattle.dft_cells.proofs.KindLemmas.{dff_only}
 use Rattle.dft_netlist.specs.declared.ids.NetId.{NetId}
 use Rattle.dft_netlist.specs.declared.instance.Signal.{Signal}
 use Rattle.dft_netlist.specs.declared.instance.Signal.TheVariants.{Net as AtNet}
@@ -19,10 +22,11 @@ use Rattle.dft_netlist.specs.declared.instance.Instance.{Instance}
 use Rattle.dft_netlist.specs.Netlist.{Netlist}
 use Rattle.dft_netlist.specs.NetDrivers.{IsSingle}
 use Rattle.dft_netlist.specs.Drivers.{Shape, Net, Connection, Input, Gate, Flop, Lockup, connections_from, pins_at, kind_of, driver, shape_of, shape_of_cell}
-use Rattle.dft_netlist.specs.ClockRoots.{ClockRoot, port_root, inverse_root, clock_root_of, clock_within, clock_of_driver}
-use Rattle.dft_netlist.specs.Logic as logic
-use Rattle.dft_netlist.specs.Logic.{Ports, domain_of, domain_at, modelled, modelled_of, flip_flop, flop_meaning, lockup_meaning, logic_of, meaning_of, or_loose, pin_of}
-use Rattle.dft_netlist.proofs.StoredLemmas.{flop_cell}
+use Rattle.dft_behavior.specs.ClockRoots.{ClockRoot, port_root, inverse_root, clock_root_of, clock_within, clock_of_driver}
+use Rattle.dft_behavior.specs.Logic as logic
+use Rattle.dft_netlist.specs.Connections.{pin_of}
+use Rattle.dft_behavior.specs.Logic.{Ports, domain_of, domain_at, modelled, modelled_of, flip_flop, flop_meaning, lockup_meaning, logic_of, meaning_of, or_loose}
+use Rattle.dft_behavior.proofs.StoredLemmas.{flop_cell}
 use Rattle.dft_parts.specs.Cells.{is_dff, is_lockup, first_from, numbered_cell, first_cell, pin_between, pins_between}
 use Rattle.dft_parts.specs.Growth.{AreKept, Stands}
 use Rattle.dft_parts.specs.Standing.{IsClockNet, IsClockedBy, plain_cell, IsFlop, FlopStands, PortShowsItself, InverseStands, LockupStands}
@@ -62,48 +66,10 @@ found_in test cells (Some k) h = let e : k ≡ h.0 = omega (arith, h.2) in recor
 pub found : (test : Kind → Bool) (cells : List Cell) (place : ℕ) (cell : Cell) → slice_get cells place ≡ Some cell → test cell.kind ≡ true → IsFound test cells (first_cell test cells)
 found test cells place cell at is = found_in test cells (first_from test zero cells) (found_at test cells zero place cell at is)
 
-pub dff_is : (k : Kind) → is_dff k ≡ true → k ≡ kind.Dff
-dff_is kind.Dff h = refl
-dff_is kind.Buf h = absurd cc
-dff_is kind.Inv h = absurd cc
-dff_is kind.And h = absurd cc
-dff_is kind.Nand h = absurd cc
-dff_is kind.Or h = absurd cc
-dff_is kind.Nor h = absurd cc
-dff_is kind.Xor h = absurd cc
-dff_is kind.Xnor h = absurd cc
-dff_is kind.Mux2 h = absurd cc
-dff_is (kind.Table number) h = absurd cc
-dff_is kind.Tie0 h = absurd cc
-dff_is kind.Tie1 h = absurd cc
-dff_is kind.Dffr h = absurd cc
-dff_is kind.Dffs h = absurd cc
-dff_is kind.Sdff h = absurd cc
-dff_is kind.Sdffr h = absurd cc
-dff_is kind.Sdffs h = absurd cc
-dff_is kind.Lockup h = absurd cc
-dff_is kind.Opaque h = absurd cc
-
 lockup_is : (k : Kind) → is_lockup k ≡ true → k ≡ kind.Lockup
 lockup_is kind.Lockup h = refl
-lockup_is kind.Buf h = absurd cc
-lockup_is kind.Inv h = absurd cc
-lockup_is kind.And h = absurd cc
-lockup_is kind.Nand h = absurd cc
-lockup_is kind.Or h = absurd cc
-lockup_is kind.Nor h = absurd cc
-lockup_is kind.Xor h = absurd cc
-lockup_is kind.Xnor h = absurd cc
-lockup_is kind.Mux2 h = absurd cc
-lockup_is (kind.Table number) h = absurd cc
-lockup_is kind.Tie0 h = absurd cc
-lockup_is kind.Tie1 h = absurd cc
-lockup_is kind.Dff h = absurd cc
-lockup_is kind.Dffr h = absurd cc
-lockup_is kind.Dffs h = absurd cc
-lockup_is kind.Sdff h = absurd cc
-lockup_is kind.Sdffr h = absurd cc
-lockup_is kind.Sdffs h = absurd cc
+lockup_is (kind.Gate gate) h = absurd cc
+lockup_is (kind.Flop flop) h = absurd cc
 lockup_is kind.Opaque h = absurd cc
 
 -- ---- their pins
@@ -112,12 +78,12 @@ abbrev pub shape_as : Kind → List Role → Shape
 shape_as k roles = record { kind = k; roles = roles }
 
 pub dff_shape : (library : List Cell) → IsWellFormed library →
-    (shape_of library (Library (first_cell is_dff library)) ≡ shape_as kind.Dff (AClock ∷ Din ∷ Output ∷ [])) ⊎ (shape_of library (Library (first_cell is_dff library)) ≡ shape_as kind.Dff (AClock ∷ Din ∷ Output ∷ Inverted ∷ []))
+    (shape_of library (Library (first_cell is_dff library)) ≡ shape_as DFF (AClock ∷ Din ∷ Output ∷ [])) ⊎ (shape_of library (Library (first_cell is_dff library)) ≡ shape_as DFF (AClock ∷ Din ∷ Output ∷ Inverted ∷ []))
 dff_shape library well =
     let h = well.dff in
     let f = found is_dff library h.0 h.1 h.2 (ap is_dff h.3) in
-    let k = dff_is f.cell.kind f.passes in
-    let roles : HasRoles kind.Dff (map role_of f.cell.pins) = subst (λ (v : Kind). HasRoles v (map role_of f.cell.pins)) k (well.each (first_cell is_dff library).0 f.cell f.at).roles in
+    let k = dff_only f.cell.kind f.passes in
+    let roles : HasRoles DFF (map role_of f.cell.pins) = subst (λ (v : Kind). HasRoles v (map role_of f.cell.pins)) k (well.each (first_cell is_dff library).0 f.cell f.at).roles in
     elim roles [
       | inl e ↦ inl (ap (λ (o : Option Cell). shape_of_cell o) f.at ∙ (λ i. record { kind = k i; roles = e i }))
       | inr e ↦ inr (ap (λ (o : Option Cell). shape_of_cell o) f.at ∙ (λ i. record { kind = k i; roles = e i }))
@@ -137,7 +103,7 @@ clock_root n clock at = ap (clock_of_driver (clock_within n (length n.nets)) clo
 pub port_shows : PortShowsItself
 port_shows n ports net is = record { root = clock_root n net is.input; clock = is.clock }
 
-inverse_walk : (n : Netlist) (port output m : ℕ) → length n.nets ≡ suc m → driver n port ≡ Input → driver n output ≡ Gate kind.Inv (Net port ∷ []) → clock_root_of n (Net output) ≡ Some (record { port = port; inverted = true })
+inverse_walk : (n : Netlist) (port output m : ℕ) → length n.nets ≡ suc m → driver n port ≡ Input → driver n output ≡ Gate gate.Inv (Net port ∷ []) → clock_root_of n (Net output) ≡ Some (record { port = port; inverted = true })
 inverse_walk n port output m size at drives =
     ap (clock_of_driver (clock_within n (length n.nets)) output) drives
     ∙ ap (λ (k : ℕ). inverse_root (clock_within n k (Net port))) size
@@ -146,7 +112,7 @@ inverse_walk n port output m size at drives =
 pub inverse_stands : InverseStands
 inverse_stands n ports i port output single live is h = record {
   root = inverse_walk n port.0 output.0 (length n.nets - 1) (omega (arith, live)) is.input
-      (instance_drives n i 0 h.instance (output.0, Gate kind.Inv (Net port.0 ∷ [])) single h.at (gate_driven n.library i kind.Inv (port ∷ []) output h.instance refl h.cell_is h.kept));
+      (instance_drives n i 0 h.instance (output.0, Gate gate.Inv (Net port.0 ∷ [])) single h.at (gate_driven n.library i gate.Inv (port ∷ []) output h.instance refl h.cell_is h.kept));
   clock = is.clock;
 }
 
@@ -187,7 +153,7 @@ plain_by input domain = modelled domain (Some None) (Net input) None
 -- an instance of a shape with these roles more than a clock, an input and an output is a plain flip-flop
 abbrev IsPlainShape : Netlist → Ports → (i : ℕ) → (clock input output : NetId) → (more : List Role) → Type 0
 IsPlainShape n ports i clock input output more =
-    (rest : List Signal) → cell_as n ports i (shape_as kind.Dff (AClock ∷ Din ∷ Output ∷ more)) (AtNet clock ∷ AtNet input ∷ AtNet output ∷ rest) ≡ Some (plain_cell clock.0 input.0)
+    (rest : List Signal) → cell_as n ports i (shape_as DFF (AClock ∷ Din ∷ Output ∷ more)) (AtNet clock ∷ AtNet input ∷ AtNet output ∷ rest) ≡ Some (plain_cell clock.0 input.0)
 
 plain_three : (n : Netlist) (ports : Ports) (i : ℕ) (clock input output : NetId) → IsClockNet n ports clock.0 → IsPlainShape n ports i clock input output []
 plain_three n ports i clock input output is rest = ap (plain_by input.0) (clock_domain n ports clock.0 is)
@@ -196,11 +162,11 @@ plain_four : (n : Netlist) (ports : Ports) (i : ℕ) (clock input output : NetId
 plain_four n ports i clock input output is [] = ap (plain_by input.0) (clock_domain n ports clock.0 is)
 plain_four n ports i clock input output is (y ∷ rest) = ap (plain_by input.0) (clock_domain n ports clock.0 is)
 
-flop_as : (n : Netlist) (ports : Ports) (i : ℕ) (clock input output : NetId) (more : List Role) (id : CellId) → IsSingle n → shape_of n.library (Library id) ≡ shape_as kind.Dff (AClock ∷ Din ∷ Output ∷ more) →
+flop_as : (n : Netlist) (ports : Ports) (i : ℕ) (clock input output : NetId) (more : List Role) (id : CellId) → IsSingle n → shape_of n.library (Library id) ≡ shape_as DFF (AClock ∷ Din ∷ Output ∷ more) →
     IsPlainShape n ports i clock input output more → Stands n i (Library id) (pins_between n.library id clock input output) → IsFlop (logic_of n ports) clock.0 i output.0 input.0
 flop_as n ports i clock input output more id single shape plain h =
     let x : Instance = h.instance in
-    let s : Shape = shape_as kind.Dff (AClock ∷ Din ∷ Output ∷ more) in
+    let s : Shape = shape_as DFF (AClock ∷ Din ∷ Output ∷ more) in
     let kept = subst (λ (v : Shape). AreKept (map (pin_between clock input output) v.roles) x.pins) shape h.kept in
     let front = front_of clock input output (map (pin_between clock input output) more) x.pins kept in
     let pins = AtNet clock ∷ AtNet input ∷ AtNet output ∷ front.rest in

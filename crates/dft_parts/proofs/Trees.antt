@@ -6,16 +6,16 @@ use Rattle.dft_base.specs.declared.tri.Tri.{Tri}
 use Rattle.dft_base.specs.declared.tri.Tri.TheVariants.{Zero, One, Unknown}
 use Rattle.dft_base.specs.Solutions.{xor}
 use Rattle.dft_base.proofs.SumLemmas.{xor_false, xor_assoc}
-use Rattle.dft_cells.specs.declared.kind.Kind.TheVariants.{Xor}
+use Rattle.dft_cells.specs.declared.kind.Gate.TheVariants.{Xor}
 use Rattle.dft_cells.specs.Gates.{tri_of}
 use Rattle.dft_netlist.specs.declared.ids.NetId.{NetId}
 use Rattle.dft_netlist.specs.Drivers.{Net}
-use Rattle.dft_netlist.specs.Logic.{Logic, Ports, Meaning, Gate, logic_of}
+use Rattle.dft_behavior.specs.Logic.{Logic, Ports, Meaning, Gate, logic_of}
 use Rattle.dft_netlist.specs.Netlist.{Netlist}
 use Rattle.dft_netlist.specs.NetDrivers.{IsSingle}
 use Rattle.dft_netlist.specs.Orders.{numbers_of}
-use Rattle.dft_netlist.specs.Settled.{Sources, bit_given, IsSettled}
-use Rattle.dft_netlist.proofs.SettledLemmas.{value_at}
+use Rattle.dft_behavior.specs.Settled.{Sources, bit_given, IsSettled}
+use Rattle.dft_behavior.proofs.SettledLemmas.{value_at}
 use Rattle.dft_parts.specs.Growth.{HasParts, instances_in}
 use Rattle.dft_parts.specs.Parts.{Part, ANet, AnInstance, APin}
 use Rattle.dft_parts.specs.Recipes.{Start, behind}

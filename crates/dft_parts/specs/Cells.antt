@@ -1,7 +1,6 @@
 -- The cells of a library that store a bit, as they are made: the first of a kind, and what its pins are joined to.
-use Rattle.std.specs.Prelude.{ℕ, zero, suc, Bool, true, false, List, [], ◌∷◌, map, Option, None, Some, if◌then◌else◌}
+use Rattle.std.specs.Prelude.{ℕ, zero, suc, Bool, List, [], ◌∷◌, map, Option, None, Some, if◌then◌else◌}
 use Rattle.dft_cells.specs.declared.kind.Kind.{Kind}
-use Rattle.dft_cells.specs.declared.kind.Kind.TheVariants.{Dff}
 use Rattle.dft_cells.specs.declared.kind.Role.{Role}
 use Rattle.dft_cells.specs.declared.kind.Role.TheVariants.{Clock, Din, Output}
 use Rattle.dft_cells.specs.declared.cell.Cell.{Cell}
@@ -11,11 +10,8 @@ use Rattle.dft_netlist.specs.declared.instance.Signal.{Signal}
 use Rattle.dft_netlist.specs.declared.instance.Signal.TheVariants.{Net, Unconnected}
 use Rattle.dft_netlist.specs.declared.instance.CellRef.TheVariants.{Library}
 use Rattle.dft_netlist.specs.Drivers.{shape_of}
-pub use Rattle.dft_netlist.specs.Logic.{is_lockup}
-
-abbrev pub is_dff : Kind → Bool
-is_dff Dff = true
-is_dff _ = false
+pub use Rattle.dft_cells.specs.FlipFlops.{is_dff}
+pub use Rattle.dft_behavior.specs.Logic.{is_lockup}
 
 -- the number of the first cell whose kind passes a test, where they are numbered from a number on
 abbrev pub first_from : (Kind → Bool) → (number : ℕ) → List Cell → Option ℕ

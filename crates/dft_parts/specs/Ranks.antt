@@ -1,7 +1,7 @@
 -- Ranks of nets: each instance drives nets that stand above those that it reads, so every net can be ordered.
 use Rattle.std.specs.Prelude.{ℕ, ◌≡◌, ◌<◌, ◌++◌, false, IsTrue, List, [], ◌∷◌, length, Option, None, Some, slice_get}
 use Rattle.std.specs.List.{AllByRecursion}
-use Rattle.dft_cells.specs.declared.kind.Kind.{Kind}
+use Rattle.dft_cells.specs.declared.kind.Gate.{Gate as GateKind}
 use Rattle.dft_cells.specs.declared.cell.Cell.{Cell}
 use Rattle.dft_cells.specs.WellFormed.{IsWellFormed}
 use Rattle.dft_cells.specs.FlipFlops.{is_flip_flop}
@@ -85,7 +85,7 @@ FlipFlopRanked = (library : List Cell) (rank : ℕ → ℕ) (i : ℕ) (x : Insta
 -- A gate is ranked whose inputs stand below its output.
 abbrev pub GateRanked : Type 0
 GateRanked =
-    (library : List Cell) (rank : ℕ → ℕ) (i : ℕ) (x : Instance) (kind : Kind) (inputs : List NetId) (output : NetId) → x.cell ≡ cell_ref.Gate kind (length inputs) → x.pins ≡ at_nets inputs ++ signal.Net output ∷ [] →
+    (library : List Cell) (rank : ℕ → ℕ) (i : ℕ) (x : Instance) (kind : GateKind) (inputs : List NetId) (output : NetId) → x.cell ≡ cell_ref.Gate kind (length inputs) → x.pins ≡ at_nets inputs ++ signal.Net output ∷ [] →
     AllByRecursion (λ net. rank net.0 < rank output.0) inputs → IsRanked library rank i x
 
 -- A lock-up is ranked whose clock and input stand below its output.

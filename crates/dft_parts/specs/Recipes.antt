@@ -2,6 +2,7 @@
 use Rattle.std.specs.Prelude.{ℕ, suc, ◌+◌, ◌<◌, ◌≡◌, Bool, List, [], ◌∷◌, ◌++◌, length, map, Option, None, Some, Result, Ok, Err, slice_index_or}
 use Rattle.std.specs.List.{All, range_with_len}
 use Rattle.dft_cells.specs.declared.kind.Kind.{Kind}
+use Rattle.dft_cells.specs.declared.kind.Gate.{Gate as GateKind}
 use Rattle.dft_cells.specs.declared.cell.Cell.{Cell}
 use Rattle.dft_netlist.specs.declared.ids.NetId.{NetId}
 use Rattle.dft_netlist.specs.declared.ids.InstanceId.{InstanceId}
@@ -92,7 +93,7 @@ abbrev pub at_nets : List NetId → List Signal
 at_nets nets = map (λ net. Net net) nets
 
 -- a gate primitive (IEEE 1364) between nets that are there
-abbrev pub a_gate : Kind → (inputs : List NetId) → (output : NetId) → Recipe (Unit {0})
+abbrev pub a_gate : GateKind → (inputs : List NetId) → (output : NetId) → Recipe (Unit {0})
 a_gate kind inputs output = an_instance (Gate kind (length inputs)) (at_nets inputs ++ Net output ∷ [])
 
 -- the first cell of the library whose kind passes a test, between nets that are there

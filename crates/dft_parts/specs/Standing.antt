@@ -1,15 +1,15 @@
 -- What made instances do in a finished netlist.
 use Rattle.std.specs.Prelude.{ℕ, ◌<◌, ◌≡◌, Bool, true, false, IsTrue, List, [], ◌∷◌, ◌++◌, length, map, None, Some}
-use Rattle.dft_cells.specs.declared.kind.Kind.{Kind}
-use Rattle.dft_cells.specs.declared.kind.Kind.TheVariants.{Inv}
+use Rattle.dft_cells.specs.declared.kind.Gate.{Gate as GateKind}
+use Rattle.dft_cells.specs.declared.kind.Gate.TheVariants.{Inv}
 use Rattle.dft_cells.specs.WellFormed.{IsWellFormed}
 use Rattle.dft_netlist.specs.declared.ids.NetId.{NetId}
 use Rattle.dft_netlist.specs.declared.instance.Signal.TheVariants as signal
 use Rattle.dft_netlist.specs.declared.instance.CellRef.TheVariants.{Library}
 use Rattle.dft_netlist.specs.declared.instance.CellRef.TheVariants as cell_ref
-use Rattle.dft_netlist.specs.ClockRoots.{clock_root_of}
+use Rattle.dft_behavior.specs.ClockRoots.{clock_root_of}
 use Rattle.dft_netlist.specs.Drivers.{Source, Net, Input, driver}
-use Rattle.dft_netlist.specs.Logic.{Logic, Ports, Cell, Gate, Flop, Lockup, logic_of}
+use Rattle.dft_behavior.specs.Logic.{Logic, Ports, Cell, Gate, Flop, Lockup, logic_of}
 use Rattle.dft_netlist.specs.Netlist.{Netlist}
 use Rattle.dft_netlist.specs.NetDrivers.{IsSingle}
 use Rattle.dft_netlist.specs.Sound.{is_primitive}
@@ -42,7 +42,7 @@ pub record IsFlop (l : Logic) (clock flop output input : ℕ) : Type 0 where
 -- A made gate drives its net from its inputs.
 abbrev pub GateStands : Type 0
 GateStands =
-    (n : Netlist) (ports : Ports) (number : ℕ) (kind : Kind) (inputs : List NetId) (output : NetId) → IsSingle n → IsTrue (is_primitive kind) →
+    (n : Netlist) (ports : Ports) (number : ℕ) (kind : GateKind) (inputs : List NetId) (output : NetId) → IsSingle n → IsTrue (is_primitive kind) →
     Stands n number (cell_ref.Gate kind (length inputs)) (at_nets inputs ++ signal.Net output ∷ []) → (logic_of n ports).net output.0 ≡ Gate kind (sources_at inputs)
 
 -- A made flip-flop on a clock port takes its input and shows its bit.

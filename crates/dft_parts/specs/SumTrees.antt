@@ -3,14 +3,14 @@ use Rattle.std.specs.Prelude.{ℕ, ◌<◌, ◌≡◌, Bool, false, List, [], �
 use Rattle.dft_base.specs.declared.tri.Tri.{Tri}
 use Rattle.dft_base.specs.declared.tri.Tri.TheVariants.{Zero, One, Unknown}
 use Rattle.dft_base.specs.Solutions.{xor}
-use Rattle.dft_cells.specs.declared.kind.Kind.TheVariants.{Xor}
+use Rattle.dft_cells.specs.declared.kind.Gate.TheVariants.{Xor}
 use Rattle.dft_netlist.specs.declared.ids.NetId.{NetId}
 use Rattle.dft_netlist.specs.Drivers.{Net}
-use Rattle.dft_netlist.specs.Logic.{Logic, Ports, Gate, logic_of}
+use Rattle.dft_behavior.specs.Logic.{Logic, Ports, Gate, logic_of}
 use Rattle.dft_netlist.specs.Netlist.{Netlist}
 use Rattle.dft_netlist.specs.NetDrivers.{IsSingle}
 use Rattle.dft_netlist.specs.Orders.{numbers_of}
-use Rattle.dft_netlist.specs.Settled.{Sources, IsSettled, TriSources, IsTriSettled, inverse}
+use Rattle.dft_behavior.specs.Settled.{Sources, IsSettled, TriSources, IsTriSettled, inverse}
 use Rattle.dft_parts.specs.Growth.{HasParts}
 use Rattle.dft_parts.specs.Recipes.{Start}
 use Rattle.dft_parts.specs.Sums.{a_sum}

@@ -1,12 +1,12 @@
 -- The recipe of a sum: a tree of XOR gates of two inputs.
 use Rattle.std.specs.Prelude.{ℕ, zero, suc, List, [], ◌∷◌, length}
-use Rattle.dft_cells.specs.declared.kind.Kind.{Kind}
-use Rattle.dft_cells.specs.declared.kind.Kind.TheVariants.{Xor}
+use Rattle.dft_cells.specs.declared.kind.Gate.{Gate}
+use Rattle.dft_cells.specs.declared.kind.Gate.TheVariants.{Xor}
 use Rattle.dft_netlist.specs.declared.ids.NetId.{NetId}
 use Rattle.dft_parts.specs.Recipes.{Recipe, pure, ◌>>=◌, ◌>>◌, a_net, a_gate}
 
 -- a gate that drives a net of its own, which is made just before it
-unfoldable pub a_driving_gate : Kind → (inputs : List NetId) → Recipe NetId
+unfoldable pub a_driving_gate : Gate → (inputs : List NetId) → Recipe NetId
 a_driving_gate kind inputs = do
   output ← a_net
   a_gate kind inputs output

@@ -10,12 +10,12 @@ ghost use Rattle.dft_parts.specs.Sums.{a_driving_gate};
 
 use crate::parts_builder::PartsBuilder;
 use crate::pins::{Between, cell_pins, first_dff, first_lockup, gate_pins, store_pins};
-use dft_cells::{CellId, Kind};
+use dft_cells::{CellId, Gate};
 use dft_netlist::{CellRef, NetId, NetlistError};
 
 impl PartsBuilder {
     /// Makes a gate primitive (IEEE 1364) between nets that are there.
-    pub fn gate(&mut self, kind: Kind, inputs: &[NetId], output: NetId) -> Result<(), NetlistError>
+    pub fn gate(&mut self, kind: Gate, inputs: &[NetId], output: NetId) -> Result<(), NetlistError>
         requires primitive { IsTrue (is_primitive kind) }
         requires width { TakesInputs kind (length inputs.now) }
         requires inputs { AreThere self.old.netlist inputs.now }
@@ -29,7 +29,7 @@ impl PartsBuilder {
     }
 
     /// Makes a gate primitive that drives a net of its own, which is made just before it.
-    pub fn driving_gate(&mut self, kind: Kind, inputs: &[NetId]) -> Result<NetId, NetlistError>
+    pub fn driving_gate(&mut self, kind: Gate, inputs: &[NetId]) -> Result<NetId, NetlistError>
         requires primitive { IsTrue (is_primitive kind) }
         requires width { TakesInputs kind (length inputs.now) }
         requires inputs { AreThere self.old.netlist inputs.now }

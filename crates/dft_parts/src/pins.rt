@@ -9,7 +9,7 @@ ghost use Rattle.dft_parts.specs.Cells.{first_cell, is_dff, is_lockup};
 ghost use Rattle.dft_parts.specs.Cells as spec;
 ghost use Rattle.dft_parts.specs.Recipes.{at_nets};
 
-use dft_cells::{CellId, Kind, Library, Pin, Role};
+use dft_cells::{CellId, DFF, Kind, Library, Pin, Role};
 use dft_netlist::{NetId, PinSignals, Signal};
 use std::alloc::{AllocError, Global};
 
@@ -77,7 +77,7 @@ pub(crate) fn first_dff(library: &Library) -> CellId
     ensures first { result ≡ first_cell is_dff library.now }
     ensures there { result.0 < length library.now }
 {
-    match library.first_of(Kind::Dff) {
+    match library.first_of(DFF) {
         Some(cell) => cell,
         None => unreachable!(),
     }

@@ -7,7 +7,7 @@ ghost use Rattle.dft_parts.specs.Sums as spec;
 
 use crate::lists::push_net;
 use crate::parts_builder::PartsBuilder;
-use dft_cells::Kind;
+use dft_cells::Gate;
 use dft_netlist::{NetId, NetlistError};
 
 impl PartsBuilder {
@@ -37,7 +37,7 @@ impl PartsBuilder {
         let mut joined = Vec::new(self.alloc());
         let mut place = 0;
         while place + 1 < nets.len() {
-            let net = self.driving_gate(Kind::Xor, &[nets[place], nets[place + 1]])?;
+            let net = self.driving_gate(Gate::Xor, &[nets[place], nets[place + 1]])?;
             push_net(&mut joined, net)?;
             place += 2;
         }

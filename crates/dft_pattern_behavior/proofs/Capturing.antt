@@ -17,18 +17,18 @@ use Rattle.dft_cells.proofs.Completions.{above_self}
 use Rattle.dft_netlist.specs.declared.ids.NetId.{NetId}
 use Rattle.dft_netlist.specs.declared.ids.InstanceId.{InstanceId}
 use Rattle.dft_netlist.specs.declared.port.Port as design_port
-use Rattle.dft_netlist.specs.Connections.{is_input}
+use Rattle.dft_netlist.specs.Connections.{is_input, pin_of}
 use Rattle.dft_netlist.specs.Drivers.{Source, Driver, driver, kind_at, pins_of}
 use Rattle.dft_netlist.specs.Drivers as drivers
-use Rattle.dft_netlist.specs.Logic.{Logic, Ports, Meaning, Input, Clock, Gate, Joined, Flop, Lockup, Free, Cell, Force, Scan, cell_or_none, domain_at, flip_flop, flop_meaning, force_of, forcing, lockup_meaning, meaning_of, modelled, modelled_of, or_loose, pin_of, scan_of}
+use Rattle.dft_behavior.specs.Logic.{Logic, Ports, Meaning, Input, Clock, Gate, Joined, Flop, Lockup, Free, Cell, Force, Scan, cell_or_none, domain_at, flip_flop, flop_meaning, force_of, forcing, lockup_meaning, meaning_of, modelled, modelled_of, or_loose, scan_of}
 use Rattle.dft_netlist.specs.Netlist.{Netlist}
-use Rattle.dft_netlist.specs.Runs.{Vector}
-use Rattle.dft_netlist.specs.Settled.{IsTriSettled, inverse, value_given, value_from}
+use Rattle.dft_behavior.specs.Runs.{Vector}
+use Rattle.dft_behavior.specs.Settled.{IsTriSettled, inverse, value_given, value_from}
 use Rattle.dft_netlist.specs.Sound.{bits_of}
-use Rattle.dft_netlist.specs.Traces.{Root, Port, Constant, Other, root_of}
-use Rattle.dft_netlist.specs.ClockRoots.{ClockRoot}
+use Rattle.dft_behavior.specs.Traces.{Root, Port, Constant, Other, root_of}
+use Rattle.dft_behavior.specs.ClockRoots.{ClockRoot}
 use Rattle.dft_netlist.proofs.LiveDriven.{AreBefore, before_front, before_back}
-use Rattle.dft_netlist.proofs.StoredLemmas.{stored_force}
+use Rattle.dft_behavior.proofs.StoredLemmas.{stored_force}
 use Rattle.dft_abstract.specs.Cycle.{tri_forced_by, rise_of, strobe_sources, AreHalves, Round, IsRound, after_round}
 use Rattle.dft_abstract.specs.Laws.{next_from}
 use Rattle.dft_abstract.proofs.Halves.{closed_views, least_closed}

@@ -8,9 +8,9 @@ use Rattle.dft_base.proofs.NumberLemmas.{eqb_turned}
 use Rattle.dft_cells.proofs.Completions.{above_self}
 use Rattle.dft_netlist.specs.declared.ids.NetId.{NetId}
 use Rattle.dft_netlist.specs.declared.ids.InstanceId.{InstanceId}
-use Rattle.dft_netlist.specs.Logic.{Logic}
+use Rattle.dft_behavior.specs.Logic.{Logic}
 use Rattle.dft_netlist.specs.Netlist.{Netlist}
-use Rattle.dft_netlist.specs.Runs.{Vector, takes}
+use Rattle.dft_behavior.specs.Runs.{Vector, takes}
 use Rattle.dft_abstract.specs.Cycle.{rise_of, tri_forced_by}
 use Rattle.dft_abstract.specs.Laws.{next_from}
 use Rattle.dft_config.specs.Config.{Config}

@@ -1,9 +1,9 @@
 -- The last of a pattern's capture vectors, which clears, and those before it, in which edt_clock rests.
 use Rattle.std.proofs.Common.{ℕ, ◌≡◌, List, [], ◌∷◌, ◌++◌, refl, ap}
 use Rattle.dft_base.specs.declared.tri.Tri.{Tri}
-use Rattle.dft_netlist.specs.Logic.{Ports}
+use Rattle.dft_behavior.specs.Logic.{Ports}
 use Rattle.dft_netlist.specs.Netlist.{Netlist}
-use Rattle.dft_netlist.specs.Runs.{Vector}
+use Rattle.dft_behavior.specs.Runs.{Vector}
 use Rattle.dft_abstract.specs.Cycle.{Round, IsRound, after_round}
 use Rattle.dft_config.specs.Config.{Config}
 use Rattle.dft_runs.specs.Passes.{AreRounds, after_rounds}

@@ -93,26 +93,10 @@ ports_listed P (port ∷ ports) h =
     (ports_listed P ports (all_back P (bits_in port.dir port.bits) (input_bits ports) h))
 
 kind_listed : (P : ℕ → Type 0) (net : ℕ) (k : Kind) (i : ℕ) (inverted : Bool) (inputs : List Source) → Listed P net (driver_of_kind k i inverted inputs)
+kind_listed P net (kind.Gate gate) i inverted inputs = tt
+kind_listed P net (kind.Flop flop) i inverted inputs = tt
 kind_listed P net kind.Opaque i inverted inputs = tt
 kind_listed P net kind.Lockup i inverted inputs = tt
-kind_listed P net kind.Dff i inverted inputs = tt
-kind_listed P net kind.Dffr i inverted inputs = tt
-kind_listed P net kind.Dffs i inverted inputs = tt
-kind_listed P net kind.Sdff i inverted inputs = tt
-kind_listed P net kind.Sdffr i inverted inputs = tt
-kind_listed P net kind.Sdffs i inverted inputs = tt
-kind_listed P net kind.Buf i inverted inputs = tt
-kind_listed P net kind.Inv i inverted inputs = tt
-kind_listed P net kind.And i inverted inputs = tt
-kind_listed P net kind.Nand i inverted inputs = tt
-kind_listed P net kind.Or i inverted inputs = tt
-kind_listed P net kind.Nor i inverted inputs = tt
-kind_listed P net kind.Xor i inverted inputs = tt
-kind_listed P net kind.Xnor i inverted inputs = tt
-kind_listed P net kind.Mux2 i inverted inputs = tt
-kind_listed P net (kind.Table number) i inverted inputs = tt
-kind_listed P net kind.Tie0 i inverted inputs = tt
-kind_listed P net kind.Tie1 i inverted inputs = tt
 
 signal_listed : (P : ℕ → Type 0) (s : Signal) (k : Kind) (i : ℕ) (inverted : Bool) (inputs : List Source) → AreListed P (at_signal s (driver_of_kind k i inverted inputs))
 signal_listed P (signal.Net net) k i inverted inputs = (kind_listed P net.0 k i inverted inputs, tt)

@@ -6,8 +6,8 @@ use Rattle.std.proofs.lemmas.Option.{none-some, same_Some, slice_get_within}
 use Rattle.std.proofs.lemmas.Bool.{or_parts}
 use Rattle.dft_base.specs.declared.tri.Tri.{Tri}
 use Rattle.dft_netlist.specs.declared.ids.InstanceId.{InstanceId}
-use Rattle.dft_netlist.specs.Logic.{Logic, Ports}
-use Rattle.dft_netlist.specs.Runs.{Vector}
+use Rattle.dft_behavior.specs.Logic.{Logic, Ports}
+use Rattle.dft_behavior.specs.Runs.{Vector}
 use Rattle.dft_abstract.specs.Cycle.{Round, IsRound, after_round}
 use Rattle.dft_config.specs.Config.{Config}
 use Rattle.dft_config.specs.Ring.{Table}

@@ -2,9 +2,9 @@
 use Rattle.std.proofs.Common.{ℕ, ◌≡◌, List, [], ◌∷◌, ◌++◌, map, Option, None, Some, refl, ap, subst, ◌∙◌}
 use Rattle.std.proofs.lemmas.List.{append_assoc}
 use Rattle.dft_base.specs.declared.tri.Tri.{Tri}
-use Rattle.dft_netlist.specs.Logic.{Logic, Ports}
+use Rattle.dft_behavior.specs.Logic.{Logic, Ports}
 use Rattle.dft_netlist.specs.Netlist.{Netlist}
-use Rattle.dft_netlist.specs.Runs.{Vector}
+use Rattle.dft_behavior.specs.Runs.{Vector}
 use Rattle.dft_abstract.specs.Cycle.{Round, IsRound, after_round}
 use Rattle.dft_cubes.specs.Domains.{later_of}
 use Rattle.dft_config.specs.Config.{Config}

@@ -16,14 +16,14 @@ use Rattle.dft_netlist.specs.declared.ids.InstanceId.{InstanceId}
 use Rattle.dft_netlist.specs.declared.port.Port.{Port}
 use Rattle.dft_netlist.specs.Connections.{is_input}
 use Rattle.dft_netlist.specs.Drivers.{IsOrdered, driver}
-use Rattle.dft_netlist.specs.Logic.{IsRanked, Logic, flip_flop}
+use Rattle.dft_behavior.specs.Logic.{IsRanked, Logic, flip_flop}
 use Rattle.dft_netlist.specs.Netlist.{Netlist}
 use Rattle.dft_netlist.specs.NetNumbers.{nets_from}
-use Rattle.dft_netlist.specs.Runs.{Vector}
-use Rattle.dft_netlist.specs.Settled.{IsTriSettled}
+use Rattle.dft_behavior.specs.Runs.{Vector}
+use Rattle.dft_behavior.specs.Settled.{IsTriSettled}
 use Rattle.dft_netlist.specs.Sound.{IsNetlist, bit_names_of, bits_of}
 use Rattle.dft_netlist.proofs.LiveLemmas.{length-bits}
-use Rattle.dft_netlist.proofs.Ranks.{order_is_rank}
+use Rattle.dft_behavior.proofs.Ranks.{order_is_rank}
 use Rattle.dft_abstract.specs.Cycle.{AreHalves, after_halves, strobe_sources, tri_forced_by}
 use Rattle.dft_abstract.specs.Laws.{next_from}
 use Rattle.dft_config.specs.Config.{Config}

@@ -11,9 +11,9 @@ use Rattle.dft_base.specs.Solutions.{bit_at}
 use Rattle.dft_base.specs.Tri.{known, AboveTri}
 use Rattle.dft_base.proofs.ListLemmas.{get_there}
 use Rattle.dft_netlist.specs.declared.ids.InstanceId.{InstanceId}
-use Rattle.dft_netlist.specs.Logic.{Logic, Ports}
+use Rattle.dft_behavior.specs.Logic.{Logic, Ports}
 use Rattle.dft_netlist.specs.Netlist.{Netlist}
-use Rattle.dft_netlist.specs.Runs.{Vector}
+use Rattle.dft_behavior.specs.Runs.{Vector}
 use Rattle.dft_abstract.specs.Cycle.{Round}
 use Rattle.dft_config.specs.Config.{Config}
 use Rattle.dft_config.specs.declared.config.RingConfig.{RingConfig}

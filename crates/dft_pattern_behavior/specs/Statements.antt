@@ -8,9 +8,9 @@ use Rattle.dft_netlist.specs.declared.ids.InstanceId.{InstanceId}
 use Rattle.dft_netlist.specs.Netlist.{Netlist}
 use Rattle.dft_netlist.specs.Connections.{is_input}
 use Rattle.dft_netlist.specs.Drivers.{IsOrdered, driver}
-use Rattle.dft_netlist.specs.Logic.{Logic, flip_flop}
-use Rattle.dft_netlist.specs.Settled.{IsTriSettled}
-use Rattle.dft_netlist.specs.Runs.{Vector}
+use Rattle.dft_behavior.specs.Logic.{Logic, flip_flop}
+use Rattle.dft_behavior.specs.Settled.{IsTriSettled}
+use Rattle.dft_behavior.specs.Runs.{Vector}
 use Rattle.dft_abstract.specs.Cycle.{strobe_sources, Halves, AreHalves, after_halves}
 use Rattle.dft_config.specs.Config.{Config}
 use Rattle.dft_stitch.specs.Chains.{plan_of}

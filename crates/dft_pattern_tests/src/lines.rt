@@ -9,6 +9,7 @@ use dft_config::Config;
 use dft_cubes::{Cube, read as read_cubes};
 use dft_netlist::Design;
 use dft_stitch::Planned;
+use dft_test_configs::config_of;
 use dft_verilog::{MAX_TEXT, read as read_netlist};
 use std::alloc::{AllocError, Global};
 
@@ -37,10 +38,8 @@ pub(crate) fn line_for(alloc: Global, netlist: &str, cubes: &str) -> Result<Stri
 fn configured(alloc: Global, design: &Design, cubes: &str) -> Result<String, AllocError>
     requires { length cubes.now ≤ 4096 }
 {
-    match Config::read(alloc, WIDE.as_bytes()) {
-        Ok(config) => with_cubes(alloc, design, &config, cubes),
-        Err(_) => String::from_str(alloc, "no configuration"),
-    }
+    let config = config_of(alloc, &WIDE)?;
+    with_cubes(alloc, design, &config, cubes)
 }
 
 fn with_cubes(

@@ -1,10 +1,43 @@
 //! A configuration, and cubes.
 
+use dft_config::{FillRule, Injector, Tap};
+use dft_test_configs::Shape;
 use std::alloc::{AllocError, Global};
 
 // Forty flip-flops in eight chains; the cells of the cubes stand first in the first chain.
-pub(crate) static WIDE: &str =
-    "version = 1\ndomains = ['clk']\nresets = ['rst_n']\nchains = 8\nwarm = 8\nwindow = 16\nring = { stages = 8, channels = 2, taps = [[2, 5]], injectors = [[0, 7], [1, 3]], phase = [[7], [3], [1, 7], [3, 6], [0, 7], [2, 3], [0, 5, 7], [1, 3]] }\ncompactor = { groups = [[0, 2, 4, 6], [1, 3, 5, 7]], mask_inputs = 1 }\n";
+pub(crate) static WIDE: Shape = Shape {
+    domains: &["clk"],
+    resets: &["rst_n"],
+    chains: 8,
+    warm: 8,
+    window: 16,
+    fill: FillRule::Zeros,
+    stages: 8,
+    channels: 2,
+    taps: &[Tap { from: 2, to: 5 }],
+    injectors: &[
+        Injector {
+            channel: 0,
+            stage: 7,
+        },
+        Injector {
+            channel: 1,
+            stage: 3,
+        },
+    ],
+    phase: &[
+        &[7],
+        &[3],
+        &[1, 7],
+        &[3, 6],
+        &[0, 7],
+        &[2, 3],
+        &[0, 5, 7],
+        &[1, 3],
+    ],
+    groups: &[&[0, 2, 4, 6], &[1, 3, 5, 7]],
+    mask_inputs: 1,
+};
 
 // A cube of these clocks that gives four cells the digits of a number, lowest first, and a port where it is to.
 fn push_number(

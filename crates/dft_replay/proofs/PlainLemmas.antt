@@ -4,13 +4,13 @@ use Rattle.std.specs.Prelude.{if◌then◌else◌}
 use Rattle.dft_base.specs.declared.tri.Tri.{Tri}
 use Rattle.dft_base.specs.declared.tri.Tri.TheVariants.{Zero, One, Unknown}
 use Rattle.dft_base.specs.Tri.{AboveTri}
-use Rattle.dft_netlist.specs.Logic.{Logic, no_cell, IsRanked, logic_of}
+use Rattle.dft_behavior.specs.Logic.{Logic, no_cell, IsRanked, logic_of}
 use Rattle.dft_netlist.specs.Netlist.{Netlist}
 use Rattle.dft_netlist.specs.Drivers.{IsOrdered}
-use Rattle.dft_netlist.specs.Settled.{IsTriSettled}
-use Rattle.dft_netlist.specs.Runs.{Vector, takes}
-use Rattle.dft_netlist.proofs.Meanings.{source_same}
-use Rattle.dft_netlist.proofs.Ranks.{order_is_rank}
+use Rattle.dft_behavior.specs.Settled.{IsTriSettled}
+use Rattle.dft_behavior.specs.Runs.{Vector, takes}
+use Rattle.dft_behavior.proofs.Meanings.{source_same}
+use Rattle.dft_behavior.proofs.Ranks.{order_is_rank}
 use Rattle.dft_abstract.specs.Cycle.{Pulse, view_sources, AreViews, next_value, IsClosed, IsLeast, after_pulse, rise_of, strobe_sources, Round, IsRound, after_round, changes, Half}
 use Rattle.dft_abstract.proofs.Views.{given_same, lockups_look}
 use Rattle.dft_abstract.proofs.Least.{step_below}

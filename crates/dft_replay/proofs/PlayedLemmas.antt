@@ -4,14 +4,14 @@ use Rattle.std.specs.Prelude.{if◌then◌else◌}
 use Rattle.dft_base.specs.declared.tri.Tri.{Tri}
 use Rattle.dft_base.specs.declared.tri.Tri.TheVariants.{Zero}
 use Rattle.dft_netlist.specs.declared.ids.NetId.{NetId}
-use Rattle.dft_netlist.specs.Logic.{Logic}
+use Rattle.dft_behavior.specs.Logic.{Logic}
 use Rattle.dft_netlist.specs.Orders.{numbers_of}
-use Rattle.dft_netlist.specs.Runs.{Vector}
-use Rattle.dft_netlist.specs.Settled.{TriSources, value_from, is_wire, IsTriSettled}
-use Rattle.dft_netlist.proofs.Ranks.{order_is_rank}
+use Rattle.dft_behavior.specs.Runs.{Vector}
+use Rattle.dft_behavior.specs.Settled.{TriSources, value_from, is_wire, IsTriSettled}
+use Rattle.dft_behavior.proofs.Ranks.{order_is_rank}
 use Rattle.dft_abstract.specs.Cycle.{Pulse, tri_forced_by, after_pulse, IsLeast, rise_of, falls_after, strobe_sources, after_halves, Round, IsRound, after_round}
-use Rattle.dft_logic.specs.Needs.{IsStrobe, strobe_from}
-use Rattle.dft_logic.proofs.ShownLemmas.{still_there}
+use Rattle.dft_takings.specs.Needs.{IsStrobe, strobe_from}
+use Rattle.dft_takings.proofs.ShownLemmas.{still_there}
 use Rattle.dft_cycle.specs.Machine.{Machine, value_at, logic, pulses, pulse_from, ports_of, IsPulsed}
 use Rattle.dft_cycle.specs.MachineLaws.{IsForced, StandsSince}
 use Rattle.dft_cycle.proofs.MachineRounds.{same_logic, halves_forced}

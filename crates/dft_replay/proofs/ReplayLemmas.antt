@@ -8,7 +8,7 @@ use Rattle.std.proofs.lemmas.List.Sums.{count_by-le-length}
 use Rattle.dft_base.specs.declared.tri.Tri.{Tri}
 use Rattle.dft_netlist.specs.declared.ids.NetId.{NetId}
 use Rattle.dft_netlist.specs.Netlist.{Netlist}
-use Rattle.dft_netlist.specs.Logic.{Logic, logic_of}
+use Rattle.dft_behavior.specs.Logic.{Logic, logic_of}
 use Rattle.dft_netlist.specs.Orders.{numbers_of}
 use Rattle.dft_abstract.specs.Cycle.{Round, IsRound, after_round, all_unknown}
 use Rattle.dft_cycle.specs.Machine.{Machine, value_at, logic, is_one_of, IsStart}

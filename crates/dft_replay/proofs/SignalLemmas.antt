@@ -17,7 +17,7 @@ use Rattle.dft_patterns.specs.declared.act.Act.{Act}
 use Rattle.dft_patterns.specs.declared.signal.StilSignal.{StilSignal}
 use Rattle.dft_patterns.specs.Patterns.{Patterns, IsVector}
 use Rattle.dft_patterns.proofs.VectorLemmas.{vector_length}
-use Rattle.dft_netlist.specs.Logic.{logic_of}
+use Rattle.dft_behavior.specs.Logic.{logic_of}
 use Rattle.dft_abstract.specs.Cycle.{all_unknown}
 use Rattle.dft_replay.specs.declared.verdict.Unknowns.{Unknowns}
 use Rattle.dft_replay.specs.declared.verdict.Verdict.{Verdict}

@@ -2,9 +2,9 @@
 use Rattle.std.proofs.Common.{ℕ, suc, ◌+◌, List, [], ◌∷◌, ◌≡◌, sym, ◌∙◌, length, Option, None, Some, subst}
 use Rattle.dft_base.specs.declared.tri.Tri.{Tri}
 use Rattle.dft_netlist.specs.Drivers.{IsOrdered}
-use Rattle.dft_netlist.specs.Logic.{Logic, IsRanked, logic_of}
+use Rattle.dft_behavior.specs.Logic.{Logic, IsRanked, logic_of}
 use Rattle.dft_netlist.specs.Netlist.{Netlist}
-use Rattle.dft_netlist.proofs.Ranks.{order_is_rank}
+use Rattle.dft_behavior.proofs.Ranks.{order_is_rank}
 use Rattle.dft_abstract.specs.Cycle.{Round, after_round, all_unknown}
 use Rattle.dft_abstract.proofs.Least.{round_one}
 use Rattle.dft_patterns.specs.Patterns.{Patterns}

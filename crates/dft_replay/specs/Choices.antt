@@ -2,7 +2,7 @@
 use Rattle.std.specs.Prelude.{ℕ, List}
 use Rattle.dft_netlist.specs.Netlist.{Netlist}
 use Rattle.dft_netlist.specs.Drivers.{IsOrdered}
-use Rattle.dft_netlist.specs.Runs.{Now, Turn, AreLow}
+use Rattle.dft_behavior.specs.Runs.{Now, Turn, AreLow}
 use Rattle.dft_patterns.specs.Patterns.{Patterns}
 use Rattle.dft_replay.specs.Rows.{rows_of}
 use Rattle.dft_replay.specs.Laws.{vectors_of, IsRunOf}

@@ -2,8 +2,8 @@
 use Rattle.std.specs.Prelude.{ℕ, suc, Bool, not, List, [], ◌∷◌, map, ◌≡◌, ◌⊎◌}
 use Rattle.dft_netlist.specs.Netlist.{Netlist}
 use Rattle.dft_netlist.specs.Drivers.{IsOrdered}
-use Rattle.dft_netlist.specs.Logic.{logic_of}
-use Rattle.dft_netlist.specs.Runs.{Now, Turn, Vector, IsRun}
+use Rattle.dft_behavior.specs.Logic.{logic_of}
+use Rattle.dft_behavior.specs.Runs.{Now, Turn, Vector, IsRun}
 use Rattle.dft_patterns.specs.Patterns.{Patterns}
 use Rattle.dft_replay.specs.declared.verdict.Verdict.{Verdict}
 use Rattle.dft_replay.specs.declared.verdict.Verdict.TheVariants.{Pass, Mismatch, Undetermined}

@@ -5,9 +5,9 @@ use Rattle.dft_base.specs.declared.tri.Tri.TheVariants.{Unknown}
 use Rattle.dft_base.specs.Tri.{join}
 use Rattle.dft_netlist.specs.Netlist.{Netlist}
 use Rattle.dft_netlist.specs.Drivers.{IsOrdered}
-use Rattle.dft_netlist.specs.Logic.{Logic, logic_of}
-use Rattle.dft_netlist.specs.Settled.{value_given}
-use Rattle.dft_netlist.specs.Runs.{Vector}
+use Rattle.dft_behavior.specs.Logic.{Logic, logic_of}
+use Rattle.dft_behavior.specs.Settled.{value_given}
+use Rattle.dft_behavior.specs.Runs.{Vector}
 use Rattle.dft_abstract.specs.Cycle.{Pulse, changes, view_sources, next_value, after_pulse, rise_of, fall_of, strobe_sources}
 use Rattle.dft_patterns.specs.Patterns.{Patterns}
 use Rattle.dft_replay.specs.declared.verdict.Unknowns.{Unknowns}

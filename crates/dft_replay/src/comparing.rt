@@ -4,7 +4,7 @@ ghost use Rattle.std.specs.Prelude.{◌≡◌, ◌<◌, ◌≤◌, ◌^◌, ℕ,
 ghost use Rattle.std.specs.Vec.{vec_capacity};
 ghost use Rattle.dft_base.specs.declared.tri.Tri.{Tri};
 ghost use Rattle.dft_netlist.specs.Orders.{numbers_of};
-ghost use Rattle.dft_logic.specs.Needs.{IsStrobe};
+ghost use Rattle.dft_takings.specs.Needs.{IsStrobe};
 ghost use Rattle.dft_cycle.specs.Machine.{logic, value_at};
 ghost use Rattle.dft_replay.specs.Looks.{asked_of, decided_seen, AreBefore};
 ghost use Rattle.dft_replay.specs.Rows.{compared_from};

@@ -3,13 +3,16 @@ ghost use Rattle.dft_replay.specs.declared.error.ReplayError.TheVariants.{Memory
 
 use dft_base::Name;
 use std::alloc::{AllocError, AllocFailed};
+use thiserror::Error;
 
 /// Why patterns are not replayed.
-#[derive(Debug, Drop)]
+#[derive(Debug, Error, Drop)]
 pub enum ReplayError {
     /// P7: the signal with this name is no bit of a port with its direction; it is the first such signal.
+    #[error("a signal that is no bit of a port of the netlist with its direction")]
     P7 { name: Name },
     /// Memory ran out.
+    #[error("out of memory")]
     Memory(AllocError),
 }
 

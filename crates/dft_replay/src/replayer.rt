@@ -1,7 +1,7 @@
 //! The replay of patterns on a design.
 
 ghost use Rattle.std.specs.Prelude.{◌≡◌, ◌<◌, ◌^◌, ℕ, List, All, None, length, map, IfOk, IfErr};
-ghost use Rattle.dft_netlist.specs.Logic.{logic_of};
+ghost use Rattle.dft_behavior.specs.Logic.{logic_of};
 ghost use Rattle.dft_netlist.specs.Orders.{numbers_of};
 ghost use Rattle.dft_abstract.specs.Cycle.{all_unknown};
 ghost use Rattle.dft_cycle.specs.Machine.{AreNets, is_one_of};

@@ -6,6 +6,7 @@ use Rattle.std.proofs.lemmas.Bool.{eq-eqb, false_from_ne_true}
 use Rattle.std.proofs.lemmas.Map.Keys.{any_passes_from_place}
 use Rattle.std.proofs.lemmas.Option.{none-some}
 use Rattle.dft_cells.specs.declared.kind.Kind.{Kind}
+use Rattle.dft_cells.specs.declared.kind.Gate.{Gate as GateKind}
 use Rattle.dft_cells.specs.declared.kind.Role.{Role}
 use Rattle.dft_cells.specs.declared.kind.Role.TheVariants as role
 use Rattle.dft_netlist.specs.declared.instance.Instance.{Instance}
@@ -15,12 +16,12 @@ use Rattle.dft_netlist.specs.Netlist.{Netlist}
 use Rattle.dft_netlist.specs.Drivers.{Source, Net, Gate, Free, Connection, driver, source_of, inputs_of, is_input, connections_of, nets_of}
 use Rattle.dft_netlist.specs.Orders.{Has}
 use Rattle.dft_netlist.specs.Sound.{IsNetlist}
-use Rattle.dft_netlist.specs.ClockRoots.{ClockRoot, ClockRooted, AtPort, ThroughGate, ThroughJoin, clock_root_of}
-use Rattle.dft_netlist.proofs.ClockWalks.{clock_found}
+use Rattle.dft_behavior.specs.ClockRoots.{ClockRoot, ClockRooted, AtPort, ThroughGate, ThroughJoin, clock_root_of}
+use Rattle.dft_behavior.proofs.ClockWalks.{clock_found}
 use Rattle.dft_netlist.proofs.GateDrivers.{IsGate, gate_drives, driven_live}
 use Rattle.dft_netlist.proofs.LiveLemmas.{le_or_lt}
 use Rattle.dft_config.specs.Config.{Config}
-use Rattle.dft_rules.specs.Refusals.{refusal, unknown_port, unknown_cell, first_present, clock_as_data, takes_data, uses_data, takes, is_joined_to, is_data_of, is_clock_as_data}
+use Rattle.dft_rules.specs.Refusals.{refusal, unknown_port, unknown_cell, first_present, clock_as_data, takes_data, uses_data, uses_inputs, takes, is_joined_to, is_data_of, is_clock_as_data}
 use Rattle.dft_rules.specs.declared.error.RuleError.TheVariants.{ClockAsData}
 use Rattle.dft_rules.specs.Rules.{place_of_clock, clock_of_source}
 use Rattle.dft_rules.proofs.CheckLemmas.{none_first, from_resets, from_keep, from_present, from_clocks, from_ports}
@@ -131,7 +132,7 @@ data_apart n config i x k sound passed at takes =
     ))
 
 -- a gate that is no buffer and no inverter reads none
-pub gate_apart : (n : Netlist) (config : Config) (net k : ℕ) (kind : Kind) (inputs : List Source) → IsNetlist n → refusal n config ≡ None → driver n net ≡ Gate kind inputs → uses_data kind ≡ true → Has (nets_of inputs) k →
+pub gate_apart : (n : Netlist) (config : Config) (net k : ℕ) (kind : GateKind) (inputs : List Source) → IsNetlist n → refusal n config ≡ None → driver n net ≡ Gate kind inputs → uses_inputs kind ≡ true → Has (nets_of inputs) k →
     is_some (clock_of_source n config.domains (Net k)) ≡ false
 gate_apart n config net k kind inputs sound passed is uses has =
     let gate : IsGate n kind inputs = gate_drives n net kind inputs is in

@@ -9,12 +9,12 @@ use Rattle.dft_base.specs.Lexing.{Text}
 use Rattle.dft_base.proofs.OptionLemmas.{some_of}
 use Rattle.dft_cells.specs.declared.kind.Role.TheVariants as role
 use Rattle.dft_netlist.specs.Netlist.{Netlist}
-use Rattle.dft_netlist.specs.Connections.{input_net}
+use Rattle.dft_netlist.specs.Connections.{input_net, pin_of}
 use Rattle.dft_netlist.specs.Drivers.{Source, kind_at, pins_of}
-use Rattle.dft_netlist.specs.Traces.{Root, Port, Constant, Other, root_of}
-use Rattle.dft_netlist.specs.ClockRoots.{ClockRoot, clock_root_of}
-use Rattle.dft_netlist.specs.Logic.{Ports, Force, Scan, pin_of, or_loose, domain_at, force_of, forcing, scan_of, modelled, modelled_of, flip_flop}
-use Rattle.dft_netlist.specs.Logic as logic
+use Rattle.dft_behavior.specs.Traces.{Root, Port, Constant, Other, root_of}
+use Rattle.dft_behavior.specs.ClockRoots.{ClockRoot, clock_root_of}
+use Rattle.dft_behavior.specs.Logic.{Ports, Force, Scan, or_loose, domain_at, force_of, forcing, scan_of, modelled, modelled_of, flip_flop}
+use Rattle.dft_behavior.specs.Logic as logic
 use Rattle.dft_config.specs.Config.{Config}
 use Rattle.dft_rules.specs.ConfigPorts.{config_ports}
 use Rattle.dft_rules.specs.Laws.{ScannedAreClocked}

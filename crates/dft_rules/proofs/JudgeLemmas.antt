@@ -10,26 +10,25 @@ use Rattle.dft_cells.specs.declared.kind.Role.TheVariants.{Clock, Reset, Preset}
 use Rattle.dft_netlist.specs.declared.ids.NetId.{NetId}
 use Rattle.dft_netlist.specs.declared.instance.Instance.{Instance}
 use Rattle.dft_netlist.specs.declared.instance.Signal.{Signal}
-use Rattle.dft_netlist.specs.declared.clock_roots.ClockRoot.{ClockRoot}
-use Rattle.dft_netlist.specs.declared.root.Root as declared
-use Rattle.dft_netlist.specs.declared.root.Root.TheVariants.{Port, Constant, Other}
+use Rattle.dft_behavior.specs.declared.clock_roots.ClockRoot.{ClockRoot}
+use Rattle.dft_behavior.specs.declared.root.Root as declared
+use Rattle.dft_behavior.specs.declared.root.Root.TheVariants.{Port, Constant, Other}
 use Rattle.dft_netlist.specs.Netlist.{Netlist}
 use Rattle.dft_netlist.specs.Drivers.{Source, Net, Connection, connections_of, shape_of, source_of}
-use Rattle.dft_netlist.specs.Logic.{same_role, pin_of}
-use Rattle.dft_netlist.specs.ClockSteps.{shown_clock}
-use Rattle.dft_netlist.specs.Roots.{shown_root}
-use Rattle.dft_netlist.specs.Traces.{root_of}
+use Rattle.dft_behavior.specs.ClockSteps.{shown_clock}
+use Rattle.dft_behavior.specs.Roots.{shown_root}
+use Rattle.dft_behavior.specs.Traces.{root_of}
 use Rattle.dft_config.specs.Config.{Config}
 use Rattle.dft_rules.proofs.FindLemmas.{find_same}
-use Rattle.dft_netlist.proofs.ClockTables.{shown_in as clock_shown_in}
-use Rattle.dft_netlist.proofs.RootTables.{shown_in}
+use Rattle.dft_behavior.proofs.ClockTables.{shown_in as clock_shown_in}
+use Rattle.dft_behavior.proofs.RootTables.{shown_in}
 use Rattle.dft_rules.specs.declared.findings.Findings.{Findings}
 use Rattle.dft_rules.specs.declared.judged.Judged.{Judged}
-use Rattle.dft_netlist.specs.Connections.{input_net, joined_to, signal_of}
+use Rattle.dft_netlist.specs.Connections.{input_net, joined_to, signal_of, same_role, pin_of}
 use Rattle.dft_rules.specs.Findings.{AreNets, AreFindings, AreUsed, place_among, clock_place, clock_at, is_held_at, are_held_by, is_marked_clock}
 use Rattle.dft_rules.specs.Refusals.{is_clock_as_data}
-use Rattle.dft_netlist.specs.ClockTables.{AreClocks, clock_in}
-use Rattle.dft_netlist.specs.RootTables.{AreRoots, root_in}
+use Rattle.dft_behavior.specs.ClockTables.{AreClocks, clock_in}
+use Rattle.dft_behavior.specs.RootTables.{AreRoots, root_in}
 use Rattle.dft_rules.specs.Rules.{is_net, may_be_scanned, place_of_root, place_of_clock, clock_of_source, is_held, are_held, scan_cell_in, judged, judged_by}
 
 -- ---- places of nets

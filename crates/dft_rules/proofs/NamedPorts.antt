@@ -1,5 +1,5 @@
 -- Ports that a configuration names: inputs, and no reset is a clock.
-use Rattle.std.proofs.Common.{ℕ, zero, suc, ◌+◌, ◌≡◌, ◌||◌, Bool, true, false, List, [], ◌∷◌, Option, None, Some, option_and_then, slice_get, refl, sym, ap, arith, ◌∙◌}
+use Rattle.std.proofs.Common.{ℕ, zero, suc, ◌≡◌, ◌||◌, Bool, true, false, List, [], ◌∷◌, Option, None, Some, option_and_then, slice_get, refl, sym, ap, arith, ◌∙◌}
 use Rattle.std.specs.Prelude.{if◌then◌else◌}
 use Rattle.std.specs.List.{list_any}
 use Rattle.std.specs.Str.{bytes_eq}

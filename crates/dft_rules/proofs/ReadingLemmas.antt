@@ -6,7 +6,7 @@ use Rattle.std.proofs.Common.{Bool, None, Option, Some, arith, false, refl, true
 use Rattle.std.proofs.lemmas.Bool.{eq-eqb}
 use Rattle.std.proofs.lemmas.Bool.Decides.{nat_tests}
 use Rattle.std.proofs.lemmas.Option.{none-some}
-use Rattle.dft_cells.specs.declared.kind.Kind.{Kind}
+use Rattle.dft_cells.specs.declared.kind.Gate.{Gate}
 use Rattle.dft_netlist.specs.Drivers.{Net, kind_at, source_of}
 use Rattle.dft_netlist.specs.declared.ids.NetId.{NetId}
 use Rattle.dft_netlist.specs.Netlist.{Netlist}
@@ -25,27 +25,8 @@ joined_net i pin k signal.Unconnected e = absurd cc
 pub is_itself : (net : NetId) → is_net net.0 (Some net) ≡ true
 is_itself net = grind (arith, nat_tests)
 
-pub no_gate : (k : Kind) → may_be_scanned k ≡ true → IsTrue (is_primitive k) → ⊥
-no_gate kind.Dff s p = cc
-no_gate kind.Dffr s p = cc
-no_gate kind.Dffs s p = cc
-no_gate kind.Buf s p = cc
-no_gate kind.Inv s p = cc
-no_gate kind.And s p = cc
-no_gate kind.Nand s p = cc
-no_gate kind.Or s p = cc
-no_gate kind.Nor s p = cc
-no_gate kind.Xor s p = cc
-no_gate kind.Xnor s p = cc
-no_gate kind.Mux2 s p = cc
-no_gate (kind.Table number) s p = cc
-no_gate kind.Tie0 s p = cc
-no_gate kind.Tie1 s p = cc
-no_gate kind.Sdff s p = cc
-no_gate kind.Sdffr s p = cc
-no_gate kind.Sdffs s p = cc
-no_gate kind.Lockup s p = cc
-no_gate kind.Opaque s p = cc
+pub no_gate : (k : Gate) → may_be_scanned (kind.Gate k) ≡ true → IsTrue (is_primitive k) → ⊥
+no_gate k s p = cc
 
 pub judged_may : (n : Netlist) (config : Config) (i : ℕ) (v : Judged) → judged n config i ≡ Some v → may_be_scanned (kind_at n i) ≡ true
 judged_may n config i v is = by (may_be_scanned (kind_at n i)) _ is

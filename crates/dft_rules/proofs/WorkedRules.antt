@@ -1,8 +1,10 @@
 -- A netlist with two clocks and how it is judged, worked by hand.
-use Rattle.std.proofs.Common.{◌≡◌, ℕ, List, [], ◌∷◌, codes, pos, false, Some, None, refl}
+use Rattle.std.proofs.Common.{◌≡◌, ℕ, List, [], ◌∷◌, codes, pos, false, Some, None, refl, true}
 use Rattle.dft_base.specs.Lexing.{Text}
 use Rattle.dft_cells.specs.declared.cell.Cell.{Cell}
+use Rattle.dft_cells.specs.declared.kind.TheConstants.{DFF}
 use Rattle.dft_cells.specs.declared.kind.Kind.TheVariants as kind
+use Rattle.dft_cells.specs.declared.kind.Forcing.TheVariants as force
 use Rattle.dft_cells.specs.declared.kind.Role.TheVariants as role
 use Rattle.dft_netlist.specs.declared.instance.CellRef.TheVariants as cell_ref
 use Rattle.dft_netlist.specs.declared.instance.Instance.{Instance}
@@ -20,8 +22,8 @@ use Rattle.dft_rules.specs.Rules.{judgements}
 -- a flip-flop, its scan cell, a clock gate and a lock-up
 abbrev pub library : List Cell
 library =
-    record { name = codes "DFF"; kind = kind.Dff; pins = record { name = codes "CK"; role = role.Clock } ∷ record { name = codes "D"; role = role.Din } ∷ record { name = codes "Q"; role = role.Output } ∷ []; scan = Some (record { 0 = 1 }) }
-    ∷ record { name = codes "SDFF"; kind = kind.Sdff; pins = record { name = codes "CK"; role = role.Clock } ∷ record { name = codes "D"; role = role.Din } ∷ record { name = codes "SI"; role = role.ScanIn } ∷ record { name = codes "SE"; role = role.ScanEnable } ∷ record { name = codes "Q"; role = role.Output } ∷ []; scan = None }
+    record { name = codes "DFF"; kind = DFF; pins = record { name = codes "CK"; role = role.Clock } ∷ record { name = codes "D"; role = role.Din } ∷ record { name = codes "Q"; role = role.Output } ∷ []; scan = Some (record { 0 = 1 }) }
+    ∷ record { name = codes "SDFF"; kind = kind.Flop (record { force = force.Nothing; scan = true }); pins = record { name = codes "CK"; role = role.Clock } ∷ record { name = codes "D"; role = role.Din } ∷ record { name = codes "SI"; role = role.ScanIn } ∷ record { name = codes "SE"; role = role.ScanEnable } ∷ record { name = codes "Q"; role = role.Output } ∷ []; scan = None }
     ∷ record { name = codes "CKGATE"; kind = kind.Opaque; pins = record { name = codes "CK"; role = role.Input } ∷ record { name = codes "EN"; role = role.Input } ∷ record { name = codes "GCK"; role = role.Output } ∷ []; scan = None }
     ∷ record { name = codes "LOCKUP"; kind = kind.Lockup; pins = record { name = codes "CK"; role = role.Clock } ∷ record { name = codes "D"; role = role.Din } ∷ record { name = codes "Q"; role = role.Output } ∷ []; scan = None }
     ∷ []

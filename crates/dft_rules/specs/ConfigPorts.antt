@@ -2,7 +2,7 @@
 use Rattle.std.specs.List.{list_any}
 use Rattle.dft_netlist.specs.Netlist.{Netlist}
 use Rattle.dft_netlist.specs.Connections.{input_net}
-use Rattle.dft_netlist.specs.Logic.{Ports}
+use Rattle.dft_behavior.specs.Logic.{Ports}
 use Rattle.dft_config.specs.Config.{Config}
 use Rattle.dft_rules.specs.Rules.{is_net}
 

@@ -7,17 +7,17 @@ use Rattle.dft_netlist.specs.declared.ids.NetId.{NetId}
 use Rattle.dft_netlist.specs.declared.instance.Signal.{Signal}
 use Rattle.dft_netlist.specs.declared.instance.Instance.{Instance}
 use Rattle.dft_netlist.specs.declared.limits.TheConstants.{MAX_INSTANCES}
-use Rattle.dft_netlist.specs.declared.clock_roots.ClockRoot.{ClockRoot}
-use Rattle.dft_netlist.specs.declared.root.Root.{Root}
-use Rattle.dft_netlist.specs.declared.root.Root.TheVariants.{Port, Constant, Other}
+use Rattle.dft_behavior.specs.declared.clock_roots.ClockRoot.{ClockRoot}
+use Rattle.dft_behavior.specs.declared.root.Root.{Root}
+use Rattle.dft_behavior.specs.declared.root.Root.TheVariants.{Port, Constant, Other}
 use Rattle.dft_netlist.specs.Netlist.{Netlist}
 use Rattle.dft_config.specs.Config.{Config}
 use Rattle.dft_rules.specs.declared.findings.Findings.{Findings}
 use Rattle.dft_rules.specs.Refusals.{is_data_of}
 use Rattle.dft_netlist.specs.Connections.{input_net}
 use Rattle.dft_rules.specs.Rules.{is_kept}
-use Rattle.dft_netlist.specs.ClockTables.{AreClocks, clock_in}
-use Rattle.dft_netlist.specs.RootTables.{AreRoots, root_in}
+use Rattle.dft_behavior.specs.ClockTables.{AreClocks, clock_in}
+use Rattle.dft_behavior.specs.RootTables.{AreRoots, root_in}
 
 -- these are the nets that the names stand for
 abbrev pub AreNets : Netlist → (names : List Text) → List NetId → Type 0

@@ -2,7 +2,7 @@
 use Rattle.std.specs.Prelude.{ℕ, ◌≡◌, ◌↔◌, Bool, false, None, Some}
 use Rattle.dft_netlist.specs.Netlist.{Netlist}
 use Rattle.dft_netlist.specs.Drivers.{kind_at}
-use Rattle.dft_netlist.specs.Logic.{Cell, flip_flop}
+use Rattle.dft_behavior.specs.Logic.{Cell, flip_flop}
 use Rattle.dft_config.specs.Config.{Config}
 use Rattle.dft_rules.specs.ConfigPorts.{config_ports}
 use Rattle.dft_rules.specs.Rules.{judged, may_be_scanned, place_of_port}

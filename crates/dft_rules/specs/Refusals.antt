@@ -3,7 +3,9 @@ use Rattle.std.specs.Prelude.{ℕ, pos, ◌≡◌, ◌==◌, nat_lt, Bool, true,
 use Rattle.std.specs.List.{list_any, range_with_len}
 use Rattle.dft_base.specs.Lexing.{Text}
 use Rattle.dft_cells.specs.declared.kind.Kind.{Kind}
-use Rattle.dft_cells.specs.declared.kind.Kind.TheVariants.{Buf, Inv, Sdff, Sdffr, Sdffs, Lockup, Opaque}
+use Rattle.dft_cells.specs.declared.kind.Kind.TheVariants as kind
+use Rattle.dft_cells.specs.declared.kind.Gate.{Gate}
+use Rattle.dft_cells.specs.declared.kind.Gate.TheVariants.{Buf, Inv}
 use Rattle.dft_cells.specs.declared.kind.Role.{Role}
 use Rattle.dft_cells.specs.declared.kind.Role.TheVariants as role
 use Rattle.dft_cells.specs.declared.cell.Cell.{Cell}
@@ -42,10 +44,8 @@ first_failing (Some error ∷ checks) = Some error
 
 -- a scan cell or a lock-up; both have names
 abbrev pub present_as : Kind → (name : Option Text) → Option RuleError
-present_as Sdff (Some name) = Some (ScanCellPresent name)
-present_as Sdffr (Some name) = Some (ScanCellPresent name)
-present_as Sdffs (Some name) = Some (ScanCellPresent name)
-present_as Lockup (Some name) = Some (LockupPresent name)
+present_as (kind.Flop flop) (Some name) = if flop.scan then Some (ScanCellPresent name) else None
+present_as kind.Lockup (Some name) = Some (LockupPresent name)
 present_as _ _ = None
 
 abbrev pub present : List Cell → Instance → Option RuleError
@@ -69,11 +69,16 @@ takes_data role.Clock = false
 takes_data role.Output = false
 takes_data role.Inverted = false
 
--- a buffer or an inverter passes a clock on, and nothing is known of an opaque cell
+-- a buffer or an inverter passes a clock on
+abbrev pub uses_inputs : Gate → Bool
+uses_inputs Buf = false
+uses_inputs Inv = false
+uses_inputs _ = true
+
+-- whether a cell of this kind uses its inputs as data; nothing is known of an opaque cell
 abbrev pub uses_data : Kind → Bool
-uses_data Buf = false
-uses_data Inv = false
-uses_data Opaque = false
+uses_data (kind.Gate gate) = uses_inputs gate
+uses_data kind.Opaque = false
 uses_data _ = true
 
 abbrev pub is_joined_to : (net : ℕ) → Signal → Bool

@@ -4,7 +4,7 @@ use Rattle.std.specs.Prelude.{ℕ, ◌==◌, Bool, true, false, not, List, [], �
 use Rattle.std.specs.List.{list_any, range_with_len}
 use Rattle.dft_base.specs.Lexing.{Text}
 use Rattle.dft_cells.specs.declared.kind.Kind.{Kind}
-use Rattle.dft_cells.specs.declared.kind.Kind.TheVariants.{Dff, Dffr, Dffs}
+use Rattle.dft_cells.specs.declared.kind.Kind.TheVariants as kind
 use Rattle.dft_cells.specs.declared.kind.Role.TheVariants as role
 use Rattle.dft_cells.specs.declared.cell.Cell.{Cell}
 use Rattle.dft_cells.specs.declared.cell.CellId.{CellId}
@@ -14,11 +14,10 @@ use Rattle.dft_netlist.specs.declared.instance.CellRef.{CellRef}
 use Rattle.dft_netlist.specs.declared.instance.CellRef.TheVariants as cell_ref
 use Rattle.dft_netlist.specs.Netlist.{Netlist}
 use Rattle.dft_netlist.specs.Drivers.{Source, pins_of, kind_at}
-use Rattle.dft_netlist.specs.Logic.{pin_of}
-use Rattle.dft_netlist.specs.Connections.{input_net}
+use Rattle.dft_netlist.specs.Connections.{input_net, pin_of}
 use Rattle.dft_netlist.specs.Names.{find_instance}
-use Rattle.dft_netlist.specs.Traces.{Root, Port, Constant, Other, root_of}
-use Rattle.dft_netlist.specs.ClockRoots.{ClockRoot, clock_root_of}
+use Rattle.dft_behavior.specs.Traces.{Root, Port, Constant, Other, root_of}
+use Rattle.dft_behavior.specs.ClockRoots.{ClockRoot, clock_root_of}
 use Rattle.dft_config.specs.Config.{Config}
 use Rattle.dft_base.specs.declared.rule.Rule.{Rule}
 use Rattle.dft_base.specs.declared.rule.Rule.TheVariants.{S1, S2, S3, S4}
@@ -29,10 +28,10 @@ use Rattle.dft_rules.specs.declared.judged.Judged.TheVariants.{Scanned, Unscanne
 
 -- the flip-flops that are judged
 abbrev pub may_be_scanned : Kind → Bool
-may_be_scanned Dff = true
-may_be_scanned Dffr = true
-may_be_scanned Dffs = true
-may_be_scanned _ = false
+may_be_scanned (kind.Flop flop) = not flop.scan
+may_be_scanned (kind.Gate gate) = false
+may_be_scanned kind.Lockup = false
+may_be_scanned kind.Opaque = false
 
 -- the flip-flop with this name
 abbrev pub flip_flop_named : Netlist → (name : Text) → Option InstanceId

@@ -6,7 +6,7 @@ ghost use Rattle.dft_netlist.specs.Drivers.{shape_of};
 ghost use Rattle.dft_rules.specs.Refusals as refusals;
 ghost use Rattle.dft_rules.specs.Rules as rules;
 
-use dft_cells::{Cell, Kind, Role};
+use dft_cells::{Cell, Gate, Kind, Role};
 use dft_netlist::{CellRef, role_at};
 
 // Whether this pin takes what it is joined to as data.
@@ -36,12 +36,15 @@ pub fn has_scan_cell(cells: &[Cell], cell: CellRef) -> bool
 pub fn may_be_scanned(kind: Kind) -> bool
     ensures { result ≡ rules.may_be_scanned kind }
 {
-    matches!(kind, Kind::Dff | Kind::Dffr | Kind::Dffs)
+    match kind {
+        Kind::Flop(flop) => !flop.scan,
+        _ => false,
+    }
 }
 
 // Whether a cell of this kind uses its inputs as data.
 pub(crate) fn uses_data(kind: Kind) -> bool
     ensures { result ≡ refusals.uses_data kind }
 {
-    !matches!(kind, Kind::Buf | Kind::Inv | Kind::Opaque)
+    !matches!(kind, Kind::Gate(Gate::Buf | Gate::Inv) | Kind::Opaque)
 }

@@ -36,7 +36,7 @@ fn check_kind(alloc: Global, cells: &[Cell], instance: &Instance) -> Result<(), 
         None => return Ok(()),
     };
     match kind_of(cells, instance.cell) {
-        Kind::Sdff | Kind::Sdffr | Kind::Sdffs => Err(RuleError::ScanCellPresent {
+        Kind::Flop(flop) if flop.scan => Err(RuleError::ScanCellPresent {
             instance: name.copy(alloc)?,
         }),
         Kind::Lockup => Err(RuleError::LockupPresent {

@@ -4,7 +4,7 @@ ghost use Rattle.std.specs.Prelude.{◌≡◌, ◌≤◌, ◌<◌, ◌^◌, ◌|
 ghost use Rattle.std.specs.List.{list_any, range_with_len};
 ghost use Rattle.dft_netlist.specs.Drivers.{connections_of};
 ghost use Rattle.dft_netlist.specs.Sound.{IsInstance, IsLive};
-ghost use Rattle.dft_netlist.specs.ClockTables.{AreClocks};
+ghost use Rattle.dft_behavior.specs.ClockTables.{AreClocks};
 ghost use Rattle.dft_rules.specs.Findings.{AreNets, AreUsed, is_marked_clock};
 ghost use Rattle.dft_rules.specs.Refusals.{IsRefusal, clock_as_data, is_data_of, is_joined_to, takes};
 
@@ -12,8 +12,9 @@ use crate::cells::{takes_data, uses_data};
 use crate::error::RuleError;
 use crate::findings::clock_place;
 use dft_base::Name;
+use dft_behavior::ClockRoot;
 use dft_cells::Cell;
-use dft_netlist::{ClockRoot, Design, Instance, NetId, Signal, kind_of};
+use dft_netlist::{Design, Instance, NetId, Signal, kind_of};
 use std::alloc::{AllocError, Global};
 
 // Tests that no instance takes as data a net that shows the clock of one of these nets, which are the configured domains',

@@ -9,7 +9,8 @@ ghost use Rattle.dft_rules.specs.Rules as spec;
 use crate::cells::may_be_scanned;
 use crate::error::RuleError;
 use dft_base::Name;
-use dft_netlist::{ClockRoot, Design, InstanceId, NetId, Root, Signal, clock_in, root_in};
+use dft_behavior::{ClockRoot, Root, clock_in, root_in};
+use dft_netlist::{Design, InstanceId, NetId, Signal};
 use std::alloc::{AllocError, Global};
 
 // What is looked up once, before flip-flops are judged.

@@ -14,6 +14,7 @@ use crate::findings::{Findings, are_held, clock_at, input_nets, kept_cells};
 use crate::judged::Judged;
 use crate::verdicts::Verdicts;
 use dft_base::Rule;
+use dft_behavior::{find_clocks, find_roots};
 use dft_cells::Role;
 use dft_config::Config;
 use dft_netlist::{Design, kind_of, signal_of};
@@ -46,10 +47,10 @@ fn look_up(alloc: Global, design: &Design, config: &Config) -> Result<Findings, 
     let resets = input_nets(alloc, design, config.resets())?;
     let kept = kept_cells(alloc, design, config.keep())?;
     check_absent(alloc, design.library().cells(), design.instances())?;
-    let clocks = design.clocks(alloc)?;
+    let clocks = find_clocks(alloc, design)?;
     check_clocks(alloc, design, &domains, &clocks)?;
     check_ports(alloc, design.ports())?;
-    let roots = design.roots(alloc)?;
+    let roots = find_roots(alloc, design)?;
     Ok(Findings {
         domains,
         resets,

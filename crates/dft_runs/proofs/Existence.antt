@@ -1,9 +1,9 @@
 -- Runs exist: moment by moment there is one settled assignment.
 use Rattle.std.proofs.Common.{ℕ, ◌+◌, ◌==◌, List, [], ◌∷◌, ◌++◌, ◌≡◌, refl, ap, map, ◌∙◌, true, false}
 use Rattle.std.specs.Prelude.{if◌then◌else◌}
-use Rattle.dft_netlist.specs.Logic.{Logic, IsRanked}
-use Rattle.dft_netlist.specs.Runs.{State, Moment, Now, sources_of, IsNow, Event, Set, event_of, after_event, at_moment, Step, next_now, after, AreSteps, Vector, Edge, Turn, edge_step, times, IsOrder, IsTurn, after_turn, AreTurns}
-use Rattle.dft_netlist.proofs.OneSettled.{settled_one}
+use Rattle.dft_behavior.specs.Logic.{Logic, IsRanked}
+use Rattle.dft_behavior.specs.Runs.{State, Moment, Now, sources_of, IsNow, Event, Set, event_of, after_event, at_moment, Step, next_now, after, AreSteps, Vector, Edge, Turn, edge_step, times, IsOrder, IsTurn, after_turn, AreTurns}
+use Rattle.dft_behavior.proofs.OneSettled.{settled_one}
 use Rattle.dft_runs.specs.Choices.{SameEdges, SameChoice, SameChoices, AreOrders, ChoicesRun}
 
 -- the moment with these free bits in a state

@@ -3,7 +3,7 @@ use Rattle.std.proofs.Common.{ℕ, zero, suc, Bool, true, false, ◌+◌, ◌<�
 use Rattle.std.specs.Prelude.{◌≤◌, if◌then◌else◌}
 use Rattle.dft_base.proofs.NumberLemmas.{less_apart, more_apart, same_number}
 use Rattle.dft_netlist.proofs.LiveLemmas.{le_or_lt}
-use Rattle.dft_netlist.specs.Runs.{Moment, Vector, Edge, Turn, times, IsOrder}
+use Rattle.dft_behavior.specs.Runs.{Moment, Vector, Edge, Turn, times, IsOrder}
 use Rattle.dft_runs.specs.Choices.{OrdersExist, RunsExist}
 use Rattle.dft_runs.proofs.Existence.{choices_run}
 

@@ -1,7 +1,7 @@
 -- Rounds and turns pass on what is known, one and many.
 use Rattle.std.proofs.Common.{[], ◌∷◌, refl, ap}
 use Rattle.dft_base.specs.Tri.{known}
-use Rattle.dft_netlist.specs.Runs.{after_turn}
+use Rattle.dft_behavior.specs.Runs.{after_turn}
 use Rattle.dft_abstract.specs.Cycle.{after_round}
 use Rattle.dft_abstract.proofs.Halves.{closed_views, least_closed}
 use Rattle.dft_abstract.proofs.Lifts.{known_after_turn, known_at_strobe, low_after_turn}

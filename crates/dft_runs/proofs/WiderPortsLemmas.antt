@@ -10,9 +10,10 @@ use Rattle.dft_cells.specs.declared.kind.Kind.TheVariants as kind
 use Rattle.dft_netlist.specs.Netlist.{Netlist}
 use Rattle.dft_netlist.specs.Drivers.{Source, Driver, pins_of, kind_at, driver}
 use Rattle.dft_netlist.specs.Drivers as drivers
-use Rattle.dft_netlist.specs.Traces.{Root, Port, Constant, Other, root_of}
-use Rattle.dft_netlist.specs.ClockRoots.{ClockRoot, clock_root_of}
-use Rattle.dft_netlist.specs.Logic.{Ports, Cell, Scan, Force, Free, Clock, Input, domain_of, domain_at, force_of, forcing, modelled, modelled_of, flip_flop, flop_meaning, lockup_meaning, meaning_of, pin_of, or_loose, scan_of, locked, is_lockup, lock_up, stored, no_cell, cell_or_none}
+use Rattle.dft_behavior.specs.Traces.{Root, Port, Constant, Other, root_of}
+use Rattle.dft_behavior.specs.ClockRoots.{ClockRoot, clock_root_of}
+use Rattle.dft_netlist.specs.Connections.{pin_of}
+use Rattle.dft_behavior.specs.Logic.{Ports, Cell, Scan, Force, Free, Clock, Input, domain_of, domain_at, force_of, forcing, modelled, modelled_of, flip_flop, flop_meaning, lockup_meaning, meaning_of, or_loose, scan_of, locked, is_lockup, lock_up, stored, no_cell, cell_or_none}
 use Rattle.dft_runs.specs.WiderPorts.{Suits, PortsWiden}
 
 same_domain : (a b : Ports) → Suits a b → (r : Option ClockRoot) → domain_of b r ≡ domain_of a r
@@ -81,25 +82,9 @@ lock_up_same n a b suits i =
 -- an instance that is a lock-up is no flip-flop
 apart : (k : Kind) → (is_flip_flop k ≡ false) ⊎ (is_lockup k ≡ false)
 apart kind.Lockup = inl refl
+apart (kind.Gate gate) = inr refl
+apart (kind.Flop flop) = inr refl
 apart kind.Opaque = inr refl
-apart kind.Dff = inr refl
-apart kind.Dffr = inr refl
-apart kind.Dffs = inr refl
-apart kind.Sdff = inr refl
-apart kind.Sdffr = inr refl
-apart kind.Sdffs = inr refl
-apart kind.Buf = inr refl
-apart kind.Inv = inr refl
-apart kind.And = inr refl
-apart kind.Nand = inr refl
-apart kind.Or = inr refl
-apart kind.Nor = inr refl
-apart kind.Xor = inr refl
-apart kind.Xnor = inr refl
-apart kind.Mux2 = inr refl
-apart (kind.Table number) = inr refl
-apart kind.Tie0 = inr refl
-apart kind.Tie1 = inr refl
 
 none_if : (t : Bool) (o : Option Cell) → t ≡ false → (if t then o else None) ≡ None
 none_if t o is = ap (λ (b : Bool). if b then o else None) is

@@ -1,7 +1,7 @@
 -- What a run is free to choose: its start, the orders of the edges, and the free bits of every moment; every choice is that of a run.
 use Rattle.std.specs.Prelude.{ℕ, true, ◌<◌, ◌≡◌, List, [], ◌∷◌}
-use Rattle.dft_netlist.specs.Logic.{Logic, IsRanked}
-use Rattle.dft_netlist.specs.Runs.{Moment, Now, Vector, Edge, Turn, IsOrder, AreLow, IsRun}
+use Rattle.dft_behavior.specs.Logic.{Logic, IsRanked}
+use Rattle.dft_behavior.specs.Runs.{Moment, Now, Vector, Edge, Turn, IsOrder, AreLow, IsRun}
 
 -- two moments have the same free bits
 pub record SameFree (m k : Moment) : Type 0 where

@@ -2,9 +2,9 @@
 use Rattle.std.specs.Prelude.{ℕ, Bool, List, [], ◌∷◌, ◌≡◌}
 use Rattle.dft_base.specs.declared.tri.Tri.{Tri}
 use Rattle.dft_base.specs.Tri.{known}
-use Rattle.dft_netlist.specs.Logic.{Logic, IsRanked}
-use Rattle.dft_netlist.specs.Settled.{IsTriSettled}
-use Rattle.dft_netlist.specs.Runs.{Now, Vector, Turn, IsTurn, after_turn, AreTurns, AreLow}
+use Rattle.dft_behavior.specs.Logic.{Logic, IsRanked}
+use Rattle.dft_behavior.specs.Settled.{IsTriSettled}
+use Rattle.dft_behavior.specs.Runs.{Now, Vector, Turn, IsTurn, after_turn, AreTurns, AreLow}
 use Rattle.dft_abstract.specs.Cycle.{strobe_sources, Halves, AreHalves, after_halves, Round, IsRound, after_round}
 use Rattle.dft_abstract.specs.Laws.{bits, shown}
 

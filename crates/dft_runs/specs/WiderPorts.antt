@@ -1,7 +1,7 @@
 -- One netlist under two sets of ports: a pattern set makes every input that does not pulse a reset, a configuration only its resets.
 use Rattle.std.specs.Prelude.{ℕ, true, ◌≡◌, ◌⊎◌, Some}
 use Rattle.dft_netlist.specs.Netlist.{Netlist}
-use Rattle.dft_netlist.specs.Logic.{Logic, Ports, Cell, Free, flip_flop, no_cell, logic_of}
+use Rattle.dft_behavior.specs.Logic.{Logic, Ports, Cell, Free, flip_flop, no_cell, logic_of}
 
 -- the second set suits the first: it has the same clocks, and each reset of the first is one of its own
 pub record Suits (a b : Ports) : Type 0 where

@@ -1,7 +1,7 @@
 -- The report and the counts of four flip-flops on two clocks, worked by hand.
 use Rattle.std.proofs.Common.{◌≡◌, [], ◌∷◌, codes, refl}
 use Rattle.std.specs.Fmt as fmt
-use Rattle.dft_cells.specs.declared.kind.Kind.TheVariants.{Inv}
+use Rattle.dft_cells.specs.declared.kind.Gate.TheVariants.{Inv}
 use Rattle.dft_rules.proofs.WorkedEdges.{turned}
 use Rattle.dft_rules.proofs.WorkedRules.{example, example_config, two_clocks}
 use Rattle.dft_report.specs.Written.{header_line, chain_line, place_text, scanned_line, unscanned_line, lines_before_cubes, written}

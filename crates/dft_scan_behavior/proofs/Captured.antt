@@ -1,11 +1,11 @@
 -- One capture vector of a scanned netlist of style Edt.
 use Rattle.std.proofs.Common.{ℕ, ◌≡◌, true, Option, None, Some, is_some, slice_get, refl, sym, ◌∙◌}
 use Rattle.dft_netlist.specs.Drivers.{IsOrdered}
-use Rattle.dft_netlist.specs.Logic.{Logic, Ports, Cell, IsRanked, flip_flop, logic_of}
+use Rattle.dft_behavior.specs.Logic.{Logic, Ports, Cell, IsRanked, flip_flop, logic_of}
 use Rattle.dft_netlist.specs.Netlist.{Netlist}
 use Rattle.dft_netlist.proofs.RankLemmas.{order_ranks}
-use Rattle.dft_netlist.proofs.Ranks.{order_is_rank}
-use Rattle.dft_netlist.proofs.StoredLemmas.{flop_cell}
+use Rattle.dft_behavior.proofs.Ranks.{order_is_rank}
+use Rattle.dft_behavior.proofs.StoredLemmas.{flop_cell}
 use Rattle.dft_config.specs.Config.{Config}
 use Rattle.dft_runs.specs.WiderPorts.{Widens}
 use Rattle.dft_runs.proofs.WiderPortsLemmas.{ports_widen}

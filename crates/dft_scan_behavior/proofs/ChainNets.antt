@@ -5,11 +5,11 @@ use Rattle.std.specs.List.{range_with_len}
 use Rattle.std.proofs.lemmas.Bool.{eqb-true, eq-eqb}
 use Rattle.dft_base.proofs.ListLemmas.{get_range}
 use Rattle.dft_cells.specs.declared.cell.Cell.{Cell}
-use Rattle.dft_cells.specs.declared.kind.Kind.TheVariants.{Inv}
+use Rattle.dft_cells.specs.declared.kind.Gate.TheVariants.{Inv}
 use Rattle.dft_cells.specs.declared.kind.Role.TheVariants.{ScanIn}
 use Rattle.dft_netlist.specs.declared.ids.NetId.{NetId}
 use Rattle.dft_netlist.specs.declared.ids.InstanceId.{InstanceId}
-use Rattle.dft_netlist.specs.Logic.{same_role}
+use Rattle.dft_netlist.specs.Connections.{same_role}
 use Rattle.dft_netlist.specs.Netlist.{Netlist}
 use Rattle.dft_config.specs.Config.{Config}
 use Rattle.dft_stitch.specs.declared.places.LockupPlace.{LockupPlace}

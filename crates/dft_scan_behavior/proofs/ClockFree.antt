@@ -10,6 +10,8 @@ use Rattle.dft_base.proofs.BitLemmas.{not_itself, not_of}
 use Rattle.dft_base.proofs.OptionLemmas.{some_mapped}
 use Rattle.dft_cells.specs.declared.kind.Kind.{Kind}
 use Rattle.dft_cells.specs.declared.kind.Kind.TheVariants as kind
+use Rattle.dft_cells.specs.declared.kind.Gate.{Gate as GateKind}
+use Rattle.dft_cells.specs.declared.kind.Gate.TheVariants as gate
 use Rattle.dft_cells.specs.declared.kind.Role.{Role}
 use Rattle.dft_cells.specs.declared.kind.Role.TheVariants as role
 use Rattle.dft_cells.specs.FlipFlops.{is_flip_flop}
@@ -21,22 +23,21 @@ use Rattle.dft_netlist.specs.declared.instance.Join.{Join}
 use Rattle.dft_netlist.specs.declared.net_driver.NetDriver.{NetDriver}
 use Rattle.dft_netlist.specs.declared.net_driver.NetDriver.TheVariants.{Input as InputBit, Pin, Join as AJoin, Nothing}
 use Rattle.dft_netlist.specs.Netlist.{Netlist}
-use Rattle.dft_netlist.specs.Connections.{input_net}
+use Rattle.dft_netlist.specs.Connections.{input_net, same_role, pin_of}
 use Rattle.dft_netlist.specs.NetDrivers.{driver_at, is_inverted, joined_by, roles_at, Drives}
 use Rattle.dft_netlist.specs.Drivers.{Source, Net, Tied, Loose, Connection, driver, driver_of_kind, source_of, inputs_of, connections_from, connections_of, shape_of, kind_at, kind_of, pins_at, pins_of, nets_of, IsOrdered}
 use Rattle.dft_netlist.specs.Drivers as drivers
 use Rattle.dft_netlist.specs.Orders.{Has}
 use Rattle.dft_netlist.specs.Sound.{IsNetlist}
-use Rattle.dft_netlist.specs.ClockRoots.{ClockRoot, ClockRooted, ThroughGate, ThroughJoin, turn_of, turned, clock_root_of, clock_of_driver, clock_within}
-use Rattle.dft_netlist.specs.Logic.{Logic, Ports, Input, Clock, Gate, Joined, Cell, Force, Scan, same_role, pin_of, or_loose, flip_flop, flop_meaning, lockup_meaning, meaning_of, modelled, modelled_of, logic_of}
-use Rattle.dft_netlist.proofs.ClockLemmas.{turn_roles}
-use Rattle.dft_netlist.proofs.ClockWalks.{clock_found, walk_finds_clock}
-use Rattle.dft_netlist.proofs.GateDrivers.{IsGate, driven, gate_drives}
-use Rattle.dft_netlist.proofs.TraceLemmas.{pin_driver}
-use Rattle.dft_netlist.proofs.StoredLemmas.{flop_cell}
+use Rattle.dft_behavior.specs.ClockRoots.{ClockRoot, ClockRooted, ThroughGate, ThroughJoin, turn_of, turn_of_kind, turned, clock_root_of, clock_of_driver, clock_within}
+use Rattle.dft_behavior.specs.Logic.{Logic, Ports, Input, Clock, Gate, Joined, Cell, Force, Scan, or_loose, flip_flop, flop_meaning, lockup_meaning, meaning_of, modelled, modelled_of, logic_of}
+use Rattle.dft_behavior.proofs.ClockLemmas.{turn_roles}
+use Rattle.dft_behavior.proofs.ClockWalks.{clock_found, walk_finds_clock}
+use Rattle.dft_netlist.proofs.GateDrivers.{IsGate, driven, gate_drives, pin_driver}
+use Rattle.dft_behavior.proofs.StoredLemmas.{flop_cell}
 use Rattle.dft_config.specs.Config.{Config}
 use Rattle.dft_rules.specs.ConfigPorts.{config_ports}
-use Rattle.dft_rules.specs.Refusals.{refusal, takes_data, uses_data, takes, is_data_of}
+use Rattle.dft_rules.specs.Refusals.{refusal, takes_data, uses_data, uses_inputs, takes, is_data_of}
 use Rattle.dft_rules.specs.Rules.{is_net, place_of_port, place_of_clock, clock_of_source}
 use Rattle.dft_rules.proofs.ClockReads.{data_apart, gate_apart}
 use Rattle.dft_rules.proofs.ReadingLemmas.{joined_net}
@@ -76,7 +77,7 @@ clock_by n ports net (drivers.Lockup i) e = absurd (by_lockup _ _ e)
     by_lockup (Some d) s h = cc
 clock_by n ports net drivers.Free e = absurd cc
 
-gate_by : (n : Netlist) (ports : Ports) (net : ℕ) (k : Kind) (inputs : List Source) (d : drivers.Driver) → meaning_of n ports net d ≡ Gate k inputs → d ≡ drivers.Gate k inputs
+gate_by : (n : Netlist) (ports : Ports) (net : ℕ) (k : GateKind) (inputs : List Source) (d : drivers.Driver) → meaning_of n ports net d ≡ Gate k inputs → d ≡ drivers.Gate k inputs
 gate_by n ports net k inputs drivers.Input e = absurd (by_port (ports.is_clock net) e)
   where
     by_port : (b : Bool) → (if b then Clock else Input) ≡ Gate k inputs → ⊥
@@ -164,58 +165,15 @@ one_read i k (signal.Constant bit ∷ s ∷ pins) has = absurd has
 one_read i k (signal.Unconnected ∷ s ∷ pins) has = absurd has
 
 -- a gate passes a clock on, or takes no clock
-data_or_turn : (k : Kind) → (uses_data k ≡ true) ⊎ ((k ≡ kind.Opaque) ⊎ ((turns : Bool) × (turn_of k ≡ Some turns)))
-data_or_turn kind.Buf = inr (inr (false, refl))
-data_or_turn kind.Inv = inr (inr (true, refl))
-data_or_turn kind.Opaque = inr (inl refl)
+data_or_turn : (k : GateKind) → (uses_inputs k ≡ true) ⊎ ((turns : Bool) × (turn_of k ≡ Some turns))
+data_or_turn gate.Buf = inr (false, refl)
+data_or_turn gate.Inv = inr (true, refl)
 data_or_turn _ = inl refl
-
--- no gate is an opaque cell
-kind_opaque : (a : Kind) (i : ℕ) (inverted : Bool) (own inputs : List Source) → driver_of_kind a i inverted own ≡ drivers.Gate kind.Opaque inputs → ⊥
-kind_opaque kind.Opaque i inverted own inputs h = cc
-kind_opaque kind.Lockup i inverted own inputs h = cc
-kind_opaque kind.Dff i inverted own inputs h = cc
-kind_opaque kind.Dffr i inverted own inputs h = cc
-kind_opaque kind.Dffs i inverted own inputs h = cc
-kind_opaque kind.Sdff i inverted own inputs h = cc
-kind_opaque kind.Sdffr i inverted own inputs h = cc
-kind_opaque kind.Sdffs i inverted own inputs h = cc
-kind_opaque kind.Buf i inverted own inputs h = cc
-kind_opaque kind.Inv i inverted own inputs h = cc
-kind_opaque kind.And i inverted own inputs h = cc
-kind_opaque kind.Nand i inverted own inputs h = cc
-kind_opaque kind.Or i inverted own inputs h = cc
-kind_opaque kind.Nor i inverted own inputs h = cc
-kind_opaque kind.Xor i inverted own inputs h = cc
-kind_opaque kind.Xnor i inverted own inputs h = cc
-kind_opaque kind.Mux2 i inverted own inputs h = cc
-kind_opaque (kind.Table number) i inverted own inputs h = cc
-kind_opaque kind.Tie0 i inverted own inputs h = cc
-kind_opaque kind.Tie1 i inverted own inputs h = cc
-
-join_opaque : (o : Option Join) (inputs : List Source) → joined_by o ≡ drivers.Gate kind.Opaque inputs → ⊥
-join_opaque None inputs h = cc
-join_opaque (Some join) inputs h = cc
-
-opaque_gate : (n : Netlist) (net : ℕ) (inputs : List Source) → driver n net ≡ drivers.Gate kind.Opaque inputs → ⊥
-opaque_gate n net inputs is = by (driven n net).by (sym (driven n net).driver ∙ is) (driven n net).drives
-  where
-    by : (b : NetDriver) → driver_at n b ≡ drivers.Gate kind.Opaque inputs → (b ≡ Nothing) ⊎ Drives n b net → ⊥
-    by Nothing e d = cc
-    by InputBit e d = cc
-    by (AJoin j) e d = join_opaque (slice_get n.joins j) inputs e
-    by (Pin i p) e (inl none) = cc
-    by (Pin i p) e (inr d) = kind_opaque (shape_of n.library d.instance.cell).kind i.0 (is_inverted (slice_get (roles_at n i.0) p)) (inputs_of i.0 (connections_of n.library d.instance)) inputs (sym (pin_driver n i p d.instance d.at) ∙ e)
 
 -- ---- the data input of a flip-flop
 
 flop_data : (k : Kind) → is_flip_flop k ≡ true → uses_data k ≡ true
-flop_data kind.Dff is = refl
-flop_data kind.Dffr is = refl
-flop_data kind.Dffs is = refl
-flop_data kind.Sdff is = refl
-flop_data kind.Sdffr is = refl
-flop_data kind.Sdffs is = refl
+flop_data (kind.Flop flop) is = refl
 flop_data _ is = absurd cc
 
 same_data : (r : Role) → same_role role.Din r ≡ true → takes_data r ≡ true
@@ -252,25 +210,22 @@ module _ (n : Netlist) (config : Config) (rank : ℕ → ℕ) (order : IsOrdered
 
   -- ---- gates and joins
 
-  turn_reads : (net k : ℕ) (a : Kind) (turns : Bool) (inputs : List Source) → driver n net ≡ drivers.Gate a inputs → turn_of a ≡ Some turns → Has (nets_of inputs) k → shows n config k ≡ true → shows n config net ≡ true
+  turn_reads : (net k : ℕ) (a : GateKind) (turns : Bool) (inputs : List Source) → driver n net ≡ drivers.Gate a inputs → turn_of a ≡ Some turns → Has (nets_of inputs) k → shows n config k ≡ true → shows n config net ≡ true
   turn_reads net k a turns inputs is turn has =
       let gate : IsGate n a inputs = gate_drives n net a inputs is in
       let x : Instance = gate.instance in
-      let roles : (shape_of n.library x.cell).roles ≡ role.Input ∷ role.Output ∷ [] = turn_roles n.library library (length n.nets) x.name x.cell x.pins turns (sound.instances gate.number x gate.at) (ap turn_of gate.kind ∙ turn) in
+      let roles : (shape_of n.library x.cell).roles ≡ role.Input ∷ role.Output ∷ [] = turn_roles n.library library (length n.nets) x.name x.cell x.pins turns (sound.instances gate.number x gate.at) (ap turn_of_kind gate.kind ∙ turn) in
       let own : inputs_of gate.number (connections_from 0 (role.Input ∷ role.Output ∷ []) x.pins) ≡ inputs = ap (λ (rs : List Role). inputs_of gate.number (connections_from 0 rs x.pins)) (sym roles) ∙ gate.reads in
       let one : inputs ≡ Net k ∷ [] = sym own ∙ one_read gate.number k x.pins (subst (λ (s : List Source). Has (nets_of s) k) (sym own) has) in
       passed_on n config rank net k (turned turns) order (λ port inverted rooted. ThroughGate {kind = a} {source = Net k} {turns = turns} (is ∙ ap (λ (s : List Source). drivers.Gate a s) one) turn rooted)
 
-  read_clear : (net k : ℕ) (a : Kind) (inputs : List Source) → is_clear n config net ≡ true → driver n net ≡ drivers.Gate a inputs → Has (nets_of inputs) k → is_clear n config k ≡ true
+  read_clear : (net k : ℕ) (a : GateKind) (inputs : List Source) → is_clear n config net ≡ true → driver n net ≡ drivers.Gate a inputs → Has (nets_of inputs) k → is_clear n config k ≡ true
   read_clear net k a inputs clear is has = elim (data_or_turn a) [
     | inl uses ↦ not_from_false (shows n config k) (gate_apart n config net k a inputs sound passed is uses has)
-    | inr other ↦ elim other [
-      | inl opaque ↦ absurd (opaque_gate n net inputs (is ∙ ap (λ (b : Kind). drivers.Gate b inputs) opaque))
-      | inr turn ↦ not_of (shows n config k) (λ here. not_itself (shows n config net) clear (turn_reads net k a turn.0 inputs is turn.1 has here))
-    ]
+    | inr turn ↦ not_of (shows n config k) (λ here. not_itself (shows n config net) clear (turn_reads net k a turn.0 inputs is turn.1 has here))
   ]
 
-  gates_clear : (net : ℕ) (a : Kind) (inputs : List Source) → is_clear n config net ≡ true → l.net net ≡ Gate a inputs → AllIn (is_clear n config) (nets_of inputs)
+  gates_clear : (net : ℕ) (a : GateKind) (inputs : List Source) → is_clear n config net ≡ true → l.net net ≡ Gate a inputs → AllIn (is_clear n config) (nets_of inputs)
   gates_clear net a inputs clear is = all_by (is_clear n config) (nets_of inputs) (λ k has. read_clear net k a inputs clear (gate_by n ports net a inputs (driver n net) is) has)
 
   source_clear : (net : ℕ) (source : Source) → is_clear n config net ≡ true → driver n net ≡ drivers.Joined source → AllIn (is_clear n config) (nets_of (source ∷ []))

@@ -8,8 +8,8 @@ use Rattle.dft_netlist.specs.Netlist.{Netlist}
 use Rattle.dft_netlist.specs.Connections.{input_net}
 use Rattle.dft_netlist.specs.Drivers.{Source}
 use Rattle.dft_netlist.specs.Sound.{bits_of}
-use Rattle.dft_netlist.specs.Traces.{Root, Port, Constant, Other, root_of}
-use Rattle.dft_netlist.specs.Logic.{Force, force_of, forcing}
+use Rattle.dft_behavior.specs.Traces.{Root, Port, Constant, Other, root_of}
+use Rattle.dft_behavior.specs.Logic.{Force, force_of, forcing}
 use Rattle.dft_config.specs.Config.{Config}
 use Rattle.dft_scan_frame.specs.ConfigPorts.{config_ports}
 use Rattle.dft_rules.specs.Rules.{is_net, is_held, are_held}

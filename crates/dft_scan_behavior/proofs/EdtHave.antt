@@ -6,7 +6,7 @@ use Rattle.dft_netlist.specs.declared.ids.NetId.{NetId}
 use Rattle.dft_netlist.specs.declared.ids.InstanceId.{InstanceId}
 use Rattle.dft_netlist.specs.Netlist.{Netlist}
 use Rattle.dft_netlist.specs.Drivers.{Source, Net}
-use Rattle.dft_netlist.specs.Logic.{Logic, Input, logic_of}
+use Rattle.dft_behavior.specs.Logic.{Logic, Input, logic_of}
 use Rattle.dft_config.specs.Config.{Config}
 use Rattle.dft_rules.specs.Rules.{judgements}
 use Rattle.dft_stitch.specs.Chains.{cells_of, plan_of}

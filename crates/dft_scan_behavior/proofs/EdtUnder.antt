@@ -1,6 +1,6 @@
 -- The hardware under all ports that suit, and a rank of its nets.
 use Rattle.std.proofs.Common.{ℕ}
-use Rattle.dft_netlist.specs.Logic.{Ports, IsRanked}
+use Rattle.dft_behavior.specs.Logic.{Ports, IsRanked}
 use Rattle.dft_netlist.specs.Netlist.{Netlist}
 use Rattle.dft_config.specs.Config.{Config}
 use Rattle.dft_runs.proofs.WiderPortsLemmas.{ports_widen}

@@ -4,8 +4,9 @@ use Rattle.std.proofs.Common.{ℕ, zero, suc, ◌+◌, ◌≡◌, Bool, true, fa
 use Rattle.std.specs.Prelude.{if◌then◌else◌}
 use Rattle.std.specs.List.{range_with_len}
 use Rattle.std.proofs.lemmas.List.{append-nil}
-use Rattle.dft_cells.specs.declared.kind.Kind.{Kind}
-use Rattle.dft_cells.specs.declared.kind.Kind.TheVariants.{Xor}
+use Rattle.dft_cells.specs.declared.kind.Kind.TheVariants as cell_kind
+use Rattle.dft_cells.specs.declared.kind.Gate.{Gate}
+use Rattle.dft_cells.specs.declared.kind.Gate.TheVariants.{Xor}
 use Rattle.dft_cells.specs.declared.cell.Cell.{Cell}
 use Rattle.dft_cells.specs.FlipFlops.{is_flip_flop}
 use Rattle.dft_cells.specs.WellFormed.{IsWellFormed}
@@ -96,10 +97,10 @@ quiet_collect library f (x ∷ xs) h at i same =
 pub quiet_net : (library : List Cell) → Quiet library a_net
 quiet_net library at i same = refl
 
-pub quiet_gate : (library : List Cell) (kind : Kind) (inputs : List NetId) (output : NetId) → is_flip_flop kind ≡ false → Quiet library (a_gate kind inputs output)
+pub quiet_gate : (library : List Cell) (kind : Gate) (inputs : List NetId) (output : NetId) → is_flip_flop (cell_kind.Gate kind) ≡ false → Quiet library (a_gate kind inputs output)
 quiet_gate library kind inputs output plain at i same = ap (λ b. if b then i ∷ [] else []) plain
 
-pub quiet_driving : (library : List Cell) (kind : Kind) (inputs : List NetId) → is_flip_flop kind ≡ false → Quiet library (a_driving_gate kind inputs)
+pub quiet_driving : (library : List Cell) (kind : Gate) (inputs : List NetId) → is_flip_flop (cell_kind.Gate kind) ≡ false → Quiet library (a_driving_gate kind inputs)
 unfolding a_driving_gate
 quiet_driving library kind inputs plain at i same = ap (λ b. if b then i ∷ [] else []) plain
 

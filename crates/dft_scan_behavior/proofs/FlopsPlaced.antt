@@ -4,7 +4,7 @@ use Rattle.std.specs.Prelude.{if◌then◌else◌}
 use Rattle.std.specs.List.{range_with_len}
 use Rattle.std.proofs.lemmas.List.{append-nil, length-append, map-append}
 use Rattle.dft_base.proofs.ListLemmas.{range_last}
-use Rattle.dft_cells.specs.declared.kind.Kind.TheVariants.{Buf, Inv, And}
+use Rattle.dft_cells.specs.declared.kind.Gate.TheVariants.{Buf, Inv, And}
 use Rattle.dft_cells.specs.declared.kind.Role.TheVariants.{Output}
 use Rattle.dft_cells.specs.declared.cell.Cell.{Cell}
 use Rattle.dft_cells.specs.FlipFlops.{is_flip_flop}

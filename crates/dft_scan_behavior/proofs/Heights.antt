@@ -2,10 +2,10 @@
 use Rattle.std.proofs.Common.{ℕ, suc, ◌≡◌, ◌≤◌, inl, inr, List, [], ◌∷◌, max, refl, ap, arith, ◌∙◌}
 use Rattle.dft_netlist.specs.Netlist.{Netlist}
 use Rattle.dft_netlist.specs.Drivers.{driver, AreBelow}
-use Rattle.dft_netlist.specs.Logic.{Ports, logic_of, IsRanked}
+use Rattle.dft_behavior.specs.Logic.{Ports, logic_of, IsRanked}
 use Rattle.dft_netlist.specs.Orders.{Has, reads_of, IsOrderable, Follows}
-use Rattle.dft_netlist.proofs.StoredLemmas.{lockup_stored}
-use Rattle.dft_netlist.proofs.Ranks.{meaning_below}
+use Rattle.dft_behavior.proofs.StoredLemmas.{lockup_stored}
+use Rattle.dft_behavior.proofs.Ranks.{meaning_below}
 
 -- ---- heights
 

@@ -5,7 +5,7 @@ use Rattle.std.proofs.lemmas.List.FromFn.{get_or-map-range_with_len}
 use Rattle.std.proofs.lemmas.Option.{none-some, same_Some, slice_get_within, get_or_from_slice_get}
 use Rattle.dft_base.specs.Lexing.{Text}
 use Rattle.dft_cells.specs.declared.cell.Cell as library_cells
-use Rattle.dft_cells.specs.declared.kind.Kind.TheVariants.{Inv}
+use Rattle.dft_cells.specs.declared.kind.Gate.TheVariants.{Inv}
 use Rattle.dft_cells.specs.WellFormed.{IsWellFormed}
 use Rattle.dft_netlist.specs.declared.ids.NetId.{NetId}
 use Rattle.dft_netlist.specs.declared.ids.InstanceId.{InstanceId}
@@ -15,8 +15,8 @@ use Rattle.dft_netlist.specs.declared.instance.Instance.{Instance}
 use Rattle.dft_netlist.specs.Netlist.{Netlist}
 use Rattle.dft_netlist.specs.Connections.{input_net}
 use Rattle.dft_netlist.specs.Drivers.{Net, driver}
-use Rattle.dft_netlist.specs.Logic.{Cell, Ports, Lockup, logic_of}
-use Rattle.dft_netlist.proofs.ClockWalks.{clock_driven, clock_found}
+use Rattle.dft_behavior.specs.Logic.{Cell, Ports, Lockup, logic_of}
+use Rattle.dft_behavior.proofs.ClockWalks.{clock_driven, clock_found}
 use Rattle.dft_config.specs.Config.{Config}
 use Rattle.dft_rules.specs.declared.judged.Judged.{Judged}
 use Rattle.dft_rules.specs.declared.judged.Judged.TheVariants.{Scanned}

@@ -12,7 +12,8 @@ use Rattle.dft_netlist.specs.declared.instance.Instance.{Instance}
 use Rattle.dft_netlist.specs.Netlist.{Netlist}
 use Rattle.dft_netlist.specs.Sound.{NoConstantOutput}
 use Rattle.dft_netlist.specs.Drivers.{connections_from, pins_at, shape_of}
-use Rattle.dft_netlist.specs.Logic.{Flop, same_role, pin_of, flop_meaning, meaning_of, logic_of}
+use Rattle.dft_netlist.specs.Connections.{same_role, pin_of}
+use Rattle.dft_behavior.specs.Logic.{Flop, flop_meaning, meaning_of, logic_of}
 use Rattle.dft_config.specs.Config.{Config}
 use Rattle.dft_stitch.specs.Chains.{plan_of}
 use Rattle.dft_stitch.specs.Plans.{cell_at}

@@ -2,7 +2,7 @@
 use Rattle.std.proofs.Common.{◌+◌, ◌++◌, length, map, sym, subst}
 use Rattle.dft_cells.specs.WellFormed.{IsWellFormed}
 use Rattle.dft_netlist.specs.Netlist.{Netlist}
-use Rattle.dft_netlist.specs.Logic.{Ports, logic_of}
+use Rattle.dft_behavior.specs.Logic.{Ports, logic_of}
 use Rattle.dft_config.specs.Config.{Config}
 use Rattle.dft_parts.specs.Growth.{HasParts, instances_in}
 use Rattle.dft_parts.specs.Standing.{IsClockNet}

@@ -12,8 +12,8 @@ use Rattle.dft_netlist.specs.declared.ids.NetId.{NetId}
 use Rattle.dft_netlist.specs.Drivers as drivers
 use Rattle.dft_netlist.specs.Drivers.{Driven, driven_by_bits, driven_by_ports, driven_by_instances, driven_by_joins, driver_in, driver}
 use Rattle.dft_netlist.specs.Connections.{is_input, input_net}
-use Rattle.dft_netlist.specs.Logic as logic
-use Rattle.dft_netlist.specs.Logic.{meaning_of, logic_of}
+use Rattle.dft_behavior.specs.Logic as logic
+use Rattle.dft_behavior.specs.Logic.{meaning_of, logic_of}
 use Rattle.dft_netlist.specs.Names.{find_net}
 use Rattle.dft_netlist.specs.Netlist.{Netlist}
 use Rattle.dft_netlist.specs.Sound.{bits_of}

@@ -1,7 +1,7 @@
 -- Loads and unloads of a scanned netlist of style Edt.
 use Rattle.std.proofs.Common.{ℕ, Bool, sym, subst}
 use Rattle.dft_base.specs.declared.tri.Tri.{Tri}
-use Rattle.dft_netlist.specs.Logic.{Logic, Ports}
+use Rattle.dft_behavior.specs.Logic.{Logic, Ports}
 use Rattle.dft_netlist.specs.Netlist.{Netlist}
 use Rattle.dft_config.specs.Config.{Config}
 use Rattle.dft_runs.specs.Passes.{Passes, ArePasses, end_of, pass_of_round, passes_of_rounds, after_rounds}

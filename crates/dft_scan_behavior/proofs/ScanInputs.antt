@@ -9,7 +9,8 @@ use Rattle.dft_netlist.specs.declared.ids.NetId.{NetId}
 use Rattle.dft_netlist.specs.declared.ids.InstanceId.{InstanceId}
 use Rattle.dft_netlist.specs.declared.instance.Signal.TheVariants as signal
 use Rattle.dft_netlist.specs.Drivers.{Net}
-use Rattle.dft_netlist.specs.Logic.{Logic, Lockup, same_role, logic_of}
+use Rattle.dft_netlist.specs.Connections.{same_role}
+use Rattle.dft_behavior.specs.Logic.{Logic, Lockup, logic_of}
 use Rattle.dft_netlist.specs.Netlist.{Netlist}
 use Rattle.dft_config.specs.Config.{Config}
 use Rattle.dft_rules.specs.Rules.{judgements}

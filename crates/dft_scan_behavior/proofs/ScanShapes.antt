@@ -12,7 +12,7 @@ use Rattle.dft_netlist.specs.declared.ids.NetId.{NetId}
 use Rattle.dft_netlist.specs.declared.instance.Signal.{Signal}
 use Rattle.dft_netlist.specs.declared.instance.Signal.TheVariants as signal
 use Rattle.dft_netlist.specs.Drivers.{Source, Driver, Driven, Flop, connections_from, source_of, at_role, driven_by_pins, driver_of_kind}
-use Rattle.dft_netlist.specs.Logic.{same_role, pin_of}
+use Rattle.dft_netlist.specs.Connections.{same_role, pin_of}
 use Rattle.dft_scan_frame.specs.Pins.{number_of}
 use Rattle.dft_scan_frame.proofs.ScanPairs.{ScanPair, Plain, PlainBoth, Resets, ResetsBoth, Sets, SetsBoth}
 use Rattle.dft_insert.specs.Frame.{framed_pins}
@@ -102,26 +102,10 @@ pin_none r i first j (x ∷ roles) (t ∷ pins) is at = none_by r i first roles 
 -- ---- an output drives its net
 
 pub flop_drives : (k : Kind) (i : ℕ) (inverted : Bool) (ins : List Source) → is_flip_flop k ≡ true → driver_of_kind k i inverted ins ≡ Flop i inverted
-flop_drives kind.Dff i inverted ins e = refl
-flop_drives kind.Dffr i inverted ins e = refl
-flop_drives kind.Dffs i inverted ins e = refl
-flop_drives kind.Sdff i inverted ins e = refl
-flop_drives kind.Sdffr i inverted ins e = refl
-flop_drives kind.Sdffs i inverted ins e = refl
+flop_drives (kind.Flop flop) i inverted ins e = refl
+flop_drives (kind.Gate gate) i inverted ins e = absurd cc
 flop_drives kind.Lockup i inverted ins e = absurd cc
 flop_drives kind.Opaque i inverted ins e = absurd cc
-flop_drives kind.Buf i inverted ins e = absurd cc
-flop_drives kind.Inv i inverted ins e = absurd cc
-flop_drives kind.And i inverted ins e = absurd cc
-flop_drives kind.Nand i inverted ins e = absurd cc
-flop_drives kind.Or i inverted ins e = absurd cc
-flop_drives kind.Nor i inverted ins e = absurd cc
-flop_drives kind.Xor i inverted ins e = absurd cc
-flop_drives kind.Xnor i inverted ins e = absurd cc
-flop_drives kind.Mux2 i inverted ins e = absurd cc
-flop_drives (kind.Table number) i inverted ins e = absurd cc
-flop_drives kind.Tie0 i inverted ins e = absurd cc
-flop_drives kind.Tie1 i inverted ins e = absurd cc
 
 -- an output is listed with its net
 abbrev pub Lists : List Driven → Driven → Type 0

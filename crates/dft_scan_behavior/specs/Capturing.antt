@@ -3,10 +3,10 @@
 use Rattle.std.specs.Prelude.{ℕ, ◌<◌, ◌≡◌, true, false}
 use Rattle.dft_base.specs.declared.tri.Tri.{Tri}
 use Rattle.dft_base.specs.Tri.{AboveTri}
-use Rattle.dft_netlist.specs.Logic.{Logic, Ports, logic_of}
+use Rattle.dft_behavior.specs.Logic.{Logic, Ports, logic_of}
 use Rattle.dft_netlist.specs.Netlist.{Netlist}
-use Rattle.dft_netlist.specs.Runs.{Vector}
-use Rattle.dft_netlist.specs.Settled.{IsTriSettled}
+use Rattle.dft_behavior.specs.Runs.{Vector}
+use Rattle.dft_behavior.specs.Settled.{IsTriSettled}
 use Rattle.dft_abstract.specs.Cycle.{rise_of, strobe_sources, Halves, AreHalves, after_halves}
 use Rattle.dft_config.specs.Config.{Config}
 use Rattle.dft_edt.specs.Captures.{StandsOver, IsCapture, IsCaptured, after_edge}

@@ -4,10 +4,10 @@ use Rattle.dft_base.specs.declared.tri.Tri.{Tri}
 use Rattle.dft_base.specs.declared.tri.Tri.TheVariants.{Zero, One}
 use Rattle.dft_base.specs.Tri.{known}
 use Rattle.dft_netlist.specs.declared.ids.InstanceId.{InstanceId}
-use Rattle.dft_netlist.specs.Logic.{Logic, Ports, logic_of}
+use Rattle.dft_behavior.specs.Logic.{Logic, Ports, logic_of}
 use Rattle.dft_netlist.specs.Netlist.{Netlist}
-use Rattle.dft_netlist.specs.Settled.{IsTriSettled}
-use Rattle.dft_netlist.specs.Runs.{Now, Vector, Turn, IsTurn, after_turn, AreLow}
+use Rattle.dft_behavior.specs.Settled.{IsTriSettled}
+use Rattle.dft_behavior.specs.Runs.{Now, Vector, Turn, IsTurn, after_turn, AreLow}
 use Rattle.dft_abstract.specs.Cycle.{rise_of, strobe_sources, Halves, AreHalves, after_halves}
 use Rattle.dft_abstract.specs.Laws.{shown}
 use Rattle.dft_config.specs.Config.{Config}

@@ -6,7 +6,8 @@ use Rattle.dft_cells.specs.declared.kind.Role.TheVariants.{ScanIn}
 use Rattle.dft_netlist.specs.declared.ids.NetId.{NetId}
 use Rattle.dft_netlist.specs.declared.ids.InstanceId.{InstanceId}
 use Rattle.dft_netlist.specs.Drivers.{Source, Loose, pins_of}
-use Rattle.dft_netlist.specs.Logic.{logic_of, or_loose, pin_of}
+use Rattle.dft_netlist.specs.Connections.{pin_of}
+use Rattle.dft_behavior.specs.Logic.{logic_of, or_loose}
 use Rattle.dft_netlist.specs.Netlist.{Netlist}
 use Rattle.dft_config.specs.Config.{Config}
 use Rattle.dft_stitch.specs.Chains.{plan_of}

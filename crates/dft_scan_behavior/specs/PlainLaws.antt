@@ -1,9 +1,9 @@
 -- What shift vectors do to a scanned netlist of style Plain.
 use Rattle.std.specs.Prelude.{ℕ, suc, ◌≡◌, List, None, Some}
 use Rattle.dft_netlist.specs.declared.ids.InstanceId.{InstanceId}
-use Rattle.dft_netlist.specs.Logic.{Logic, logic_of}
+use Rattle.dft_behavior.specs.Logic.{Logic, logic_of}
 use Rattle.dft_netlist.specs.Netlist.{Netlist}
-use Rattle.dft_netlist.specs.Runs.{Now, Vector, Turn, IsTurn, AreTurns, IsRun}
+use Rattle.dft_behavior.specs.Runs.{Now, Vector, Turn, IsTurn, AreTurns, IsRun}
 use Rattle.dft_abstract.specs.Laws.{shown}
 use Rattle.dft_config.specs.Config.{Config}
 use Rattle.dft_stitch.specs.Chains.{plan_of}

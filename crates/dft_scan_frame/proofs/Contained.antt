@@ -9,9 +9,10 @@ use Rattle.dft_netlist.specs.declared.instance.Signal.TheVariants as signal
 use Rattle.dft_netlist.specs.Netlist.{Netlist}
 use Rattle.dft_netlist.specs.Sound.{IsLive, AreLive}
 use Rattle.dft_netlist.specs.Drivers.{Source, Connection, connections_from, source_of}
-use Rattle.dft_netlist.specs.Traces.{Root, Port, Constant, Other, root_of}
-use Rattle.dft_netlist.specs.ClockRoots.{ClockRoot, clock_root_of}
-use Rattle.dft_netlist.specs.Logic.{Ports, Force, Scan, Cell, same_role, pin_of, or_loose, domain_of, domain_at, force_of, forcing, scan_of, modelled, modelled_of}
+use Rattle.dft_behavior.specs.Traces.{Root, Port, Constant, Other, root_of}
+use Rattle.dft_behavior.specs.ClockRoots.{ClockRoot, clock_root_of}
+use Rattle.dft_netlist.specs.Connections.{same_role, pin_of}
+use Rattle.dft_behavior.specs.Logic.{Ports, Force, Scan, Cell, or_loose, domain_of, domain_at, force_of, forcing, scan_of, modelled, modelled_of}
 use Rattle.dft_scan_frame.specs.Moves.{Gap, moved, moved_signal}
 use Rattle.dft_chains.specs.ScanOff.{moved_source, moved_force, IsWithin, IsForceWithin, IsEnabledBy, Places, KeepsFlop}
 use Rattle.dft_scan_frame.proofs.MovedRoots.{moved_root}

@@ -1,5 +1,5 @@
 -- A scanned netlist contains its design.
-use Rattle.std.proofs.Common.{ℕ, zero, suc, ◌≡◌, ◌<◌, inl, inr, Bool, true, false, option_and_then, List, ◌∷◌, length, map, Option, None, Some, is_some, slice_get, refl, sym, subst, ap, ◌∙◌, []}
+use Rattle.std.proofs.Common.{ℕ, zero, suc, ◌≡◌, ◌<◌, inl, inr, Bool, true, false, option_and_then, List, ◌∷◌, length, map, Option, None, Some, is_some, slice_get, refl, sym, subst, ap, ◌∙◌, [], not, ◌++◌}
 use Rattle.std.specs.Prelude.{if◌then◌else◌}
 use Rattle.std.specs.List.{list_any}
 use Rattle.std.proofs.lemmas.Bool.{or_from}
@@ -7,11 +7,13 @@ use Rattle.dft_base.specs.Lexing.{Text}
 use Rattle.dft_base.proofs.NumberLemmas.{less_apart}
 use Rattle.dft_cells.specs.declared.kind.Kind.{Kind}
 use Rattle.dft_cells.specs.declared.kind.Kind.TheVariants as kind
+use Rattle.dft_cells.specs.declared.kind.Forcing.{Forcing}
+use Rattle.dft_cells.specs.declared.kind.Forcing.TheVariants as force
 use Rattle.dft_cells.specs.declared.kind.Role.{Role}
 use Rattle.dft_cells.specs.declared.kind.Role.TheVariants as role
 use Rattle.dft_cells.specs.declared.cell.Cell as library_cells
 use Rattle.dft_cells.specs.FlipFlops.{is_flip_flop}
-use Rattle.dft_cells.specs.WellFormed.{IsWellFormed, HasRoles, role_of}
+use Rattle.dft_cells.specs.WellFormed.{IsWellFormed, HasRoles, front_roles, role_of}
 use Rattle.dft_netlist.specs.declared.ids.NetId.{NetId}
 use Rattle.dft_netlist.specs.declared.instance.Signal.{Signal}
 use Rattle.dft_netlist.specs.declared.instance.CellRef.{CellRef}
@@ -21,12 +23,12 @@ use Rattle.dft_netlist.specs.Netlist.{Netlist}
 use Rattle.dft_netlist.specs.Sound.{bits_of}
 use Rattle.dft_netlist.specs.Drivers.{Source, Connection, connections_from, shape_of, shape_of_cell, gate_roles, kind_of, pins_at, AreBelow, driver}
 use Rattle.dft_netlist.specs.Drivers as drivers
-use Rattle.dft_netlist.specs.Logic.{Ports, Meaning, Cell, same_role, pin_of, modelled_of, flip_flop, cell_or_none, flop_meaning, meaning_of, reads}
-use Rattle.dft_netlist.specs.Logic as logic
+use Rattle.dft_behavior.specs.Logic.{Ports, Meaning, Cell, modelled_of, flip_flop, cell_or_none, flop_meaning, meaning_of, reads}
+use Rattle.dft_behavior.specs.Logic as logic
 use Rattle.dft_netlist.specs.Names.{find_net}
 use Rattle.dft_config.specs.Config.{Config}
-use Rattle.dft_netlist.specs.Connections.{is_input, input_net}
-use Rattle.dft_netlist.proofs.SettledLemmas.{no_flop}
+use Rattle.dft_netlist.specs.Connections.{is_input, input_net, same_role, pin_of}
+use Rattle.dft_behavior.proofs.SettledLemmas.{no_flop}
 use Rattle.dft_rules.specs.Rules.{is_net}
 use Rattle.dft_chains.specs.ScanOff.{moved_meaning, Places, KeepsFlop}
 use Rattle.dft_scan_frame.specs.ConfigPorts.{config_ports}
@@ -56,36 +58,23 @@ gate_no_role : (inputs : ℕ) → NoRole role.ScanEnable (gate_roles inputs)
 gate_no_role zero = (refl, tt)
 gate_no_role (suc inputs) = (refl, gate_no_role inputs)
 
+front_no_role : (its : Forcing) (rest : List Role) → NoRole role.ScanEnable rest → NoRole role.ScanEnable (front_roles (record { force = its; scan = false }) ++ rest)
+front_no_role force.Nothing rest h = (refl, (refl, h))
+front_no_role force.Reset rest h = (refl, (refl, (refl, h)))
+front_no_role force.Set rest h = (refl, (refl, (refl, h)))
+
+plain_no_role : (its : Forcing) (scan : Bool) (roles : List Role) → not scan ≡ true → HasRoles (kind.Flop (record { force = its; scan = scan })) roles → NoRole role.ScanEnable roles
+plain_no_role its true roles a has = absurd cc
+plain_no_role its false roles a has = elim has [
+  | inl e ↦ subst (NoRole role.ScanEnable) (sym e) (front_no_role its (role.Output ∷ []) (refl, tt))
+  | inr e ↦ subst (NoRole role.ScanEnable) (sym e) (front_no_role its (role.Output ∷ role.Inverted ∷ []) (refl, (refl, tt)))
+]
+
 flop_no_role : (k : Kind) (roles : List Role) → is_plain k ≡ true → is_flip_flop k ≡ true → HasRoles k roles → NoRole role.ScanEnable roles
-flop_no_role kind.Dff roles a b has = elim has [
-  | inl e ↦ subst (NoRole role.ScanEnable) (sym e) (refl, (refl, (refl, tt)))
-  | inr e ↦ subst (NoRole role.ScanEnable) (sym e) (refl, (refl, (refl, (refl, tt))))
-]
-flop_no_role kind.Dffr roles a b has = elim has [
-  | inl e ↦ subst (NoRole role.ScanEnable) (sym e) (refl, (refl, (refl, (refl, tt))))
-  | inr e ↦ subst (NoRole role.ScanEnable) (sym e) (refl, (refl, (refl, (refl, (refl, tt)))))
-]
-flop_no_role kind.Dffs roles a b has = elim has [
-  | inl e ↦ subst (NoRole role.ScanEnable) (sym e) (refl, (refl, (refl, (refl, tt))))
-  | inr e ↦ subst (NoRole role.ScanEnable) (sym e) (refl, (refl, (refl, (refl, (refl, tt)))))
-]
-flop_no_role kind.Sdff roles a b has = absurd cc
-flop_no_role kind.Sdffr roles a b has = absurd cc
-flop_no_role kind.Sdffs roles a b has = absurd cc
+flop_no_role (kind.Flop flop) roles a b has = plain_no_role flop.force flop.scan roles a has
+flop_no_role (kind.Gate gate) roles a b has = absurd cc
 flop_no_role kind.Lockup roles a b has = absurd cc
 flop_no_role kind.Opaque roles a b has = absurd cc
-flop_no_role kind.Buf roles a b has = absurd cc
-flop_no_role kind.Inv roles a b has = absurd cc
-flop_no_role kind.And roles a b has = absurd cc
-flop_no_role kind.Nand roles a b has = absurd cc
-flop_no_role kind.Or roles a b has = absurd cc
-flop_no_role kind.Nor roles a b has = absurd cc
-flop_no_role kind.Xor roles a b has = absurd cc
-flop_no_role kind.Xnor roles a b has = absurd cc
-flop_no_role kind.Mux2 roles a b has = absurd cc
-flop_no_role (kind.Table number) roles a b has = absurd cc
-flop_no_role kind.Tie0 roles a b has = absurd cc
-flop_no_role kind.Tie1 roles a b has = absurd cc
 
 cell_no_role : (library : List library_cells.Cell) (number : ℕ) (o : Option library_cells.Cell) → IsWellFormed library → slice_get library number ≡ o → is_plain (shape_of_cell o).kind ≡ true → is_flip_flop (shape_of_cell o).kind ≡ true → NoRole role.ScanEnable (shape_of_cell o).roles
 cell_no_role library number None whole at a b = absurd cc

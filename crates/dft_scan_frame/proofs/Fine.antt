@@ -1,5 +1,5 @@
 -- What a design that the scan rules pass has: input ports before its other nets, no lock-up, and no scan cell.
-use Rattle.std.proofs.Common.{ℕ, zero, suc, ◌+◌, ◌≡◌, ◌==◌, ◌<◌, Bool, true, false, List, ◌∷◌, ◌++◌, length, map, Option, None, Some, slice_get, refl, sym, subst, ap, arith, ◌∙◌, []}
+use Rattle.std.proofs.Common.{ℕ, zero, suc, ◌+◌, ◌≡◌, ◌==◌, ◌<◌, Bool, true, false, List, ◌∷◌, ◌++◌, length, map, Option, None, Some, slice_get, refl, sym, subst, ap, arith, ◌∙◌, [], not}
 use Rattle.std.specs.Prelude.{if◌then◌else◌, IsTrue}
 use Rattle.std.proofs.lemmas.Bool.{eqb-true}
 use Rattle.std.proofs.lemmas.Option.{none-some, same_Some}
@@ -25,6 +25,7 @@ use Rattle.dft_netlist.specs.Drivers.{Source, Driver, Input, Gate, Joined, Flop,
 use Rattle.dft_netlist.proofs.LiveDriven.{AreBefore, before_front, before_back, nets_before}
 use Rattle.dft_config.specs.Config.{Config}
 use Rattle.dft_rules.specs.declared.error.RuleError.{RuleError}
+use Rattle.dft_rules.specs.declared.error.RuleError.TheVariants.{ScanCellPresent}
 use Rattle.dft_rules.specs.Refusals.{present_as, present, first_failing}
 use Rattle.dft_rules.proofs.CheckLemmas.{none_present}
 use Rattle.dft_scan_frame.specs.Statements.{IsReady}
@@ -33,60 +34,25 @@ use Rattle.dft_scan_frame.specs.Statements.{IsReady}
 
 -- a kind that a design has before scan is inserted
 abbrev pub is_plain : Kind → Bool
-is_plain kind.Sdff = false
-is_plain kind.Sdffr = false
-is_plain kind.Sdffs = false
+is_plain (kind.Flop flop) = not flop.scan
+is_plain (kind.Gate gate) = true
 is_plain kind.Lockup = false
-is_plain _ = true
+is_plain kind.Opaque = true
+
+plain_flop : (scan : Bool) (name : Text) → (if scan then Some (ScanCellPresent name) else None) ≡ None → not scan ≡ true
+plain_flop true name e = absurd cc
+plain_flop false name e = refl
 
 plain_named : (k : Kind) (name : Text) → present_as k (Some name) ≡ None → is_plain k ≡ true
-plain_named kind.Sdff name e = absurd cc
-plain_named kind.Sdffr name e = absurd cc
-plain_named kind.Sdffs name e = absurd cc
+plain_named (kind.Flop flop) name e = plain_flop flop.scan name e
+plain_named (kind.Gate gate) name e = refl
 plain_named kind.Lockup name e = absurd cc
 plain_named kind.Opaque name e = refl
-plain_named kind.Dff name e = refl
-plain_named kind.Dffr name e = refl
-plain_named kind.Dffs name e = refl
-plain_named kind.Buf name e = refl
-plain_named kind.Inv name e = refl
-plain_named kind.And name e = refl
-plain_named kind.Nand name e = refl
-plain_named kind.Or name e = refl
-plain_named kind.Nor name e = refl
-plain_named kind.Xor name e = refl
-plain_named kind.Xnor name e = refl
-plain_named kind.Mux2 name e = refl
-plain_named (kind.Table number) name e = refl
-plain_named kind.Tie0 name e = refl
-plain_named kind.Tie1 name e = refl
-
-plain_gate : (k : Kind) → IsTrue (is_primitive k) → is_plain k ≡ true
-plain_gate kind.Sdff h = absurd cc
-plain_gate kind.Sdffr h = absurd cc
-plain_gate kind.Sdffs h = absurd cc
-plain_gate kind.Lockup h = absurd cc
-plain_gate kind.Opaque h = refl
-plain_gate kind.Dff h = refl
-plain_gate kind.Dffr h = refl
-plain_gate kind.Dffs h = refl
-plain_gate kind.Buf h = refl
-plain_gate kind.Inv h = refl
-plain_gate kind.And h = refl
-plain_gate kind.Nand h = refl
-plain_gate kind.Or h = refl
-plain_gate kind.Nor h = refl
-plain_gate kind.Xor h = refl
-plain_gate kind.Xnor h = refl
-plain_gate kind.Mux2 h = refl
-plain_gate (kind.Table number) h = refl
-plain_gate kind.Tie0 h = refl
-plain_gate kind.Tie1 h = refl
 
 plain_by : (library : List Cell) (name : Option Text) (ref : CellRef) → IsCellOf library name ref → present_as (shape_of library ref).kind name ≡ None → is_plain (shape_of library ref).kind ≡ true
 plain_by library None (cell_ref.Library cell) fits e = let f : false ≡ true = fits.1 in absurd cc
 plain_by library (Some name) (cell_ref.Library cell) fits e = plain_named (shape_of library (cell_ref.Library cell)).kind name e
-plain_by library name (cell_ref.Gate k inputs) fits e = plain_gate k fits.0
+plain_by library name (cell_ref.Gate k inputs) fits e = refl
 
 -- the first check that fails is none
 pub record NoneFails (o : Option RuleError) (more : List (Option RuleError)) : Type 0 where
@@ -127,26 +93,10 @@ fine_append n [] ys h k = k
 fine_append n (x ∷ xs) ys h k = (h.0, fine_append n xs ys h.1 k)
 
 kind_fine : (n : Netlist) (net i : ℕ) (instance : Instance) (k : Kind) (inverted : Bool) (inputs : List Source) → slice_get n.instances i ≡ Some instance → is_plain k ≡ true → FineBy n net (driver_of_kind k i inverted inputs)
+kind_fine n net i instance (kind.Gate gate) inverted inputs at is = tt
 kind_fine n net i instance kind.Opaque inverted inputs at is = tt
 kind_fine n net i instance kind.Lockup inverted inputs at is = absurd cc
-kind_fine n net i instance kind.Dff inverted inputs at is = (instance, at)
-kind_fine n net i instance kind.Dffr inverted inputs at is = (instance, at)
-kind_fine n net i instance kind.Dffs inverted inputs at is = (instance, at)
-kind_fine n net i instance kind.Sdff inverted inputs at is = (instance, at)
-kind_fine n net i instance kind.Sdffr inverted inputs at is = (instance, at)
-kind_fine n net i instance kind.Sdffs inverted inputs at is = (instance, at)
-kind_fine n net i instance kind.Buf inverted inputs at is = tt
-kind_fine n net i instance kind.Inv inverted inputs at is = tt
-kind_fine n net i instance kind.And inverted inputs at is = tt
-kind_fine n net i instance kind.Nand inverted inputs at is = tt
-kind_fine n net i instance kind.Or inverted inputs at is = tt
-kind_fine n net i instance kind.Nor inverted inputs at is = tt
-kind_fine n net i instance kind.Xor inverted inputs at is = tt
-kind_fine n net i instance kind.Xnor inverted inputs at is = tt
-kind_fine n net i instance kind.Mux2 inverted inputs at is = tt
-kind_fine n net i instance (kind.Table number) inverted inputs at is = tt
-kind_fine n net i instance kind.Tie0 inverted inputs at is = tt
-kind_fine n net i instance kind.Tie1 inverted inputs at is = tt
+kind_fine n net i instance (kind.Flop flop) inverted inputs at is = (instance, at)
 
 signal_fine : (n : Netlist) (i : ℕ) (instance : Instance) (s : Signal) (k : Kind) (inverted : Bool) (inputs : List Source) → slice_get n.instances i ≡ Some instance → is_plain k ≡ true → AreFine n (at_signal s (driver_of_kind k i inverted inputs))
 signal_fine n i instance (signal.Net net) k inverted inputs at is = (kind_fine n net.0 i instance k inverted inputs at is, tt)

@@ -10,10 +10,10 @@ use Rattle.dft_netlist.specs.Netlist.{Netlist}
 use Rattle.dft_netlist.specs.Sound.{bits_of}
 use Rattle.dft_netlist.specs.Drivers.{Source, Driver, Input, driver, nets_read, AreBelow}
 use Rattle.dft_netlist.specs.Orders.{Has, reads_of, IsOrderFrom}
-use Rattle.dft_netlist.specs.Traces.{Root, Port, Traces, AtPort, AtConstant, AtTie, ThroughBuffer, ThroughJoin, root_of}
-use Rattle.dft_netlist.specs.ClockRoots.{ClockRoot, clock_root_of}
-use Rattle.dft_netlist.proofs.ClockWalks.{clock_found, clock_driven}
-use Rattle.dft_netlist.proofs.Walks.{port_found}
+use Rattle.dft_behavior.specs.Traces.{Root, Port, Traces, AtPort, AtConstant, AtTie, ThroughBuffer, ThroughJoin, root_of}
+use Rattle.dft_behavior.specs.ClockRoots.{ClockRoot, clock_root_of}
+use Rattle.dft_behavior.proofs.ClockWalks.{clock_found, clock_driven}
+use Rattle.dft_behavior.proofs.Walks.{port_found}
 use Rattle.dft_netlist.proofs.LiveDriven.{ports_fit}
 use Rattle.dft_config.specs.Config.{Config}
 use Rattle.dft_scan_frame.specs.AddedPorts.{new_port, numbered, numbered_ports, plain_ports}

@@ -14,9 +14,8 @@ use Rattle.dft_netlist.specs.declared.limits.TheConstants.{MAX_NETS}
 use Rattle.dft_netlist.specs.Netlist.{Netlist}
 use Rattle.dft_netlist.specs.Names.{find_net}
 use Rattle.dft_netlist.specs.Drivers.{Source, connections_from, source_of, shape_of, pins_at, driver}
-use Rattle.dft_netlist.specs.Logic.{same_role, pin_of}
 use Rattle.dft_netlist.specs.Sound.{IsNetlist, IsLive, AreLive}
-use Rattle.dft_netlist.specs.Connections.{is_input}
+use Rattle.dft_netlist.specs.Connections.{is_input, same_role, pin_of}
 use Rattle.dft_netlist.proofs.LookUpLemmas.{net_there}
 use Rattle.dft_netlist.proofs.ListingLemmas.{live_more}
 use Rattle.dft_scan_frame.specs.Moves.{Gap, moved}

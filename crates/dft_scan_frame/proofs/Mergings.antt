@@ -119,26 +119,10 @@ moved_inputs gap i (c ∷ cs) =
     input_more gap (is_input c.role) (source_of i c.pin (moved_signal gap c.to)) (source_of i c.pin c.to) (inputs_of i (map (moved_connection gap) cs)) (inputs_of i cs) (moved_source_of gap i c.pin c.to) (moved_inputs gap i cs)
 
 moved_kind : (f : ℕ → ℕ) (k : Kind) (i : ℕ) (inverted : Bool) (inputs : List Source) → driver_of_kind k i inverted (map (moved_source f) inputs) ≡ moved_driver f (driver_of_kind k i inverted inputs)
+moved_kind f (kind.Gate gate) i inverted inputs = refl
+moved_kind f (kind.Flop flop) i inverted inputs = refl
 moved_kind f kind.Opaque i inverted inputs = refl
 moved_kind f kind.Lockup i inverted inputs = refl
-moved_kind f kind.Dff i inverted inputs = refl
-moved_kind f kind.Dffr i inverted inputs = refl
-moved_kind f kind.Dffs i inverted inputs = refl
-moved_kind f kind.Sdff i inverted inputs = refl
-moved_kind f kind.Sdffr i inverted inputs = refl
-moved_kind f kind.Sdffs i inverted inputs = refl
-moved_kind f kind.Buf i inverted inputs = refl
-moved_kind f kind.Inv i inverted inputs = refl
-moved_kind f kind.And i inverted inputs = refl
-moved_kind f kind.Nand i inverted inputs = refl
-moved_kind f kind.Or i inverted inputs = refl
-moved_kind f kind.Nor i inverted inputs = refl
-moved_kind f kind.Xor i inverted inputs = refl
-moved_kind f kind.Xnor i inverted inputs = refl
-moved_kind f kind.Mux2 i inverted inputs = refl
-moved_kind f (kind.Table number) i inverted inputs = refl
-moved_kind f kind.Tie0 i inverted inputs = refl
-moved_kind f kind.Tie1 i inverted inputs = refl
 
 moved_role : (gap : Gap) (k : Kind) (i : ℕ) (inputs : List Source) (s : Signal) (r : Role) → at_role r k i (map (moved_source (moved gap)) inputs) (moved_signal gap s) ≡ map (moved_driven (moved gap)) (at_role r k i inputs s)
 moved_role gap k i inputs (signal.Net net) role.Output = ap (λ d. (moved gap net.0, d) ∷ []) (moved_kind (moved gap) k i false inputs)

@@ -2,8 +2,8 @@
 use Rattle.std.proofs.Common.{ℕ, zero, suc, ◌≡◌, ◌≤◌, Bool, true, false, List, ◌∷◌, length, map, Option, None, Some, option_map, refl, ap, arith, ◌∙◌, []}
 use Rattle.dft_netlist.specs.Netlist.{Netlist}
 use Rattle.dft_netlist.specs.Drivers.{Source, Net, Tied, Loose, Driver, Input, Gate, Joined, Flop, Lockup, Free, driver, nets_of, nets_read, AreBelow, IsOrdered}
-use Rattle.dft_netlist.specs.ClockRoots.{ClockRoot, turn_of, turned_by, clock_of_inputs, clock_of_gate, clock_of_driver, clock_within, clock_root_of}
-use Rattle.dft_netlist.proofs.Walks.{IsWithin as StandsWithin, weaker}
+use Rattle.dft_behavior.specs.ClockRoots.{ClockRoot, turn_of, turned_by, clock_of_inputs, clock_of_gate, clock_of_driver, clock_within, clock_root_of}
+use Rattle.dft_behavior.proofs.Walks.{IsWithin as StandsWithin, weaker}
 use Rattle.dft_chains.specs.ScanOff.{moved_source, IsWithin}
 use Rattle.dft_scan_frame.proofs.Mergings.{moved_driver}
 use Rattle.dft_scan_frame.proofs.MovedRoots.{AreDriversKept, stands_in}

@@ -1,11 +1,11 @@
 -- A net of a design traces in the scanned netlist to where it traced, moved.
 use Rattle.std.proofs.Common.{ℕ, zero, suc, ◌≡◌, ◌<◌, ◌≤◌, List, ◌∷◌, length, map, refl, ap, arith, ◌∙◌, []}
-use Rattle.dft_cells.specs.declared.kind.Kind.{Kind}
-use Rattle.dft_cells.specs.declared.kind.Kind.TheVariants as kind
+use Rattle.dft_cells.specs.declared.kind.Gate.{Gate as GateKind}
+use Rattle.dft_cells.specs.declared.kind.Gate.TheVariants as gate
 use Rattle.dft_netlist.specs.Netlist.{Netlist}
 use Rattle.dft_netlist.specs.Drivers.{Source, Net, Tied, Loose, Driver, Input, Gate, Joined, Flop, Lockup, Free, driver, nets_of, nets_read, AreBelow, IsOrdered}
-use Rattle.dft_netlist.specs.Traces.{Root, Port, Constant, Other, passed_by_buffer, passed_by_gate, root_of_passed, root_of_driver, root_within, root_of}
-use Rattle.dft_netlist.proofs.Walks.{IsWithin as StandsWithin, weaker}
+use Rattle.dft_behavior.specs.Traces.{Root, Port, Constant, Other, passed_by_buffer, passed_by_gate, root_of_passed, root_of_driver, root_within, root_of}
+use Rattle.dft_behavior.proofs.Walks.{IsWithin as StandsWithin, weaker}
 use Rattle.dft_chains.specs.ScanOff.{moved_source, IsWithin}
 use Rattle.dft_scan_frame.proofs.Mergings.{moved_driver}
 
@@ -24,28 +24,10 @@ passed_moved f walk its (Tied bit ∷ []) count inside ih = ih (Tied bit) tt
 passed_moved f walk its (Loose i pin ∷ []) count inside ih = ih (Loose i pin) tt
 passed_moved f walk its (input ∷ more ∷ inputs) count inside ih = refl
 
-gate_moved : (f : ℕ → ℕ) (walk its : Source → Root) (k : Kind) (inputs : List Source) → (count : ℕ) → AreBelow (λ k. k) count (nets_of inputs) → ((source : Source) → IsWithin count source → its (moved_source f source) ≡ moved_root f (walk source)) →
+gate_moved : (f : ℕ → ℕ) (walk its : Source → Root) (k : GateKind) (inputs : List Source) → (count : ℕ) → AreBelow (λ k. k) count (nets_of inputs) → ((source : Source) → IsWithin count source → its (moved_source f source) ≡ moved_root f (walk source)) →
     root_of_passed its (passed_by_gate k (map (moved_source f) inputs)) ≡ moved_root f (root_of_passed walk (passed_by_gate k inputs))
-gate_moved f walk its kind.Buf inputs count inside ih = passed_moved f walk its inputs count inside ih
-gate_moved f walk its kind.Tie0 inputs count inside ih = refl
-gate_moved f walk its kind.Tie1 inputs count inside ih = refl
-gate_moved f walk its kind.Inv inputs count inside ih = refl
-gate_moved f walk its kind.And inputs count inside ih = refl
-gate_moved f walk its kind.Nand inputs count inside ih = refl
-gate_moved f walk its kind.Or inputs count inside ih = refl
-gate_moved f walk its kind.Nor inputs count inside ih = refl
-gate_moved f walk its kind.Xor inputs count inside ih = refl
-gate_moved f walk its kind.Xnor inputs count inside ih = refl
-gate_moved f walk its kind.Mux2 inputs count inside ih = refl
-gate_moved f walk its (kind.Table number) inputs count inside ih = refl
-gate_moved f walk its kind.Dff inputs count inside ih = refl
-gate_moved f walk its kind.Dffr inputs count inside ih = refl
-gate_moved f walk its kind.Dffs inputs count inside ih = refl
-gate_moved f walk its kind.Sdff inputs count inside ih = refl
-gate_moved f walk its kind.Sdffr inputs count inside ih = refl
-gate_moved f walk its kind.Sdffs inputs count inside ih = refl
-gate_moved f walk its kind.Lockup inputs count inside ih = refl
-gate_moved f walk its kind.Opaque inputs count inside ih = refl
+gate_moved f walk its gate.Buf inputs count inside ih = passed_moved f walk its inputs count inside ih
+gate_moved f walk its _ inputs count inside ih = refl
 
 joined_moved : (f : ℕ → ℕ) (walk its : Source → Root) (source : Source) → (count : ℕ) → AreBelow (λ k. k) count (nets_of (source ∷ [])) → ((s : Source) → IsWithin count s → its (moved_source f s) ≡ moved_root f (walk s)) → its (moved_source f source) ≡ moved_root f (walk source)
 joined_moved f walk its (Net net) count inside ih = ih (Net net) inside.0
@@ -83,27 +65,9 @@ buffer_same walk its rank r (Tied bit ∷ []) below ih = ih (Tied bit) tt
 buffer_same walk its rank r (Loose i pin ∷ []) below ih = ih (Loose i pin) tt
 buffer_same walk its rank r (input ∷ more ∷ inputs) below ih = refl
 
-gate_same : (walk its : Source → Root) (rank : ℕ → ℕ) (r : ℕ) (k : Kind) (inputs : List Source) → AreBelow rank r (nets_of inputs) → ((source : Source) → StandsWithin rank r source → its source ≡ walk source) → root_of_passed its (passed_by_gate k inputs) ≡ root_of_passed walk (passed_by_gate k inputs)
-gate_same walk its rank r kind.Buf inputs below ih = buffer_same walk its rank r inputs below ih
-gate_same walk its rank r kind.Tie0 inputs below ih = refl
-gate_same walk its rank r kind.Tie1 inputs below ih = refl
-gate_same walk its rank r kind.Inv inputs below ih = refl
-gate_same walk its rank r kind.And inputs below ih = refl
-gate_same walk its rank r kind.Nand inputs below ih = refl
-gate_same walk its rank r kind.Or inputs below ih = refl
-gate_same walk its rank r kind.Nor inputs below ih = refl
-gate_same walk its rank r kind.Xor inputs below ih = refl
-gate_same walk its rank r kind.Xnor inputs below ih = refl
-gate_same walk its rank r kind.Mux2 inputs below ih = refl
-gate_same walk its rank r (kind.Table number) inputs below ih = refl
-gate_same walk its rank r kind.Dff inputs below ih = refl
-gate_same walk its rank r kind.Dffr inputs below ih = refl
-gate_same walk its rank r kind.Dffs inputs below ih = refl
-gate_same walk its rank r kind.Sdff inputs below ih = refl
-gate_same walk its rank r kind.Sdffr inputs below ih = refl
-gate_same walk its rank r kind.Sdffs inputs below ih = refl
-gate_same walk its rank r kind.Lockup inputs below ih = refl
-gate_same walk its rank r kind.Opaque inputs below ih = refl
+gate_same : (walk its : Source → Root) (rank : ℕ → ℕ) (r : ℕ) (k : GateKind) (inputs : List Source) → AreBelow rank r (nets_of inputs) → ((source : Source) → StandsWithin rank r source → its source ≡ walk source) → root_of_passed its (passed_by_gate k inputs) ≡ root_of_passed walk (passed_by_gate k inputs)
+gate_same walk its rank r gate.Buf inputs below ih = buffer_same walk its rank r inputs below ih
+gate_same walk its rank r _ inputs below ih = refl
 
 driver_same : (n : Netlist) (walk its : Source → Root) (rank : ℕ → ℕ) (r net : ℕ) (d : Driver) → AreBelow rank r (nets_read n d) → ((source : Source) → StandsWithin rank r source → its source ≡ walk source) → root_of_driver its net d ≡ root_of_driver walk net d
 driver_same n walk its rank r net Input below ih = refl

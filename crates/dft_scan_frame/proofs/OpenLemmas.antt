@@ -6,9 +6,8 @@ use Rattle.dft_cells.specs.declared.kind.Role.TheVariants.{Output}
 use Rattle.dft_netlist.specs.declared.instance.Signal.{Signal}
 use Rattle.dft_netlist.specs.declared.instance.Signal.TheVariants as signal
 use Rattle.dft_netlist.specs.Netlist.{Netlist}
-use Rattle.dft_netlist.specs.Connections.{joined_to, signal_of}
+use Rattle.dft_netlist.specs.Connections.{joined_to, signal_of, pin_of, same_role}
 use Rattle.dft_netlist.specs.Drivers.{Connection, Source, pins_of, source_of}
-use Rattle.dft_netlist.specs.Logic.{pin_of, same_role}
 use Rattle.dft_scan_frame.specs.Pins.{net_of, own_output}
 
 -- ---- outputs

@@ -1,19 +1,28 @@
 -- A scan cell beside the flip-flop that it stands for: it drives the same nets, and its other pins are joined to the same.
-use Rattle.std.proofs.Common.{◌≡◌, List, ◌∷◌, length, refl, arith, []}
+use Rattle.std.proofs.Common.{◌≡◌, true, false, List, ◌∷◌, length, refl, arith, []}
 use Rattle.dft_cells.specs.declared.kind.Kind.{Kind}
-use Rattle.dft_cells.specs.declared.kind.Kind.TheVariants.{Dff, Dffr, Dffs, Sdff, Sdffr, Sdffs}
+use Rattle.dft_cells.specs.declared.kind.Kind.TheVariants as kind
+use Rattle.dft_cells.specs.declared.kind.Forcing.{Forcing}
+use Rattle.dft_cells.specs.declared.kind.Forcing.TheVariants as force
 use Rattle.dft_cells.specs.declared.kind.Role.{Role}
 use Rattle.dft_cells.specs.declared.kind.Role.TheVariants.{Clock, Din, Reset, Preset, ScanIn, ScanEnable, Output, Inverted}
 use Rattle.dft_netlist.specs.declared.instance.Signal.{Signal}
 
+-- a flip-flop without scan, and its scan cell
+abbrev pub plain_flop : Forcing → Kind
+plain_flop its = kind.Flop (record { force = its; scan = false })
+
+abbrev pub scan_flop : Forcing → Kind
+scan_flop its = kind.Flop (record { force = its; scan = true })
+
 -- the kind and the roles of a flip-flop, and those of its scan cell
 pub data ScanPair : Kind → List Role → Kind → List Role → Type 0 where
-  Plain : ScanPair Dff (Clock ∷ Din ∷ Output ∷ []) Sdff (Clock ∷ Din ∷ ScanIn ∷ ScanEnable ∷ Output ∷ [])
-  PlainBoth : ScanPair Dff (Clock ∷ Din ∷ Output ∷ Inverted ∷ []) Sdff (Clock ∷ Din ∷ ScanIn ∷ ScanEnable ∷ Output ∷ Inverted ∷ [])
-  Resets : ScanPair Dffr (Clock ∷ Din ∷ Reset ∷ Output ∷ []) Sdffr (Clock ∷ Din ∷ Reset ∷ ScanIn ∷ ScanEnable ∷ Output ∷ [])
-  ResetsBoth : ScanPair Dffr (Clock ∷ Din ∷ Reset ∷ Output ∷ Inverted ∷ []) Sdffr (Clock ∷ Din ∷ Reset ∷ ScanIn ∷ ScanEnable ∷ Output ∷ Inverted ∷ [])
-  Sets : ScanPair Dffs (Clock ∷ Din ∷ Preset ∷ Output ∷ []) Sdffs (Clock ∷ Din ∷ Preset ∷ ScanIn ∷ ScanEnable ∷ Output ∷ [])
-  SetsBoth : ScanPair Dffs (Clock ∷ Din ∷ Preset ∷ Output ∷ Inverted ∷ []) Sdffs (Clock ∷ Din ∷ Preset ∷ ScanIn ∷ ScanEnable ∷ Output ∷ Inverted ∷ [])
+  Plain : ScanPair (plain_flop force.Nothing) (Clock ∷ Din ∷ Output ∷ []) (scan_flop force.Nothing) (Clock ∷ Din ∷ ScanIn ∷ ScanEnable ∷ Output ∷ [])
+  PlainBoth : ScanPair (plain_flop force.Nothing) (Clock ∷ Din ∷ Output ∷ Inverted ∷ []) (scan_flop force.Nothing) (Clock ∷ Din ∷ ScanIn ∷ ScanEnable ∷ Output ∷ Inverted ∷ [])
+  Resets : ScanPair (plain_flop force.Reset) (Clock ∷ Din ∷ Reset ∷ Output ∷ []) (scan_flop force.Reset) (Clock ∷ Din ∷ Reset ∷ ScanIn ∷ ScanEnable ∷ Output ∷ [])
+  ResetsBoth : ScanPair (plain_flop force.Reset) (Clock ∷ Din ∷ Reset ∷ Output ∷ Inverted ∷ []) (scan_flop force.Reset) (Clock ∷ Din ∷ Reset ∷ ScanIn ∷ ScanEnable ∷ Output ∷ Inverted ∷ [])
+  Sets : ScanPair (plain_flop force.Set) (Clock ∷ Din ∷ Preset ∷ Output ∷ []) (scan_flop force.Set) (Clock ∷ Din ∷ Preset ∷ ScanIn ∷ ScanEnable ∷ Output ∷ [])
+  SetsBoth : ScanPair (plain_flop force.Set) (Clock ∷ Din ∷ Preset ∷ Output ∷ Inverted ∷ []) (scan_flop force.Set) (Clock ∷ Din ∷ Preset ∷ ScanIn ∷ ScanEnable ∷ Output ∷ Inverted ∷ [])
 
 -- ---- lists of a known length
 

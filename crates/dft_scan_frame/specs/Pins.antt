@@ -4,9 +4,8 @@ use Rattle.dft_cells.specs.declared.kind.Role.{Role}
 use Rattle.dft_cells.specs.declared.kind.Role.TheVariants.{ScanIn, ScanEnable, Output}
 use Rattle.dft_netlist.specs.declared.ids.InstanceId.{InstanceId}
 use Rattle.dft_netlist.specs.Netlist.{Netlist}
-use Rattle.dft_netlist.specs.Connections.{input_net}
+use Rattle.dft_netlist.specs.Connections.{input_net, pin_of}
 use Rattle.dft_netlist.specs.Drivers.{Source, Net, Tied, Loose, pins_of}
-use Rattle.dft_netlist.specs.Logic.{pin_of}
 use Rattle.dft_config.specs.Config.{Config}
 use Rattle.dft_scan_frame.specs.Moves.{Gap, moved}
 

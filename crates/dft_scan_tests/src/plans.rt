@@ -29,7 +29,7 @@ pub(crate) fn line_for(alloc: Global, netlist: &str, config: &str) -> Result<Str
 fn configured(alloc: Global, design: &Design, config: &str) -> Result<String, AllocError>
     requires { length config.now ≤ 65536 }
 {
-    match Config::read(alloc, config.as_bytes()) {
+    match dft_config_text::read(alloc, config.as_bytes()) {
         Ok(config) => judged(alloc, design, &config),
         Err(_) => String::from_str(alloc, "no configuration"),
     }

@@ -11,8 +11,8 @@ use Rattle.dft_netlist.specs.declared.ids.InstanceId.{InstanceId}
 use Rattle.dft_netlist.specs.Netlist.{Netlist}
 use Rattle.dft_netlist.specs.Drivers.{Source, Driver, Gate, Joined, Flop, Free, driver, nets_of, nets_read, AreBelow, IsOrdered}
 use Rattle.dft_netlist.specs.Drivers as drivers
-use Rattle.dft_netlist.specs.Logic as meanings
-use Rattle.dft_netlist.specs.Settled.{value_given}
+use Rattle.dft_behavior.specs.Logic as meanings
+use Rattle.dft_behavior.specs.Settled.{value_given}
 use Rattle.dft_rules.specs.Rules.{judgements}
 use Rattle.dft_stitch.specs.Chains.{clock_of}
 use Rattle.dft_capture.specs.Captures.{Moving, Settled, AreSettled, after_moves, captured, meaning_in, next_by_pins, sources_at}

@@ -6,9 +6,9 @@ use Rattle.std.proofs.lemmas.Bool.Decides.{eqb_tells, leb_tells}
 use Rattle.std.proofs.lemmas.List.{get_or-replicate, get_or_past, length-replicate}
 use Rattle.dft_base.specs.declared.tri.Tri.{Tri}
 use Rattle.dft_base.specs.declared.tri.Tri.TheVariants.{One, Unknown}
-use Rattle.dft_netlist.specs.Logic.{Meaning, Input, Clock, Gate, Joined, Flop, Lockup, Free}
+use Rattle.dft_behavior.specs.Logic.{Meaning, Input, Clock, Gate, Joined, Flop, Lockup, Free}
 use Rattle.dft_netlist.specs.Orders.{Has}
-use Rattle.dft_netlist.specs.Settled.{TriSources, inverse, value_given}
+use Rattle.dft_behavior.specs.Settled.{TriSources, inverse, value_given}
 use Rattle.dft_logic.specs.declared.circuit.Op.{Op}
 use Rattle.dft_logic.specs.declared.circuit.Op.TheVariants as op
 use Rattle.dft_logic.specs.Circuit.{Circuit, IsCircuit, flag_at, meaning, op_at}

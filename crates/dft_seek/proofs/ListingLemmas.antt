@@ -11,10 +11,10 @@ use Rattle.dft_base.specs.Lexing.{Text}
 use Rattle.dft_base.proofs.BitLemmas.{or_false}
 use Rattle.dft_netlist.specs.declared.ids.NetId.{NetId}
 use Rattle.dft_netlist.specs.Netlist.{Netlist}
-use Rattle.dft_netlist.specs.declared.root.Root.{Root}
+use Rattle.dft_behavior.specs.declared.root.Root.{Root}
 use Rattle.dft_netlist.specs.Connections.{input_net}
 use Rattle.dft_netlist.specs.Drivers.{Net}
-use Rattle.dft_netlist.specs.RootTables.{AreRoots}
+use Rattle.dft_behavior.specs.RootTables.{AreRoots}
 use Rattle.dft_config.specs.Config.{Config}
 use Rattle.dft_rules.specs.Rules.{is_net}
 use Rattle.dft_faults.specs.declared.fault.Fault.{Fault}

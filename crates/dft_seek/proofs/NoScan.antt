@@ -7,7 +7,8 @@ use Rattle.dft_base.proofs.BitLemmas.{and_second}
 use Rattle.dft_cells.specs.declared.kind.Role.TheVariants as role
 use Rattle.dft_cells.specs.WellFormed.{IsWellFormed}
 use Rattle.dft_netlist.specs.Drivers.{Source, kind_at, pins_of}
-use Rattle.dft_netlist.specs.Logic.{pin_of, scan_of}
+use Rattle.dft_netlist.specs.Connections.{pin_of}
+use Rattle.dft_behavior.specs.Logic.{scan_of}
 use Rattle.dft_rules.specs.declared.judged.Judged.{Judged}
 use Rattle.dft_rules.specs.Rules.{judged, judgements, may_be_scanned}
 use Rattle.dft_rules.proofs.ReadingLemmas.{judged_may}

@@ -16,8 +16,8 @@ use Rattle.dft_netlist.specs.declared.ids.NetId.{NetId}
 use Rattle.dft_netlist.specs.declared.ids.InstanceId.{InstanceId}
 use Rattle.dft_netlist.specs.Netlist.{Netlist}
 use Rattle.dft_netlist.specs.Drivers.{Driver, driver}
-use Rattle.dft_netlist.specs.Logic.{Meaning, Input, Clock, Gate, Joined, Flop, Lockup, Free}
-use Rattle.dft_netlist.specs.Settled.{inverse, value_given}
+use Rattle.dft_behavior.specs.Logic.{Meaning, Input, Clock, Gate, Joined, Flop, Lockup, Free}
+use Rattle.dft_behavior.specs.Settled.{inverse, value_given}
 use Rattle.dft_expect.specs.Loaded.{bit_of_cell, or_unknown}
 use Rattle.dft_logic.specs.declared.circuit.Op.TheVariants as op
 use Rattle.dft_logic.specs.Circuit.{flag_at, meaning, op_at}

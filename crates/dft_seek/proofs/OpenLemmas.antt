@@ -11,9 +11,9 @@ use Rattle.dft_base.specs.Tri.{known}
 use Rattle.dft_base.proofs.ListLemmas.{refilled_items}
 use Rattle.dft_netlist.specs.declared.ids.NetId.{NetId}
 use Rattle.dft_netlist.specs.declared.ids.InstanceId.{InstanceId}
-use Rattle.dft_netlist.specs.Logic.{Meaning, Input, Clock, Gate, Joined, Flop, Lockup, Free}
+use Rattle.dft_behavior.specs.Logic.{Meaning, Input, Clock, Gate, Joined, Flop, Lockup, Free}
 use Rattle.dft_netlist.specs.Orders.{Has}
-use Rattle.dft_netlist.specs.Settled.{inverse, value_given}
+use Rattle.dft_behavior.specs.Settled.{inverse, value_given}
 use Rattle.dft_expect.specs.Loaded.{bit_of_cell, or_unknown}
 use Rattle.dft_logic.specs.declared.circuit.Op.{Op}
 use Rattle.dft_logic.specs.declared.circuit.Op.TheVariants as op

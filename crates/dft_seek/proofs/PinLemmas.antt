@@ -14,8 +14,9 @@ use Rattle.dft_netlist.specs.declared.instance.Signal.{Signal}
 use Rattle.dft_netlist.specs.declared.instance.Instance.{Instance}
 use Rattle.dft_netlist.specs.Netlist.{Netlist}
 use Rattle.dft_netlist.specs.Drivers.{Source, Net, Tied, Loose, Connection, connections_from, nets_of, pins_at, pins_of, shape_of, source_of}
-use Rattle.dft_netlist.specs.Logic.{Scan, same_role, pin_of, or_loose, scan_of}
-use Rattle.dft_netlist.specs.Settled.{value_from}
+use Rattle.dft_netlist.specs.Connections.{same_role, pin_of}
+use Rattle.dft_behavior.specs.Logic.{Scan, or_loose, scan_of}
+use Rattle.dft_behavior.specs.Settled.{value_from}
 use Rattle.dft_abstract.specs.Cycle.{tri_taken_by}
 use Rattle.dft_stitch.specs.Chains.{listed}
 use Rattle.dft_faults.specs.declared.fault.Fault.{Fault}

@@ -8,10 +8,10 @@ use Rattle.dft_cells.specs.FlipFlops.{tri_chosen, tri_forced}
 use Rattle.dft_netlist.specs.declared.instance.Signal.{Signal}
 use Rattle.dft_netlist.specs.declared.instance.Signal.TheVariants as signal
 use Rattle.dft_netlist.specs.Netlist.{Netlist}
-use Rattle.dft_netlist.specs.Connections.{joined_to, signal_of}
+use Rattle.dft_netlist.specs.Connections.{joined_to, signal_of, same_role, pin_of}
 use Rattle.dft_netlist.specs.Drivers.{Source, Connection, nets_of, pins_of, source_of}
-use Rattle.dft_netlist.specs.Logic.{same_role, pin_of, or_loose, scan_of}
-use Rattle.dft_netlist.specs.Settled.{value_from}
+use Rattle.dft_behavior.specs.Logic.{or_loose, scan_of}
+use Rattle.dft_behavior.specs.Settled.{value_from}
 use Rattle.dft_abstract.specs.Cycle.{tri_taken_by}
 use Rattle.dft_stitch.specs.Chains.{listed}
 use Rattle.dft_capture.specs.Captures.{forced_by_pin, next_by_pins}

@@ -12,12 +12,12 @@ use Rattle.dft_netlist.specs.declared.ids.NetId.{NetId}
 use Rattle.dft_netlist.specs.declared.ids.InstanceId.{InstanceId}
 use Rattle.dft_cells.specs.declared.kind.Role.TheVariants as role
 use Rattle.dft_netlist.specs.Netlist.{Netlist}
-use Rattle.dft_netlist.specs.Connections.{is_input, signal_of}
-use Rattle.dft_netlist.specs.ClockRoots.{ClockRoot}
+use Rattle.dft_netlist.specs.Connections.{is_input, signal_of, pin_of}
+use Rattle.dft_behavior.specs.ClockRoots.{ClockRoot}
 use Rattle.dft_netlist.specs.Drivers.{Driver, driver, pins_at as connected_at, pins_of}
 use Rattle.dft_netlist.specs.Drivers as drivers
-use Rattle.dft_netlist.specs.Logic as meanings
-use Rattle.dft_netlist.specs.Logic.{Cell, Logic, Ports, domain_at, flip_flop, flop_meaning, lockup_meaning, meaning_of, or_loose, pin_of}
+use Rattle.dft_behavior.specs.Logic as meanings
+use Rattle.dft_behavior.specs.Logic.{Cell, Logic, Ports, domain_at, flip_flop, flop_meaning, lockup_meaning, meaning_of, or_loose}
 use Rattle.dft_netlist.specs.Orders.{HasOrder}
 use Rattle.dft_netlist.specs.Sound.{IsNetlist}
 use Rattle.dft_cells.specs.WellFormed.{IsWellFormed}

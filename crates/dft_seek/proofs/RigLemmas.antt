@@ -14,13 +14,13 @@ use Rattle.dft_netlist.proofs.FindLemmas.{found_at}
 use Rattle.dft_netlist.specs.declared.ids.NetId.{NetId}
 use Rattle.dft_netlist.specs.declared.ids.InstanceId.{InstanceId}
 use Rattle.dft_netlist.specs.Netlist.{Netlist}
-use Rattle.dft_netlist.specs.Connections.{input_net, is_input}
+use Rattle.dft_netlist.specs.Connections.{input_net, is_input, pin_of}
 use Rattle.dft_netlist.specs.Names.{find_net}
 use Rattle.dft_netlist.specs.Drivers.{Source, Driver, driver, kind_at, kind_of, pins_of}
 use Rattle.dft_netlist.specs.Drivers as drivers
-use Rattle.dft_netlist.specs.Logic.{Cell, Force, Ports, Scan, Input, Clock, Flop, Free, domain_at, domain_of, flip_flop, flop_meaning, force_of, forcing, lockup_meaning, meaning_of, modelled, modelled_of, or_loose, pin_of, scan_of}
-use Rattle.dft_netlist.specs.ClockRoots.{ClockRoot, clock_root_of}
-use Rattle.dft_netlist.specs.Traces.{Root, Port, Constant, Other, root_of}
+use Rattle.dft_behavior.specs.Logic.{Cell, Force, Ports, Scan, Input, Clock, Flop, Free, domain_at, domain_of, flip_flop, flop_meaning, force_of, forcing, lockup_meaning, meaning_of, modelled, modelled_of, or_loose, scan_of}
+use Rattle.dft_behavior.specs.ClockRoots.{ClockRoot, clock_root_of}
+use Rattle.dft_behavior.specs.Traces.{Root, Port, Constant, Other, root_of}
 use Rattle.dft_config.specs.Config.{Config}
 use Rattle.dft_config.specs.Range.{IsInRange, has}
 use Rattle.dft_rules.specs.ConfigPorts.{config_ports}

@@ -6,8 +6,9 @@ use Rattle.std.proofs.lemmas.List.{drop_more}
 use Rattle.dft_netlist.specs.declared.ids.InstanceId.{InstanceId}
 use Rattle.dft_netlist.specs.Drivers.{Driver, nets_of, pins_of}
 use Rattle.dft_netlist.specs.Drivers as drivers
-use Rattle.dft_netlist.specs.Logic.{Cell, Meaning, Ports, Input, Clock, Gate, Joined, Flop, Lockup, Free, domain_at, flip_flop, flop_meaning, lockup_meaning, meaning_of, or_loose, pin_of}
-use Rattle.dft_netlist.specs.ClockRoots.{ClockRoot}
+use Rattle.dft_netlist.specs.Connections.{pin_of}
+use Rattle.dft_behavior.specs.Logic.{Cell, Meaning, Ports, Input, Clock, Gate, Joined, Flop, Lockup, Free, domain_at, flip_flop, flop_meaning, lockup_meaning, meaning_of, or_loose}
+use Rattle.dft_behavior.specs.ClockRoots.{ClockRoot}
 use Rattle.dft_cells.specs.declared.kind.Role.TheVariants as role
 use Rattle.dft_logic.specs.declared.circuit.Op.{Op}
 use Rattle.dft_logic.specs.declared.circuit.Op.TheVariants as op

@@ -9,7 +9,7 @@ use Rattle.dft_base.proofs.BitLemmas.{and_first, and_second}
 use Rattle.dft_netlist.specs.Netlist.{Netlist}
 use Rattle.dft_netlist.specs.Drivers.{Driver, Gate, Joined, Flop, Free, Tied, driver, IsOrdered}
 use Rattle.dft_netlist.specs.Drivers as drivers
-use Rattle.dft_netlist.specs.Settled.{value_given}
+use Rattle.dft_behavior.specs.Settled.{value_given}
 use Rattle.dft_faults.specs.Faulty.{faulty, IsFault}
 use Rattle.dft_faults.proofs.Finished.{drivers_stay, order_stays}
 use Rattle.dft_capture.specs.Captures.{Moving, IsSettledFrom, after_moves, meaning_in, next_by_pins, sources_at}

@@ -3,7 +3,7 @@ use Rattle.std.specs.Prelude.{ℕ, Bool, true, false, not, ◌+◌, ◌-◌, ◌
 use Rattle.std.specs.List.{list_all, list_any}
 use Rattle.dft_base.specs.declared.tri.Tri.{Tri}
 use Rattle.dft_netlist.specs.Orders.{Has, numbers_of}
-use Rattle.dft_netlist.specs.Settled.{TriSources}
+use Rattle.dft_behavior.specs.Settled.{TriSources}
 use Rattle.dft_expect.specs.Loaded.{bit_of_cell, or_unknown}
 use Rattle.dft_logic.specs.Circuit.{flag_at}
 use Rattle.dft_logic.specs.Values.{value_at}

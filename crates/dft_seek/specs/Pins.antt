@@ -8,7 +8,7 @@ use Rattle.dft_netlist.specs.declared.instance.Signal.{Signal}
 use Rattle.dft_netlist.specs.Netlist.{Netlist}
 use Rattle.dft_netlist.specs.Connections.{signal_of}
 use Rattle.dft_netlist.specs.Drivers.{nets_of, pins_of, source_of}
-use Rattle.dft_netlist.specs.Settled.{value_from}
+use Rattle.dft_behavior.specs.Settled.{value_from}
 use Rattle.dft_seek.specs.declared.pins.Pins.{Pins}
 
 -- ---- values at pins

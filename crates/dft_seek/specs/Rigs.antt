@@ -6,9 +6,9 @@ use Rattle.dft_base.specs.declared.tri.Tri.TheVariants.{One, Unknown, Zero}
 use Rattle.dft_cells.specs.WellFormed.{IsWellFormed}
 use Rattle.dft_netlist.specs.declared.ids.InstanceId.{InstanceId}
 use Rattle.dft_netlist.specs.Drivers.{driver, IsOrdered}
-use Rattle.dft_netlist.specs.Logic.{Meaning, Input, Clock, Gate, Joined, Flop, Lockup, Free}
+use Rattle.dft_behavior.specs.Logic.{Meaning, Input, Clock, Gate, Joined, Flop, Lockup, Free}
 use Rattle.dft_netlist.specs.Orders.{AreOnce, numbers_of}
-use Rattle.dft_netlist.specs.Settled.{TriSources}
+use Rattle.dft_behavior.specs.Settled.{TriSources}
 use Rattle.dft_rules.specs.ConfigPorts.{config_ports}
 use Rattle.dft_expect.specs.Captures.{output_bits}
 use Rattle.dft_logic.specs.Circuit.{Circuit, flag_at, meaning, op_at}

@@ -3,12 +3,12 @@ use Rattle.std.specs.Prelude.{ℕ, Bool, false, not, List, filter}
 use Rattle.std.specs.List.{list_any}
 use Rattle.dft_base.specs.Lexing.{Text}
 use Rattle.dft_netlist.specs.declared.ids.NetId.{NetId}
-use Rattle.dft_netlist.specs.declared.root.Root as declared
+use Rattle.dft_behavior.specs.declared.root.Root as declared
 use Rattle.dft_netlist.specs.Netlist.{Netlist}
 use Rattle.dft_netlist.specs.Connections.{input_net}
 use Rattle.dft_netlist.specs.Drivers.{Net}
-use Rattle.dft_netlist.specs.RootTables.{root_among}
-use Rattle.dft_netlist.specs.Traces.{Root, Port, Constant, Other, root_of}
+use Rattle.dft_behavior.specs.RootTables.{root_among}
+use Rattle.dft_behavior.specs.Traces.{Root, Port, Constant, Other, root_of}
 use Rattle.dft_config.specs.Config.{Config}
 use Rattle.dft_rules.specs.ConfigPorts.{config_ports}
 use Rattle.dft_rules.specs.Rules.{is_net}

@@ -2,8 +2,8 @@
 use Rattle.std.specs.Prelude.{ℕ, Bool, true, false, List, [], ◌∷◌, Option, None, Some, map, slice_index_or, if◌then◌else◌}
 use Rattle.dft_netlist.specs.declared.ids.InstanceId.{InstanceId}
 use Rattle.dft_netlist.specs.Drivers.{nets_of}
-use Rattle.dft_netlist.specs.Logic as meanings
-use Rattle.dft_netlist.specs.Logic.{Meaning}
+use Rattle.dft_behavior.specs.Logic as meanings
+use Rattle.dft_behavior.specs.Logic.{Meaning}
 use Rattle.dft_logic.specs.declared.circuit.Op.{Op}
 use Rattle.dft_logic.specs.declared.circuit.Op.TheVariants.{Input, Clock, Gate, Joined, Flop, Lockup, Free}
 use Rattle.dft_logic.specs.Circuit.{flag_at, source_at}

@@ -5,7 +5,7 @@ use Rattle.dft_cells.specs.declared.kind.Role.TheVariants as role
 use Rattle.dft_netlist.specs.Netlist.{Netlist}
 use Rattle.dft_netlist.specs.Drivers.{Source, Driver, Connection, Gate, Joined, Flop, Free, driver, nets_of, pins_of}
 use Rattle.dft_netlist.specs.Drivers as drivers
-use Rattle.dft_netlist.specs.Logic.{pin_of}
+use Rattle.dft_netlist.specs.Connections.{pin_of}
 use Rattle.dft_stitch.specs.Chains.{listed}
 use Rattle.dft_seek.specs.Searches.{Search, Point, Output, Response, cells_in, drivable_ports, has_falling, points_of, takes_at}
 

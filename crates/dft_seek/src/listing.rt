@@ -5,9 +5,10 @@ ghost use Rattle.dft_faults.specs.Faults.{is_clock_in};
 ghost use Rattle.dft_seek.specs.SoughtFaults as spec;
 
 use dft_base::Name;
+use dft_behavior::{Root, find_roots, root_in};
 use dft_config::Config;
 use dft_faults::{Fault, faults};
-use dft_netlist::{Design, NetId, Root, Signal, root_in};
+use dft_netlist::{Design, NetId, Signal};
 use std::alloc::{AllocError, Global};
 
 // The bits of input ports that these names stand for.
@@ -70,7 +71,7 @@ pub fn seek_faults(
 {
     let clocks = port_nets(alloc, design, config.domains())?;
     let resets = port_nets(alloc, design, config.resets())?;
-    let roots = design.roots(alloc)?;
+    let roots = find_roots(alloc, design)?;
     let all = faults(alloc, design, &clocks)?;
     untraced(alloc, &all, &roots, &resets)
 }

@@ -23,10 +23,7 @@ use std::alloc::{AllocError, Global};
 fn is_flip_flop(kind: Kind) -> bool
     ensures { result ≡ flip_flops.is_flip_flop kind }
 {
-    match kind {
-        Kind::Dff | Kind::Dffr | Kind::Dffs | Kind::Sdff | Kind::Sdffr | Kind::Sdffs => true,
-        _ => false,
-    }
+    matches!(kind, Kind::Flop(_))
 }
 
 // The flip-flop whose bit, or the inverse of it, a net has, if it has one.

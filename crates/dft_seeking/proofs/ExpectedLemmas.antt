@@ -12,13 +12,13 @@ use Rattle.dft_base.specs.declared.tri.Tri.TheVariants.{One, Unknown}
 use Rattle.dft_cells.specs.declared.kind.Role.TheVariants as role
 use Rattle.dft_netlist.specs.declared.ids.InstanceId.{InstanceId}
 use Rattle.dft_netlist.specs.Netlist.{Netlist}
-use Rattle.dft_netlist.specs.Connections.{input_net}
+use Rattle.dft_netlist.specs.Connections.{input_net, pin_of}
 use Rattle.dft_netlist.specs.Drivers.{Source, Driver, driver, pins_of}
 use Rattle.dft_netlist.specs.Drivers as drivers
-use Rattle.dft_netlist.specs.Logic.{Cell, Clock, Flop, Free, Input, Logic, Scan, flip_flop, flop_meaning, meaning_of, or_loose, pin_of, scan_of}
-use Rattle.dft_netlist.specs.Runs.{Vector, takes}
-use Rattle.dft_netlist.specs.Settled.{inverse, value_from, value_given}
-use Rattle.dft_netlist.proofs.StoredLemmas.{flop_cell, lockup_kind}
+use Rattle.dft_behavior.specs.Logic.{Cell, Clock, Flop, Free, Input, Logic, Scan, flip_flop, flop_meaning, meaning_of, or_loose, scan_of}
+use Rattle.dft_behavior.specs.Runs.{Vector, takes}
+use Rattle.dft_behavior.specs.Settled.{inverse, value_from, value_given}
+use Rattle.dft_behavior.proofs.StoredLemmas.{flop_cell, lockup_kind}
 use Rattle.dft_abstract.specs.Cycle.{strobe_sources, tri_forced_by, tri_taken_by}
 use Rattle.dft_abstract.specs.Laws.{next_from}
 use Rattle.dft_config.specs.Config.{Config}

@@ -1,5 +1,5 @@
 -- At the reset and set pins of a scanned flip-flop stands 1 in a capture, where they do not act.
-use Rattle.std.proofs.Common.{ℕ, zero, suc, ◌≡◌, ◌∙◌, ◌⊎◌, inl, inr, Bool, true, false, List, [], ◌∷◌, map, Option, None, Some, slice_get, refl, sym, ap, subst}
+use Rattle.std.proofs.Common.{ℕ, zero, suc, ◌≡◌, ◌∙◌, ◌⊎◌, inl, inr, Bool, true, false, List, [], ◌∷◌, map, Option, None, Some, slice_get, refl, sym, ap, subst, not, ◌++◌}
 use Rattle.std.specs.Prelude.{if◌then◌else◌}
 use Rattle.std.specs.List.{AllByRecursion}
 use Rattle.std.proofs.lemmas.Option.{none-some}
@@ -9,11 +9,15 @@ use Rattle.dft_base.specs.Tri.{known, join}
 use Rattle.dft_cells.specs.declared.cell.Cell as declared
 use Rattle.dft_cells.specs.declared.kind.Kind.{Kind}
 use Rattle.dft_cells.specs.declared.kind.Kind.TheVariants as kind
+use Rattle.dft_cells.specs.declared.kind.Forcing.{Forcing}
+use Rattle.dft_cells.specs.declared.kind.Forcing.TheVariants as force
+use Rattle.dft_cells.specs.declared.kind.Gate.{Gate}
+use Rattle.dft_cells.specs.declared.kind.Gate.TheVariants as gate
 use Rattle.dft_cells.specs.declared.kind.Role.{Role}
 use Rattle.dft_cells.specs.declared.kind.Role.TheVariants as role
 use Rattle.dft_cells.specs.Gates.{bit_of, completing, shared, tri_of}
 use Rattle.dft_cells.specs.FlipFlops.{tri_forced}
-use Rattle.dft_cells.specs.WellFormed.{FlipFlopRoles, HasRoles, IsWellFormed}
+use Rattle.dft_cells.specs.WellFormed.{front_roles, HasRoles, IsWellFormed}
 use Rattle.dft_cells.proofs.TriLemmas.{forced_one}
 use Rattle.dft_netlist.specs.declared.instance.Signal.{Signal}
 use Rattle.dft_netlist.specs.declared.instance.Instance.{Instance}
@@ -22,10 +26,11 @@ use Rattle.dft_netlist.specs.declared.instance.CellRef.TheVariants as cell_ref
 use Rattle.dft_netlist.specs.Netlist.{Netlist}
 use Rattle.dft_netlist.specs.Drivers.{Source, Driver, connections_from, driver, gate_roles, kind_at, kind_of, pins_at, pins_of, shape_of, shape_of_cell, source_of}
 use Rattle.dft_netlist.specs.Drivers as drivers
-use Rattle.dft_netlist.specs.Logic.{Clock, Force, Input, force_of, forcing, pin_of, same_role}
-use Rattle.dft_netlist.specs.Settled.{value_from, value_given}
-use Rattle.dft_netlist.specs.Traces.{Root, Port, Constant, Other, Traces, AtPort, AtConstant, AtTie, ThroughBuffer, ThroughJoin, Bit, From, passed_by_gate, root_of}
-use Rattle.dft_netlist.proofs.Walks.{constant_found, port_found}
+use Rattle.dft_netlist.specs.Connections.{pin_of, same_role}
+use Rattle.dft_behavior.specs.Logic.{Clock, Force, Input, force_of, forcing}
+use Rattle.dft_behavior.specs.Settled.{value_from, value_given}
+use Rattle.dft_behavior.specs.Traces.{Root, Port, Constant, Other, Traces, AtPort, AtConstant, AtTie, ThroughBuffer, ThroughJoin, Bit, From, passed_by_gate, root_of}
+use Rattle.dft_behavior.proofs.Walks.{constant_found, port_found}
 use Rattle.dft_config.specs.Range.{IsInRange}
 use Rattle.dft_rules.specs.ConfigPorts.{config_ports}
 use Rattle.dft_rules.specs.Rules.{may_be_scanned}
@@ -51,58 +56,24 @@ shared_same f c (t ∷ ts) same =
     shared_step (shared (λ bits. f (false ∷ bits)) ts) (shared (λ bits. f (true ∷ bits)) ts) c t (λ b. shared (λ bits. f (b ∷ bits)) ts) refl refl
     (shared_same (λ bits. f (false ∷ bits)) c ts (λ bits. same (false ∷ bits))) (shared_same (λ bits. f (true ∷ bits)) c ts (λ bits. same (true ∷ bits)))
 
-tie_value : (k : Kind) (inputs : List Source) (bit : Bool) (values : ℕ → Tri) → passed_by_gate k inputs ≡ Bit bit → tri_of k (map (value_from values) inputs) ≡ known bit
-tie_value kind.Tie0 inputs bit values is = let e : false ≡ bit = cc in shared_same (bit_of kind.Tie0) false (map (value_from values) inputs) (λ bits. refl) ∙ ap known e
-tie_value kind.Tie1 inputs bit values is = let e : true ≡ bit = cc in shared_same (bit_of kind.Tie1) true (map (value_from values) inputs) (λ bits. refl) ∙ ap known e
-tie_value kind.Buf [] bit values is = absurd cc
-tie_value kind.Buf (source ∷ []) bit values is = absurd cc
-tie_value kind.Buf (source ∷ more ∷ inputs) bit values is = absurd cc
-tie_value kind.Inv inputs bit values is = absurd cc
-tie_value kind.And inputs bit values is = absurd cc
-tie_value kind.Nand inputs bit values is = absurd cc
-tie_value kind.Or inputs bit values is = absurd cc
-tie_value kind.Nor inputs bit values is = absurd cc
-tie_value kind.Xor inputs bit values is = absurd cc
-tie_value kind.Xnor inputs bit values is = absurd cc
-tie_value kind.Mux2 inputs bit values is = absurd cc
-tie_value (kind.Table number) inputs bit values is = absurd cc
-tie_value kind.Dff inputs bit values is = absurd cc
-tie_value kind.Dffr inputs bit values is = absurd cc
-tie_value kind.Dffs inputs bit values is = absurd cc
-tie_value kind.Sdff inputs bit values is = absurd cc
-tie_value kind.Sdffr inputs bit values is = absurd cc
-tie_value kind.Sdffs inputs bit values is = absurd cc
-tie_value kind.Lockup inputs bit values is = absurd cc
-tie_value kind.Opaque inputs bit values is = absurd cc
+tie_value : (k : Gate) (inputs : List Source) (bit : Bool) (values : ℕ → Tri) → passed_by_gate k inputs ≡ Bit bit → tri_of k (map (value_from values) inputs) ≡ known bit
+tie_value gate.Tie0 inputs bit values is = let e : false ≡ bit = cc in shared_same (bit_of gate.Tie0) false (map (value_from values) inputs) (λ bits. refl) ∙ ap known e
+tie_value gate.Tie1 inputs bit values is = let e : true ≡ bit = cc in shared_same (bit_of gate.Tie1) true (map (value_from values) inputs) (λ bits. refl) ∙ ap known e
+tie_value gate.Buf [] bit values is = absurd cc
+tie_value gate.Buf (source ∷ []) bit values is = absurd cc
+tie_value gate.Buf (source ∷ more ∷ inputs) bit values is = absurd cc
+tie_value _ inputs bit values is = absurd cc
 
-passed_value : (t : Tri) → tri_of kind.Buf (t ∷ []) ≡ t
+passed_value : (t : Tri) → tri_of gate.Buf (t ∷ []) ≡ t
 passed_value Zero = refl
 passed_value One = refl
 passed_value Unknown = refl
 
-buffer_value : (k : Kind) (inputs : List Source) (source : Source) (values : ℕ → Tri) → passed_by_gate k inputs ≡ From source → tri_of k (map (value_from values) inputs) ≡ value_from values source
-buffer_value kind.Buf [] source values is = absurd cc
-buffer_value kind.Buf (one ∷ []) source values is = let e : one ≡ source = cc in passed_value (value_from values one) ∙ ap (value_from values) e
-buffer_value kind.Buf (one ∷ more ∷ inputs) source values is = absurd cc
-buffer_value kind.Tie0 inputs source values is = absurd cc
-buffer_value kind.Tie1 inputs source values is = absurd cc
-buffer_value kind.Inv inputs source values is = absurd cc
-buffer_value kind.And inputs source values is = absurd cc
-buffer_value kind.Nand inputs source values is = absurd cc
-buffer_value kind.Or inputs source values is = absurd cc
-buffer_value kind.Nor inputs source values is = absurd cc
-buffer_value kind.Xor inputs source values is = absurd cc
-buffer_value kind.Xnor inputs source values is = absurd cc
-buffer_value kind.Mux2 inputs source values is = absurd cc
-buffer_value (kind.Table number) inputs source values is = absurd cc
-buffer_value kind.Dff inputs source values is = absurd cc
-buffer_value kind.Dffr inputs source values is = absurd cc
-buffer_value kind.Dffs inputs source values is = absurd cc
-buffer_value kind.Sdff inputs source values is = absurd cc
-buffer_value kind.Sdffr inputs source values is = absurd cc
-buffer_value kind.Sdffs inputs source values is = absurd cc
-buffer_value kind.Lockup inputs source values is = absurd cc
-buffer_value kind.Opaque inputs source values is = absurd cc
+buffer_value : (k : Gate) (inputs : List Source) (source : Source) (values : ℕ → Tri) → passed_by_gate k inputs ≡ From source → tri_of k (map (value_from values) inputs) ≡ value_from values source
+buffer_value gate.Buf [] source values is = absurd cc
+buffer_value gate.Buf (one ∷ []) source values is = let e : one ≡ source = cc in passed_value (value_from values one) ∙ ap (value_from values) e
+buffer_value gate.Buf (one ∷ more ∷ inputs) source values is = absurd cc
+buffer_value _ inputs source values is = absurd cc
 
 -- ---- what traces to a reset port or to constant 1
 
@@ -166,39 +137,21 @@ gate_lacks : (inputs : ℕ) → Lacks role.Reset (gate_roles inputs)
 gate_lacks zero = (refl, tt)
 gate_lacks (suc inputs) = (refl, gate_lacks inputs)
 
-plain_lacks : (roles : List Role) → FlipFlopRoles (role.Clock ∷ role.Din ∷ []) roles → LacksOne roles
-plain_lacks roles (inl e) = subst LacksOne (sym e) (inl (refl, (refl, (refl, tt))))
-plain_lacks roles (inr e) = subst LacksOne (sym e) (inl (refl, (refl, (refl, (refl, tt)))))
+front_lacks : (its : Forcing) (rest : List Role) → Lacks role.Reset rest → Lacks role.Preset rest → LacksOne (front_roles (record { force = its; scan = false }) ++ rest)
+front_lacks force.Nothing rest h g = inl (refl, (refl, h))
+front_lacks force.Reset rest h g = inr (refl, (refl, (refl, g)))
+front_lacks force.Set rest h g = inl (refl, (refl, (refl, h)))
 
-reset_lacks : (roles : List Role) → FlipFlopRoles (role.Clock ∷ role.Din ∷ role.Reset ∷ []) roles → LacksOne roles
-reset_lacks roles (inl e) = subst LacksOne (sym e) (inr (refl, (refl, (refl, (refl, tt)))))
-reset_lacks roles (inr e) = subst LacksOne (sym e) (inr (refl, (refl, (refl, (refl, (refl, tt))))))
-
-set_lacks : (roles : List Role) → FlipFlopRoles (role.Clock ∷ role.Din ∷ role.Preset ∷ []) roles → LacksOne roles
-set_lacks roles (inl e) = subst LacksOne (sym e) (inl (refl, (refl, (refl, (refl, tt)))))
-set_lacks roles (inr e) = subst LacksOne (sym e) (inl (refl, (refl, (refl, (refl, (refl, tt))))))
+flop_lacks : (its : Forcing) (scan : Bool) (roles : List Role) → not scan ≡ true → HasRoles (kind.Flop (record { force = its; scan = scan })) roles → LacksOne roles
+flop_lacks its true roles may has = absurd cc
+flop_lacks its false roles may (inl e) = subst LacksOne (sym e) (front_lacks its (role.Output ∷ []) (refl, tt) (refl, tt))
+flop_lacks its false roles may (inr e) = subst LacksOne (sym e) (front_lacks its (role.Output ∷ role.Inverted ∷ []) (refl, (refl, tt)) (refl, (refl, tt)))
 
 kind_lacks : (k : Kind) (roles : List Role) → may_be_scanned k ≡ true → HasRoles k roles → LacksOne roles
-kind_lacks kind.Dff roles may has = plain_lacks roles has
-kind_lacks kind.Dffr roles may has = reset_lacks roles has
-kind_lacks kind.Dffs roles may has = set_lacks roles has
-kind_lacks kind.Sdff roles may has = absurd cc
-kind_lacks kind.Sdffr roles may has = absurd cc
-kind_lacks kind.Sdffs roles may has = absurd cc
+kind_lacks (kind.Flop flop) roles may has = flop_lacks flop.force flop.scan roles may has
+kind_lacks (kind.Gate gate) roles may has = absurd cc
 kind_lacks kind.Lockup roles may has = absurd cc
 kind_lacks kind.Opaque roles may has = absurd cc
-kind_lacks kind.Buf roles may has = absurd cc
-kind_lacks kind.Inv roles may has = absurd cc
-kind_lacks kind.And roles may has = absurd cc
-kind_lacks kind.Nand roles may has = absurd cc
-kind_lacks kind.Or roles may has = absurd cc
-kind_lacks kind.Nor roles may has = absurd cc
-kind_lacks kind.Xor roles may has = absurd cc
-kind_lacks kind.Xnor roles may has = absurd cc
-kind_lacks kind.Mux2 roles may has = absurd cc
-kind_lacks (kind.Table number) roles may has = absurd cc
-kind_lacks kind.Tie0 roles may has = absurd cc
-kind_lacks kind.Tie1 roles may has = absurd cc
 
 cell_lacks : (library : List declared.Cell) (id : ℕ) (o : Option declared.Cell) → IsWellFormed library → slice_get library id ≡ o → may_be_scanned (shape_of_cell o).kind ≡ true → LacksOne (shape_of_cell o).roles
 cell_lacks library id None well at may = absurd cc

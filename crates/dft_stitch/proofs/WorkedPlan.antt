@@ -1,6 +1,6 @@
 -- The chains of a netlist with two clocks, worked by hand.
 use Rattle.std.proofs.Common.{◌≡◌, ℕ, Bool, true, false, List, [], ◌∷◌, Option, Some, None, refl}
-use Rattle.dft_cells.specs.declared.kind.Kind.TheVariants.{Inv}
+use Rattle.dft_cells.specs.declared.kind.Gate.TheVariants.{Inv}
 use Rattle.dft_netlist.specs.declared.ids.InstanceId.{InstanceId}
 use Rattle.dft_rules.specs.declared.judged.Judged.{Judged}
 use Rattle.dft_rules.specs.declared.judged.Judged.TheVariants.{Scanned}

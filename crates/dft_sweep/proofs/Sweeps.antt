@@ -7,8 +7,8 @@ use Rattle.std.proofs.lemmas.List.{get_or_past, drop_all, length-set}
 use Rattle.dft_base.specs.declared.tri.Tri.{Tri}
 use Rattle.dft_base.specs.declared.tri.Tri.TheVariants.{Unknown}
 use Rattle.dft_cells.specs.Gates.{tri_of}
-use Rattle.dft_netlist.specs.Logic.{Meaning, Input, Clock, Gate, Joined, Flop, Lockup, Free, reads}
-use Rattle.dft_netlist.specs.Settled.{TriSources, value_given}
+use Rattle.dft_behavior.specs.Logic.{Meaning, Input, Clock, Gate, Joined, Flop, Lockup, Free, reads}
+use Rattle.dft_behavior.specs.Settled.{TriSources, value_given}
 use Rattle.dft_netlist.specs.Orders.{Has}
 use Rattle.dft_netlist.proofs.ListingLemmas.{has_item, has_front, all_other}
 use Rattle.dft_logic.specs.declared.circuit.Op.{Op}

@@ -3,8 +3,8 @@ use Rattle.std.specs.Prelude.{ℕ, Bool, true, ◌≡◌, ◌==◌, List, Option
 use Rattle.dft_base.specs.declared.tri.Tri.{Tri}
 use Rattle.dft_base.specs.declared.tri.Tri.TheVariants.{Zero, One, Unknown}
 use Rattle.dft_netlist.specs.Drivers.{Tied}
-use Rattle.dft_netlist.specs.Logic.{Meaning, Joined}
-use Rattle.dft_netlist.specs.Settled.{TriSources, value_given}
+use Rattle.dft_behavior.specs.Logic.{Meaning, Joined}
+use Rattle.dft_behavior.specs.Settled.{TriSources, value_given}
 use Rattle.dft_logic.specs.Circuit.{flag_at, meaning, op_at}
 use Rattle.dft_logic.specs.Values.{value_at}
 use Rattle.dft_sweep.specs.declared.field.Field.{Field}

@@ -3,15 +3,15 @@
 ghost use Rattle.std.specs.Prelude.{◌≡◌, ◌≤◌, length, map, take, if◌then◌else◌};
 ghost use Rattle.dft_cells.specs.Gates as gates;
 ghost use Rattle.dft_cells.specs.WellFormed.{TakesInputs};
-ghost use Rattle.dft_netlist.specs.Settled as settled;
-ghost use Rattle.dft_netlist.specs.Settled.{value_from, value_given};
+ghost use Rattle.dft_behavior.specs.Settled as settled;
+ghost use Rattle.dft_behavior.specs.Settled.{value_from, value_given};
 ghost use Rattle.dft_logic.specs.Circuit.{Fits, meaning, source_at};
 ghost use Rattle.dft_logic.specs.Values as spec;
 ghost use Rattle.dft_sweep.specs.Fields.{cell_shown, port_shown, sources_of};
 
 use crate::field::Sources;
 use dft_base::Tri;
-use dft_cells::{Kind, tri_of};
+use dft_cells::{Gate, tri_of};
 use dft_logic::{Op, Operand, Operands, flag_at, value_at};
 use dft_netlist::NetId;
 
@@ -29,7 +29,7 @@ fn gather(inputs: &[Operand], values: &[Tri], row: &mut [Tri])
 }
 
 // The value of a gate with any number of inputs.
-fn value_of_many(kind: Kind, inputs: &[Operand], values: &[Tri]) -> Tri
+fn value_of_many(kind: Gate, inputs: &[Operand], values: &[Tri]) -> Tri
     requires { TakesInputs kind (length inputs.now) }
     ensures { result ≡ gates.tri_of kind (map (value_from (spec.value_at values.now)) (map source_at inputs.now)) }
 {
@@ -39,7 +39,7 @@ fn value_of_many(kind: Kind, inputs: &[Operand], values: &[Tri]) -> Tri
 }
 
 // The value of a gate. Most gates have two or three inputs, which need no room in between.
-fn gate_value(kind: Kind, inputs: &Operands, values: &[Tri]) -> Tri
+fn gate_value(kind: Gate, inputs: &Operands, values: &[Tri]) -> Tri
     requires { TakesInputs kind (length inputs.now) }
     ensures { result ≡ gates.tri_of kind (map (value_from (spec.value_at values.now)) (map source_at inputs.now)) }
 {

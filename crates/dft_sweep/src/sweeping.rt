@@ -1,9 +1,9 @@
 //! From the settled values of some sources to those of others: what differs is marked and evaluated.
 
 ghost use Rattle.std.specs.Prelude.{◌≡◌, ◌⊎◌, ℕ, ◌<◌, ◌≤◌, ◌+◌, ◌*◌, length, true, false};
-ghost use Rattle.dft_netlist.specs.Logic.{reads};
+ghost use Rattle.dft_behavior.specs.Logic.{reads};
 ghost use Rattle.dft_netlist.specs.Orders.{Has};
-ghost use Rattle.dft_netlist.specs.Settled.{value_given};
+ghost use Rattle.dft_behavior.specs.Settled.{value_given};
 ghost use Rattle.dft_logic.specs.Circuit.{meaning, op_at, flag_at as is_up};
 ghost use Rattle.dft_logic.specs.Values as spec;
 ghost use Rattle.dft_sweep.specs.Places.{AreBusy, ArePlaces};

@@ -2,9 +2,10 @@
 
 use dft_base::Name;
 use dft_cells::Library;
-use dft_config::Config;
+use dft_config::{Config, FillRule};
 use dft_cubes::{Cube, CubeError, read};
 use dft_netlist::Design;
+use dft_test_configs::{Shape, config_of};
 use dft_verilog::read as read_netlist;
 use std::alloc::{AllocError, Global};
 use std::test::Fail;
@@ -13,8 +14,21 @@ use std::test::Fail;
 static NETLIST: &[u8] =
     b"module m (clk, rst, a, v, y); input clk, rst, a; input [1:0] v; output y; DFF f0 (.CK(clk), .D(a), .Q(q0)); DFF f1 (.CK(clk), .D(q0), .Q(q1)); DFFR f2 (.CK(clk), .D(q1), .RN(rst), .Q(y)); INV g (.A(q1), .Y(n)); endmodule";
 
-static CONFIG: &[u8] =
-    b"version = 1\ndomains = ['clk']\nresets = ['rst']\nchains = 1\nwarm = 0\nwindow = 1\nring = { stages = 2, channels = 1, taps = [], injectors = [], phase = [[0]] }\ncompactor = { groups = [[0]], mask_inputs = 1 }\n";
+static CONFIG: Shape = Shape {
+    domains: &["clk"],
+    resets: &["rst"],
+    chains: 1,
+    warm: 0,
+    window: 1,
+    fill: FillRule::Zeros,
+    stages: 2,
+    channels: 1,
+    taps: &[],
+    injectors: &[],
+    phase: &[&[0]],
+    groups: &[&[0]],
+    mask_inputs: 1,
+};
 
 static CASES: [(&str, &str); 9] = [
     // a text, and its cubes with cells and ports by number
@@ -109,10 +123,8 @@ fn line_for(alloc: Global, text: &[u8]) -> Result<String, AllocError> {
 }
 
 fn line_in(alloc: Global, text: &[u8], design: &Design) -> Result<String, AllocError> {
-    match Config::read(alloc, CONFIG) {
-        Ok(config) => line_of(alloc, text, design, &config),
-        Err(_) => String::from_str(alloc, "no configuration"),
-    }
+    let config = config_of(alloc, &CONFIG)?;
+    line_of(alloc, text, design, &config)
 }
 
 #[test]

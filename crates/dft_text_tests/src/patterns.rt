@@ -1,10 +1,10 @@
 //! Pattern texts that were worked by hand, and the written form read back.
 
 use crate::pattern_lines::{letters, line_of};
+use dft_base::name_of;
 use dft_netlist::Dir;
 use dft_patterns::{Act, Acts, Note, NoteKind, PatternSet, StilSignal};
 use dft_stil_out::write;
-use dft_toml::name_of;
 use std::alloc::{AllocError, Global};
 use std::test::Fail;
 

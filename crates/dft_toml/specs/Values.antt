@@ -1,30 +1,8 @@
 -- What the keys of a table hold.
-use Rattle.std.specs.Prelude.{ℕ, ℤ, Bool, true, false, ◌&&◌, ◌||◌, List, [], ◌∷◌, map, length, Option, Some, None, is_some, option_map, option_and_then, nat_lt, if◌then◌else◌}
+use Rattle.std.specs.Prelude.{ℕ, ℤ, Bool, true, false, ◌&&◌, ◌||◌, List, [], ◌∷◌, Option, Some, None, is_some, option_map, option_and_then}
 use Rattle.std.specs.Str.{bytes_eq}
-pub use Rattle.dft_base.specs.Bytes.{is_printed}
+use Rattle.dft_base.specs.Names.{name_of}
 use Rattle.toml.specs.Data.{Data, Items, no_items, item, Members, no_members, member, get_member, as_str, as_integer, as_array, as_table}
-
--- whether each byte is printed
-abbrev pub all_printed : List ℕ → Bool
-all_printed [] = true
-all_printed (byte ∷ bytes) = is_printed byte && all_printed bytes
-
--- whether the bytes are a name: at least one byte, each printed and no blank
-abbrev pub is_name : List ℕ → Bool
-is_name bytes = nat_lt 0 (length bytes) && all_printed bytes
-
--- the name with these bytes, where they are one
-abbrev pub name_of : List ℕ → Option (List ℕ)
-name_of bytes = if is_name bytes then Some bytes else None
-
--- a byte as it is shown: itself where it is printed, otherwise `?`
-abbrev pub shown : ℕ → ℕ
-shown byte = if is_printed byte then byte else 63
-
--- bytes as they are shown in a refusal; no byte at all is shown as `?`
-abbrev pub printable : List ℕ → List ℕ
-printable [] = 63 ∷ []
-printable (byte ∷ bytes) = map shown (byte ∷ bytes)
 
 -- the text, the number or the name at a key
 abbrev pub text_at : List ℕ → Members → Option (List ℕ)

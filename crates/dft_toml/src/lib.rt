@@ -3,12 +3,10 @@
 
 mod keys;
 mod lookup;
-mod name;
 mod text;
 
 pub use keys::{has_only, has_word};
 pub use lookup::{
     has_key, integer_at, name_at, names_at, names_of_value, table_at, text_at, value_at, value_in,
 };
-pub use name::{Names, is_name, name_of, printable};
 pub use text::{TableError, read_table};

@@ -3,8 +3,7 @@ ghost use Rattle.toml.specs.View.{view, array_view, table_view};
 ghost use Rattle.toml.specs.Data.{as_array, get_member};
 ghost use Rattle.dft_toml.specs.Values as spec;
 
-use crate::name::{Names, name_of};
-use dft_base::Name;
+use dft_base::{Name, Names, name_of};
 use std::alloc::{AllocError, Global};
 use toml::value::Array;
 use toml::{Table, Value};

@@ -4,14 +4,17 @@ ghost use Rattle.dft_toml.specs.Text.{IsTable, IsRefused};
 ghost use Rattle.dft_toml.specs.declared.text.TableError.TheVariants.{Memory};
 
 use std::alloc::{AllocError, Global};
+use thiserror::Error;
 use toml::Table;
 
 /// Why bytes give no table.
-#[derive(Clone, Copy, Debug, PartialEq, Eq)]
+#[derive(Clone, Copy, Debug, PartialEq, Eq, Error)]
 pub enum TableError {
     /// They are no TOML text.
+    #[error("no TOML text")]
     NotToml,
     /// There is no memory left.
+    #[error("out of memory")]
     Memory(AllocError),
 }
 

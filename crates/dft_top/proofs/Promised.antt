@@ -5,7 +5,7 @@ use Rattle.dft_files.specs.Outside.{Held, Told, ToldChange, file_at}
 use Rattle.dft_cells.specs.declared.cell.Cell.{Cell}
 use Rattle.dft_config.specs.Config.{Config}
 use Rattle.dft_config.specs.Range.{IsInRange}
-use Rattle.dft_config.specs.Refusals.{IsConfig}
+use Rattle.dft_config_text.specs.Refusals.{IsConfig}
 use Rattle.dft_answers.specs.Texts.{FileGives}
 use Rattle.dft_netlist.specs.Netlist.{Netlist}
 use Rattle.dft_netlist.specs.Drivers.{IsOrdered}

@@ -2,18 +2,18 @@
 use Rattle.std.proofs.Common.{ℕ, ◌≡◌, ◌⊎◌, inl, inr, List, length, codes, refl, sym, ap, ◌∙◌, arith, Option, None, Some, Result, Ok, Err, subst}
 use Rattle.dft_config_out_laws.proofs.TextRead.{config_one, table_one}
 use Rattle.dft_files.specs.Outside.{Held, file_at}
-use Rattle.dft_cells.specs.Data.{Members}
-use Rattle.dft_cells.specs.Text.{IsTable, IsNoTable}
+use Rattle.dft_library_text.specs.Data.{Members}
+use Rattle.dft_library_text.specs.Text.{IsTable, IsNoTable}
 use Rattle.dft_cells.specs.declared.cell.Cell.{Cell}
-use Rattle.dft_cells.specs.declared.refusal.LibraryError.{LibraryError}
-use Rattle.dft_cells.specs.declared.refusal.LibraryError.TheVariants as library
-use Rattle.dft_cells.specs.Reading.{library_of, IsLibraryOf, FirstFails, IsRefusedAs}
+use Rattle.dft_library_text.specs.declared.refusal.LibraryError.{LibraryError}
+use Rattle.dft_library_text.specs.declared.refusal.LibraryError.TheVariants as library
+use Rattle.dft_library_text.specs.Reading.{library_of, IsLibraryOf, FirstFails, IsRefusedAs}
 use Rattle.dft_config.specs.Config.{Config}
-use Rattle.dft_config.specs.declared.error.ConfigError.{ConfigError}
-use Rattle.dft_config.specs.declared.error.ConfigError.TheVariants as config
-use Rattle.dft_config.specs.Reading.{reading}
-use Rattle.dft_config.specs.Refusals.{IsConfig, TellsFault, told}
-use Rattle.dft_config.specs.Refusals as refusals
+use Rattle.dft_config_text.specs.declared.error.ConfigError.{ConfigError}
+use Rattle.dft_config_text.specs.declared.error.ConfigError.TheVariants as config
+use Rattle.dft_config_text.specs.Reading.{reading}
+use Rattle.dft_config_text.specs.Refusals.{IsConfig, TellsFault, told}
+use Rattle.dft_config_text.specs.Refusals as refusals
 use Rattle.dft_netlist.specs.declared.error.NetlistError.TheVariants as netlist
 use Rattle.dft_netlist.specs.Netlist.{Netlist}
 use Rattle.dft_verilog.specs.declared.error.VerilogError.TheVariants as verilog

@@ -3,14 +3,14 @@ use Rattle.std.specs.List.{All}
 use Rattle.std.specs.Prelude.{ℕ, ◌<◌, ◌≤◌, ◌^◌, ◌≡◌, List, codes, length, Option, None, Some, option_map, [], ◌∷◌, Result, Ok, Err}
 use Rattle.dft_files.specs.Outside.{Held, file_at}
 use Rattle.dft_cells.specs.declared.cell.Cell.{Cell}
-use Rattle.dft_cells.specs.declared.refusal.LibraryError.{LibraryError}
+use Rattle.dft_library_text.specs.declared.refusal.LibraryError.{LibraryError}
 use Rattle.dft_cells.specs.Standard.{standard_cells}
-use Rattle.dft_cells.specs.Reading.{IsLibraryOf, IsRefusedAs}
+use Rattle.dft_library_text.specs.Reading.{IsLibraryOf, IsRefusedAs}
 use Rattle.dft_config.specs.Config.{Config}
-use Rattle.dft_config.specs.declared.error.ConfigError.{ConfigError}
+use Rattle.dft_config_text.specs.declared.error.ConfigError.{ConfigError}
 use Rattle.dft_config.specs.Range.{IsInRange}
-use Rattle.dft_config.specs.Refusals.{IsConfig}
-use Rattle.dft_config.specs.Refusals as config
+use Rattle.dft_config_text.specs.Refusals.{IsConfig}
+use Rattle.dft_config_text.specs.Refusals as config
 use Rattle.dft_netlist.specs.Netlist.{Netlist}
 use Rattle.dft_netlist.specs.Orders.{IsOrder}
 use Rattle.dft_netlist.specs.Sound.{IsNetlist}

@@ -43,7 +43,7 @@ use Rattle.dft_configuring.specs.declared.wanted.Wanted.{Wanted}
 use Rattle.dft_configuring.specs.Configured.{IsConfigured}
 use Rattle.dft_configuring.specs.Refusals as unmade
 use Rattle.dft_configuring.specs.Wanted.{IsWanted}
-use Rattle.dft_toml.specs.Values.{printable}
+use Rattle.dft_base.specs.Names.{printable}
 use Rattle.dft_cubes.specs.Cubes.{domain_named}
 use Rattle.dft_cubes_out.specs.Written.{cubes_text}
 use Rattle.dft_seeking.specs.declared.error.SeekError.{SeekError}

@@ -25,7 +25,7 @@ pub fn library_in(alloc: Global, text: &[u8]) -> Result<Library, Stop>
     requires { length text.now ≤ MAX_LIBRARY_BYTES }
     ensures { IsGiven (LibraryText text.now) result }
 {
-    match Library::read(alloc, text) {
+    match dft_library_text::read(alloc, text) {
         Ok(library) => Ok(library),
         Err(error) => Err(Stop::Refused(library_refusal(error)?)),
     }
@@ -36,7 +36,7 @@ pub fn config_in(alloc: Global, text: &[u8]) -> Result<Config, Stop>
     requires { length text.now ≤ MAX_CONFIG_BYTES }
     ensures given { IsGiven (ConfigText text.now) result }
 {
-    match Config::read(alloc, text) {
+    match dft_config_text::read(alloc, text) {
         Ok(config) => Ok(config),
         Err(error) => Err(Stop::Refused(config_refusal(error)?)),
     }

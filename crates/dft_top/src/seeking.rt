@@ -14,7 +14,7 @@ ghost use Rattle.dft_top.specs.Follows.{ComesTo, Follows};
 
 use crate::loading::{load_config, load_library, load_netlist};
 use dft_answers::{Code, Outcome, Refusal, Stop, Work, compile_refusal, seek_refusal};
-use dft_base::Listed;
+use dft_base::{Listed, printable};
 use dft_command_line::SeekFiles;
 use dft_compile::CompileError;
 use dft_config::Config;
@@ -22,7 +22,6 @@ use dft_files::Files;
 use dft_netlist::Design;
 use dft_seeking::{Sought, seek};
 use dft_stitch::Planned;
-use dft_toml::printable;
 use std::alloc::Global;
 
 /// What a search of test cubes over the named files comes to: the library comes first, where one is named, then the configuration, then the

@@ -2,7 +2,7 @@ ghost use Rattle.std.specs.Prelude.{IsTrue};
 ghost use Rattle.dft_cells.specs.Pins.{TakesInputs};
 
 use dft_base::Tri;
-use dft_cells::{CellId, Kind, Library, bit_of, tri_of};
+use dft_cells::{CellId, DFF, Gate, Kind, Library, bit_of, tri_of};
 use std::test::Fail;
 
 // A name, and the standard cell of that name.
@@ -15,9 +15,9 @@ static NAMED: [(&str, Option<CellId>); 4] = [
 
 // A kind, and the first standard cell of that kind.
 static FIRST: [(Kind, Option<CellId>); 3] = [
-    (Kind::Dff, Some(CellId(5))),
+    (DFF, Some(CellId(5))),
     (Kind::Lockup, Some(CellId(10))),
-    (Kind::Table(6), None),
+    (Kind::Gate(Gate::Table(6)), None),
 ];
 
 // The first name that is not found as it should be.
@@ -49,66 +49,66 @@ fn the_standard_cells_are_found(rt: HostRuntime) -> Result<(), Fail> {
     Ok(())
 }
 
-// A kind, its inputs, and its bit.
-static BITS: [(Kind, &[bool], bool); 7] = [
-    (Kind::Mux2, &[false, true, true], true),
-    (Kind::Mux2, &[false, true, false], false),
-    (Kind::Nor, &[false, true, false], false),
-    (Kind::Xnor, &[true, true, false, true], false),
-    (Kind::Table(0b0010), &[true, false], true),
-    (Kind::Table(0b0010), &[false, true], false),
-    (Kind::Tie1, &[], true),
+// A gate, its inputs, and its bit.
+static BITS: [(Gate, &[bool], bool); 7] = [
+    (Gate::Mux2, &[false, true, true], true),
+    (Gate::Mux2, &[false, true, false], false),
+    (Gate::Nor, &[false, true, false], false),
+    (Gate::Xnor, &[true, true, false, true], false),
+    (Gate::Table(0b0010), &[true, false], true),
+    (Gate::Table(0b0010), &[false, true], false),
+    (Gate::Tie1, &[], true),
 ];
 
-// Whether a kind is one of those tested here, and takes so many inputs.
-fn is_tested(kind: Kind, inputs: usize) -> bool
-    ensures { IsTrue result → TakesInputs kind inputs }
+// Whether a gate is one of those tested here, and takes so many inputs.
+fn is_tested(gate: Gate, inputs: usize) -> bool
+    ensures { IsTrue result → TakesInputs gate inputs }
 {
-    match kind {
-        Kind::Nand | Kind::Nor | Kind::Xor | Kind::Xnor => 1 <= inputs && inputs <= 8,
-        Kind::Table(_) => 1 <= inputs && inputs <= 6,
-        Kind::Mux2 => inputs == 3,
-        Kind::Tie1 => inputs == 0,
+    match gate {
+        Gate::Nand | Gate::Nor | Gate::Xor | Gate::Xnor => 1 <= inputs && inputs <= 8,
+        Gate::Table(_) => 1 <= inputs && inputs <= 6,
+        Gate::Mux2 => inputs == 3,
+        Gate::Tie1 => inputs == 0,
         _ => false,
     }
 }
 
-// The bit of a tested kind that takes these inputs.
-fn bit(kind: Kind, inputs: &[bool]) -> Option<bool> {
-    if !is_tested(kind, inputs.len()) {
+// The bit of a tested gate that takes these inputs.
+fn bit(gate: Gate, inputs: &[bool]) -> Option<bool> {
+    if !is_tested(gate, inputs.len()) {
         return None;
     }
-    Some(bit_of(kind, inputs))
+    Some(bit_of(gate, inputs))
 }
 
 #[test]
 fn gates_give_their_bits(rt: HostRuntime) {
-    for (kind, inputs, wanted) in &BITS {
-        assert_eq!(rt; bit(*kind, *inputs), Some(*wanted), "{kind:?}");
+    for (gate, inputs, wanted) in &BITS {
+        assert_eq!(rt; bit(*gate, *inputs), Some(*wanted), "{gate:?}");
     }
 }
 
-// A kind, its inputs, and what all their completions give.
-static TRIS: [(Kind, &[Tri], Tri); 6] = [
-    (Kind::Nand, &[Tri::Unknown, Tri::Zero], Tri::One),
-    (Kind::Nand, &[Tri::Unknown, Tri::One], Tri::Unknown),
-    (Kind::Xor, &[Tri::Unknown, Tri::Unknown], Tri::Unknown),
-    (Kind::Mux2, &[Tri::One, Tri::One, Tri::Unknown], Tri::One),
-    (Kind::Table(0b1010), &[Tri::One, Tri::Unknown], Tri::One),
-    (Kind::Table(0b0110), &[Tri::One, Tri::Unknown], Tri::Unknown),
+// A gate, its inputs, and what all their completions give.
+static TRIS: [(Gate, &[Tri], Tri); 6] = [
+    (Gate::Nand, &[Tri::Unknown, Tri::Zero], Tri::One),
+    (Gate::Nand, &[Tri::Unknown, Tri::One], Tri::Unknown),
+    (Gate::Xor, &[Tri::Unknown, Tri::Unknown], Tri::Unknown),
+    (Gate::Mux2, &[Tri::One, Tri::One, Tri::Unknown], Tri::One),
+    (Gate::Table(0b1010), &[Tri::One, Tri::Unknown], Tri::One),
+    (Gate::Table(0b0110), &[Tri::One, Tri::Unknown], Tri::Unknown),
 ];
 
-// What the completions of inputs that a tested kind takes give.
-fn tri(kind: Kind, inputs: &[Tri]) -> Option<Tri> {
-    if !is_tested(kind, inputs.len()) {
+// What the completions of inputs that a tested gate takes give.
+fn tri(gate: Gate, inputs: &[Tri]) -> Option<Tri> {
+    if !is_tested(gate, inputs.len()) {
         return None;
     }
-    Some(tri_of(kind, inputs))
+    Some(tri_of(gate, inputs))
 }
 
 #[test]
 fn completions_share_a_value_or_none(rt: HostRuntime) {
-    for (kind, inputs, wanted) in &TRIS {
-        assert_eq!(rt; tri(*kind, *inputs), Some(*wanted), "{kind:?}");
+    for (gate, inputs, wanted) in &TRIS {
+        assert_eq!(rt; tri(*gate, *inputs), Some(*wanted), "{gate:?}");
     }
 }

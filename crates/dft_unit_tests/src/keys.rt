@@ -1,6 +1,6 @@
+use dft_base::printable;
 use dft_toml::{
-    TableError, has_key, has_only, integer_at, name_at, names_at, printable, read_table, table_at,
-    text_at,
+    TableError, has_key, has_only, integer_at, name_at, names_at, read_table, table_at, text_at,
 };
 use std::alloc::{AllocError, Global};
 use std::test::Fail;

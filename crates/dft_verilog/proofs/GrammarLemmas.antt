@@ -6,7 +6,7 @@ use Rattle.dft_base.specs.declared.place.Range.{Range}
 use Rattle.dft_base.specs.Lexing.{Text}
 use Rattle.dft_base.specs.Parser as parser
 use Rattle.dft_base.specs.Parser.{Checked}
-use Rattle.dft_cells.specs.declared.kind.Kind.{Kind}
+use Rattle.dft_cells.specs.declared.kind.Gate.{Gate}
 use Rattle.dft_cells.specs.declared.cell.CellId.{CellId}
 use Rattle.dft_cells.specs.declared.cell.Cell.{Cell}
 use Rattle.dft_cells.specs.Cells.{find_cell}
@@ -320,7 +320,7 @@ inputs_all : (room : ℕ) (more : List Text) (d : Draft) → IsSaid room more d 
 unfolding input_terminals
 inputs_all room more d h ts = inputs_of room more (left ts) d [] h ts
 
-terminals_said : (k : Kind) (word : Option Text) (place : ℕ) (d : Draft) → IsSaid 1 (own_names word) d → (ts : List Token) → Yields (IsSaid 0 []) (terminals k word place d ts)
+terminals_said : (k : Gate) (word : Option Text) (place : ℕ) (d : Draft) → IsSaid 1 (own_names word) d → (ts : List Token) → Yields (IsSaid 0 []) (terminals k word place d ts)
 unfolding terminals
 terminals_said k word place d h ts =
     behind (SaidFirst 1 (own_names word)) (IsSaid 0 []) (terminal true d ts) _ (terminal_said 1 (own_names word) true d h ts) (λ output m us.
@@ -328,35 +328,35 @@ terminals_said k word place d h ts =
     passed (IsSaid 0 []) (expect kind.CloseParen vs) _ (λ w ws.
     of_need (IsSaid 0 []) _ place (takes_inputs k (length ins.1)) _ ws (instance_said (gate_instance k word output.1 ins.1) ins.0 n))))
 
-named_gate_said : (k : Kind) (d : Draft) → IsSaid 0 [] d → (ts : List Token) → Yields (IsSaid 0 []) (named_gate k d ts)
+named_gate_said : (k : Gate) (d : Draft) → IsSaid 0 [] d → (ts : List Token) → Yields (IsSaid 0 []) (named_gate k d ts)
 unfolding named_gate
 named_gate_said k d h ts =
     passed (IsSaid 0 []) (expect kind.Name ts) _ (λ word us.
     behind (IsSaid 1 (word ∷ [])) (IsSaid 0 []) (checked (name_instance (left ts) word d) us) _ (of_check (IsSaid 1 (word ∷ [])) (name_instance (left ts) word d) us (name_said (left ts) word d h)) (λ more m vs.
     passed (IsSaid 0 []) (expect kind.OpenParen vs) _ (λ w ws. terminals_said k (Some word) (left vs) more m ws)))
 
-unnamed_gate_said : (k : Kind) (d : Draft) → IsSaid 0 [] d → (ts : List Token) → Yields (IsSaid 0 []) (unnamed_gate k d ts)
+unnamed_gate_said : (k : Gate) (d : Draft) → IsSaid 0 [] d → (ts : List Token) → Yields (IsSaid 0 []) (unnamed_gate k d ts)
 unfolding unnamed_gate
 unnamed_gate_said k d h ts =
     passed (IsSaid 0 []) (expect kind.OpenParen ts) _ (λ w us.
     behind (IsSaid 1 []) (IsSaid 0 []) (checked (room_for_instance (left ts) d) us) _ (of_check (IsSaid 1 []) (room_for_instance (left ts) d) us (room_said (left ts) d h)) (λ more m vs. terminals_said k None (left ts) more m vs))
 
-one_gate_said : (k : Kind) (d : Draft) → IsSaid 0 [] d → (ts : List Token) → Yields (IsSaid 0 []) (one_gate k d ts)
+one_gate_said : (k : Gate) (d : Draft) → IsSaid 0 [] d → (ts : List Token) → Yields (IsSaid 0 []) (one_gate k d ts)
 unfolding one_gate
 one_gate_said k d h ts = either (IsSaid 0 []) (sees kind.Name ts) _ _ (named_gate_said k d h ts) (unnamed_gate_said k d h ts)
 
-gates_of : (n : ℕ) (k : Kind) (d : Draft) → IsSaid 0 [] d → (ts : List Token) → Yields (IsSaid 0 []) (gates_from n k d ts)
+gates_of : (n : ℕ) (k : Gate) (d : Draft) → IsSaid 0 [] d → (ts : List Token) → Yields (IsSaid 0 []) (gates_from n k d ts)
 unfolding gates_from
 gates_of zero k d h ts = tt
 gates_of (suc n) k d h ts =
     behind (IsSaid 0 []) (IsSaid 0 []) (one_gate k d ts) _ (one_gate_said k d h ts) (λ more m us.
     passed (IsSaid 0 []) (eat kind.Comma us) _ (λ comma vs. turns (IsSaid 0 []) comma more (gates_from n k more) m (λ ws. gates_of n k more m ws) vs))
 
-gates_all : (k : Kind) (d : Draft) → IsSaid 0 [] d → (ts : List Token) → Yields (IsSaid 0 []) (gates k d ts)
+gates_all : (k : Gate) (d : Draft) → IsSaid 0 [] d → (ts : List Token) → Yields (IsSaid 0 []) (gates k d ts)
 unfolding gates
 gates_all k d h ts = gates_of (left ts) k d h ts
 
-gate_item_said : (k : Kind) (d : Draft) → IsSaid 0 [] d → (ts : List Token) → Yields (IsSaid 0 []) (gate_item k d ts)
+gate_item_said : (k : Gate) (d : Draft) → IsSaid 0 [] d → (ts : List Token) → Yields (IsSaid 0 []) (gate_item k d ts)
 unfolding gate_item
 gate_item_said k d h ts =
     behind (IsSaid 0 []) (IsSaid 0 []) (gates k d (next ts)) _ (gates_all k d h (next ts)) (λ more m us.
@@ -433,7 +433,7 @@ cell_item_said d h ts = passed (IsSaid 0 []) (expect kind.Name ts) _ (λ word us
 
 -- ---- items
 
-gate_or_cell_said : (k : Option Kind) (d : Draft) → IsSaid 0 [] d → (ts : List Token) → Yields (IsSaid 0 []) (gate_or_cell k d ts)
+gate_or_cell_said : (k : Option Gate) (d : Draft) → IsSaid 0 [] d → (ts : List Token) → Yields (IsSaid 0 []) (gate_or_cell k d ts)
 gate_or_cell_said (Some k) d h ts = gate_item_said k d h ts
 gate_or_cell_said None d h ts = cell_item_said d h ts
 

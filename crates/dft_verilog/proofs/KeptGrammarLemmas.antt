@@ -10,7 +10,7 @@ use Rattle.dft_base.specs.Parser.{Checked, ◌>>=◌}
 use Rattle.dft_base.specs.Words.{is_reserved}
 use Rattle.std.specs.Char.{is_digit}
 use Rattle.dft_base.proofs.BitLemmas.{not_true}
-use Rattle.dft_cells.specs.declared.kind.Kind.{Kind}
+use Rattle.dft_cells.specs.declared.kind.Gate.{Gate}
 use Rattle.dft_cells.specs.declared.cell.CellId.{CellId}
 use Rattle.dft_cells.specs.declared.cell.Cell.{Cell}
 use Rattle.dft_cells.specs.Cells.{find_cell}
@@ -449,7 +449,7 @@ inputs_all : (start : Draft) (floor : ℕ) (d : Draft) → Keeps start floor d �
 unfolding input_terminals
 inputs_all start floor d h ts = inputs_of (left ts) start floor d [] h (no_bits (length d.nets) false) ts
 
-terminals_keep : (start : Draft) (floor : ℕ) (k : Kind) (word : Option Text) (place : ℕ) (d : Draft) → IsTrue (is_primitive k) → Keeps start floor d → (ts : List Token) → Goes (Keeps start floor) (terminals k word place d ts)
+terminals_keep : (start : Draft) (floor : ℕ) (k : Gate) (word : Option Text) (place : ℕ) (d : Draft) → IsTrue (is_primitive k) → Keeps start floor d → (ts : List Token) → Goes (Keeps start floor) (terminals k word place d ts)
 unfolding terminals
 terminals_keep start floor k word place d gate h ts =
     behind (OneBit start floor true) (Keeps start floor) (terminal true d ts) _ (terminal_keep start floor true d h ts) (λ output m us.
@@ -459,36 +459,36 @@ terminals_keep start floor k word place d gate h ts =
     instance_keep start floor (gate_instance k word output.1 ins.1) ins.0 (lower start floor (length output.0.nets) ins.0 m.0.many n.0)
     (gate_fits ins.0 k word ins.1 output.1 gate takes n.1 (bit_more (length output.0.nets) (length ins.0.nets) true output.1 n.0.many m.1))))))
 
-named_gate_keep : (start : Draft) (floor : ℕ) (k : Kind) (d : Draft) → IsTrue (is_primitive k) → Keeps start floor d → (ts : List Token) → Goes (Keeps start floor) (named_gate k d ts)
+named_gate_keep : (start : Draft) (floor : ℕ) (k : Gate) (d : Draft) → IsTrue (is_primitive k) → Keeps start floor d → (ts : List Token) → Goes (Keeps start floor) (named_gate k d ts)
 unfolding named_gate
 named_gate_keep start floor k d gate h ts =
     expected (Keeps start floor) kind.Name ts _ (λ word us.
     behind (Keeps start floor) (Keeps start floor) (checked (name_instance (left ts) word d) us) _ (of_check (Keeps start floor) (name_instance (left ts) word d) us (name_keep start floor (left ts) word d h)) (λ more m vs.
     expected (Keeps start floor) kind.OpenParen vs _ (λ w ws. terminals_keep start floor k (Some word) (left vs) more gate m ws)))
 
-unnamed_gate_keep : (start : Draft) (floor : ℕ) (k : Kind) (d : Draft) → IsTrue (is_primitive k) → Keeps start floor d → (ts : List Token) → Goes (Keeps start floor) (unnamed_gate k d ts)
+unnamed_gate_keep : (start : Draft) (floor : ℕ) (k : Gate) (d : Draft) → IsTrue (is_primitive k) → Keeps start floor d → (ts : List Token) → Goes (Keeps start floor) (unnamed_gate k d ts)
 unfolding unnamed_gate
 unnamed_gate_keep start floor k d gate h ts =
     expected (Keeps start floor) kind.OpenParen ts _ (λ w us.
     behind (Keeps start floor) (Keeps start floor) (checked (room_for_instance (left ts) d) us) _ (of_check (Keeps start floor) (room_for_instance (left ts) d) us (room_keep start floor (left ts) d h)) (λ more m vs.
     terminals_keep start floor k None (left ts) more gate m vs))
 
-one_gate_keep : (start : Draft) (floor : ℕ) (k : Kind) (d : Draft) → IsTrue (is_primitive k) → Keeps start floor d → (ts : List Token) → Goes (Keeps start floor) (one_gate k d ts)
+one_gate_keep : (start : Draft) (floor : ℕ) (k : Gate) (d : Draft) → IsTrue (is_primitive k) → Keeps start floor d → (ts : List Token) → Goes (Keeps start floor) (one_gate k d ts)
 unfolding one_gate
 one_gate_keep start floor k d gate h ts = either (Keeps start floor) (sees kind.Name ts) _ _ (named_gate_keep start floor k d gate h ts) (unnamed_gate_keep start floor k d gate h ts)
 
-gates_of : (n : ℕ) (start : Draft) (floor : ℕ) (k : Kind) (d : Draft) → IsTrue (is_primitive k) → Keeps start floor d → (ts : List Token) → Goes (Keeps start floor) (gates_from n k d ts)
+gates_of : (n : ℕ) (start : Draft) (floor : ℕ) (k : Gate) (d : Draft) → IsTrue (is_primitive k) → Keeps start floor d → (ts : List Token) → Goes (Keeps start floor) (gates_from n k d ts)
 unfolding gates_from
 gates_of zero start floor k d gate h ts = refusal_fine ts
 gates_of (suc n) start floor k d gate h ts =
     behind (Keeps start floor) (Keeps start floor) (one_gate k d ts) _ (one_gate_keep start floor k d gate h ts) (λ more m us.
     eaten (Keeps start floor) kind.Comma us _ (λ comma vs. turns (Keeps start floor) comma more (gates_from n k more) m (λ ws. gates_of n start floor k more gate m ws) vs))
 
-gates_all : (start : Draft) (floor : ℕ) (k : Kind) (d : Draft) → IsTrue (is_primitive k) → Keeps start floor d → (ts : List Token) → Goes (Keeps start floor) (gates k d ts)
+gates_all : (start : Draft) (floor : ℕ) (k : Gate) (d : Draft) → IsTrue (is_primitive k) → Keeps start floor d → (ts : List Token) → Goes (Keeps start floor) (gates k d ts)
 unfolding gates
 gates_all start floor k d gate h ts = gates_of (left ts) start floor k d gate h ts
 
-gate_item_keep : (start : Draft) (floor : ℕ) (k : Kind) (d : Draft) → IsTrue (is_primitive k) → Keeps start floor d → (ts : List Token) → Goes (Keeps start floor) (gate_item k d ts)
+gate_item_keep : (start : Draft) (floor : ℕ) (k : Gate) (d : Draft) → IsTrue (is_primitive k) → Keeps start floor d → (ts : List Token) → Goes (Keeps start floor) (gate_item k d ts)
 unfolding gate_item
 gate_item_keep start floor k d gate h ts =
     behind (Keeps start floor) (Keeps start floor) (gates k d (next ts)) _ (gates_all start floor k d gate h (next ts)) (λ more m us.
@@ -601,11 +601,11 @@ cell_item_keep start floor d h ts has = cell_item_by start floor (sees kind.Name
 
 -- ---- items
 
-gate_or_cell_keep : (start : Draft) (floor : ℕ) (k : Option Kind) (d : Draft) → IfSome k (λ (g : Kind). IsTrue (is_primitive g)) → Keeps start floor d → (ts : List Token) → HasCell d ts → Goes (Keeps start floor) (gate_or_cell k d ts)
+gate_or_cell_keep : (start : Draft) (floor : ℕ) (k : Option Gate) (d : Draft) → IfSome k (λ (g : Gate). IsTrue (is_primitive g)) → Keeps start floor d → (ts : List Token) → HasCell d ts → Goes (Keeps start floor) (gate_or_cell k d ts)
 gate_or_cell_keep start floor (Some k) d gate h ts has = gate_item_keep start floor k d gate h ts
 gate_or_cell_keep start floor None d gate h ts has = cell_item_keep start floor d h ts has
 
-primitive_gate : (k : TokenKind) → IfSome (gate_kind k) (λ (g : Kind). IsTrue (is_primitive g))
+primitive_gate : (k : TokenKind) → IfSome (gate_kind k) (λ (g : Gate). IsTrue (is_primitive g))
 primitive_gate kind.And = search rules
 primitive_gate k = search rules
 

@@ -2,8 +2,8 @@
 use Rattle.std.proofs.Common.{◌≡◌, ℕ, zero, suc, ◌<◌, ◌≤◌, Bool, true, false, cond, IsTrue, List, [], ◌∷◌, ◌++◌, length, length-append, Option, Some, slice_get, Ok, Err, nat_le, refl, sym, ap, subst, ◌∙◌, arith, rules}
 use Rattle.std.proofs.lemmas.Bool.Decides.{nat_tests}
 use Rattle.dft_base.specs.Lexing.{Text}
-use Rattle.dft_cells.specs.declared.kind.Kind.{Kind}
-use Rattle.dft_cells.specs.declared.kind.Kind.TheVariants as primitive
+use Rattle.dft_cells.specs.declared.kind.Gate.{Gate}
+use Rattle.dft_cells.specs.declared.kind.Gate.TheVariants as primitive
 use Rattle.dft_cells.specs.declared.kind.Role.{Role}
 use Rattle.dft_cells.specs.declared.kind.Role.TheVariants as role
 use Rattle.dft_cells.specs.WellFormed.{TakesInputs}
@@ -26,7 +26,7 @@ use Rattle.dft_verilog_draft.specs.Drafts.{InstanceFits, nets_alone}
 use Rattle.dft_verilog_draft.specs.Operands.{IsBit, AreBits}
 use Rattle.dft_verilog_draft.proofs.OperandLemmas.{live_bit, bit_more, bits_more, grows_on, grows_not}
 
-takes : (k : Kind) (n : ℕ) → IsTrue (is_primitive k) → takes_inputs k n ≡ true → TakesInputs k n
+takes : (k : Gate) (n : ℕ) → IsTrue (is_primitive k) → takes_inputs k n ≡ true → TakesInputs k n
 takes primitive.Buf n p h = grind (arith, nat_tests)
 takes primitive.Inv n p h = grind (arith, nat_tests)
 takes primitive.And n p h = grind (arith, nat_tests)
@@ -61,7 +61,7 @@ driven count (i ∷ inputs) output h zero r bit at out to = input_free r at out
 driven count (i ∷ inputs) output h (suc pin) r bit at out to = driven count inputs output h pin r bit at out to
 
 -- a gate of inputs that are bits, and an output that is driven, can stand among the nets
-pub gate_fits : (d : Draft) (k : Kind) (word : Option Text) (inputs : List Signal) (output : Signal) → IsTrue (is_primitive k) → takes_inputs k (length inputs) ≡ true →
+pub gate_fits : (d : Draft) (k : Gate) (word : Option Text) (inputs : List Signal) (output : Signal) → IsTrue (is_primitive k) → takes_inputs k (length inputs) ≡ true →
     AreBits (length d.nets) false inputs → IsBit (length d.nets) true output → InstanceFits (nets_alone d) (gate_instance k word output inputs)
 gate_fits d k word inputs output p takes_them h o = record {
   fits = (p, takes k (length inputs) p takes_them);
@@ -71,7 +71,7 @@ gate_fits d k word inputs output p takes_them h o = record {
 }
 
 -- and so where its parts are known by equations
-pub gate_stands : (d : Draft) (k : Kind) (word : Option Text) (inputs pins : List Signal) (n : ℕ) (output : Signal) → n ≡ length inputs → pins ≡ inputs ++ output ∷ [] →
+pub gate_stands : (d : Draft) (k : Gate) (word : Option Text) (inputs pins : List Signal) (n : ℕ) (output : Signal) → n ≡ length inputs → pins ≡ inputs ++ output ∷ [] →
     IsTrue (is_primitive k) → takes_inputs k n ≡ true → AreBits (length d.nets) false inputs → IsBit (length d.nets) true output → IsInstanceOf (nets_alone d) word (cell_ref.Gate k n) pins
 gate_stands d k word inputs pins n output count all p takes_them h o =
     subst (λ (m : ℕ). IsInstanceOf (nets_alone d) word (cell_ref.Gate k m) pins) (sym count)
@@ -79,7 +79,7 @@ gate_stands d k word inputs pins n output count all p takes_them h o =
     (gate_fits d k word inputs output p (ap (takes_inputs k) (sym count) ∙ takes_them) h o))
 
 -- a gate has few inputs
-pub few_inputs : (k : Kind) (n : ℕ) → IsTrue (is_primitive k) → takes_inputs k n ≡ true → n ≤ 8
+pub few_inputs : (k : Gate) (n : ℕ) → IsTrue (is_primitive k) → takes_inputs k n ≡ true → n ≤ 8
 few_inputs primitive.Buf n p h = grind (arith, nat_tests)
 few_inputs primitive.Inv n p h = grind (arith, nat_tests)
 few_inputs primitive.And n p h = grind (arith, nat_tests)

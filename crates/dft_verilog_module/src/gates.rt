@@ -9,26 +9,26 @@ ghost use Rattle.dft_verilog_draft.specs.Operands.{Grows, AreBits, IsBit};
 ghost use Rattle.dft_verilog_tokens.specs.Reading.{Reads};
 
 use crate::single_bits::single_bit;
-use dft_cells::Kind;
+use dft_cells::Gate;
 use dft_netlist::{CellRef, MAX_INSTANCES, PinSignals, Signal};
 use dft_netlist_text::{Cause, Site, TokenKind};
 use dft_verilog_draft::{DraftInstance, ModuleDraft};
 use dft_verilog_tokens::{ReadError, Tokens, Word, refused};
 
 /// The kind of a gate primitive.
-pub fn gate_kind(kind: TokenKind) -> Option<Kind>
+pub fn gate_kind(kind: TokenKind) -> Option<Gate>
     ensures value { result ≡ spec.gate_kind kind }
     ensures primitive { IfSome result (λ k. IsTrue (is_primitive k)) }
 {
     match kind {
-        TokenKind::And => Some(Kind::And),
-        TokenKind::Nand => Some(Kind::Nand),
-        TokenKind::Or => Some(Kind::Or),
-        TokenKind::Nor => Some(Kind::Nor),
-        TokenKind::Xor => Some(Kind::Xor),
-        TokenKind::Xnor => Some(Kind::Xnor),
-        TokenKind::Buf => Some(Kind::Buf),
-        TokenKind::Not => Some(Kind::Inv),
+        TokenKind::And => Some(Gate::And),
+        TokenKind::Nand => Some(Gate::Nand),
+        TokenKind::Or => Some(Gate::Or),
+        TokenKind::Nor => Some(Gate::Nor),
+        TokenKind::Xor => Some(Gate::Xor),
+        TokenKind::Xnor => Some(Gate::Xnor),
+        TokenKind::Buf => Some(Gate::Buf),
+        TokenKind::Not => Some(Gate::Inv),
         _ => None,
     }
 }
@@ -77,7 +77,7 @@ fn input_count(inputs: &PinSignals) -> usize
 #[tactic(auto, using(crate::proofs::GateLemmas::gates), unfolding(dft_netlist_text::specs::Items::terminals))]
 // The terminals of a gate behind the bracket that stands at this place, where the number of terminals is refused.
 fn terminals<'a>(
-    kind: Kind,
+    kind: Gate,
     name: Option<Word<'a>>,
     place: usize,
     draft: &mut ModuleDraft<'a>,
@@ -104,7 +104,7 @@ fn terminals<'a>(
 #[tactic(auto, using(crate::proofs::GateLemmas::naming), unfolding(dft_netlist_text::specs::Items::named_gate))]
 // A gate with a name.
 fn named_gate<'a>(
-    kind: Kind,
+    kind: Gate,
     draft: &mut ModuleDraft<'a>,
     tokens: &mut Tokens<'a>,
 ) -> Result<(), ReadError>
@@ -123,7 +123,7 @@ fn named_gate<'a>(
 #[tactic(auto, using(crate::proofs::GateLemmas::naming), unfolding(dft_netlist_text::specs::Items::unnamed_gate))]
 // A gate without a name. The room for it is tested at its bracket.
 fn unnamed_gate<'a>(
-    kind: Kind,
+    kind: Gate,
     draft: &mut ModuleDraft<'a>,
     tokens: &mut Tokens<'a>,
 ) -> Result<(), ReadError>
@@ -140,7 +140,7 @@ fn unnamed_gate<'a>(
 #[tactic(auto, unfolding(dft_netlist_text::specs::Items::one_gate))]
 // A gate with or without a name.
 fn one_gate<'a>(
-    kind: Kind,
+    kind: Gate,
     draft: &mut ModuleDraft<'a>,
     tokens: &mut Tokens<'a>,
 ) -> Result<(), ReadError>
@@ -157,7 +157,7 @@ fn one_gate<'a>(
 
 // Gates of one kind with commas between them.
 fn gates<'a>(
-    kind: Kind,
+    kind: Gate,
     draft: &mut ModuleDraft<'a>,
     tokens: &mut Tokens<'a>,
 ) -> Result<(), ReadError>
@@ -177,7 +177,7 @@ fn gates<'a>(
 #[tactic(auto, unfolding(dft_netlist_text::specs::Items::gate_item))]
 /// The kind of a gate and gates of this kind.
 pub fn gate_item<'a>(
-    kind: Kind,
+    kind: Gate,
     draft: &mut ModuleDraft<'a>,
     tokens: &mut Tokens<'a>,
 ) -> Result<(), ReadError>

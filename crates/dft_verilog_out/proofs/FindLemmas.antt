@@ -12,7 +12,7 @@ use Rattle.dft_cells.specs.declared.cell.Pin.{Pin}
 use Rattle.dft_cells.specs.declared.cell.Cell.{Cell}
 use Rattle.dft_cells.specs.Cells.{find_from, find_cell}
 use Rattle.dft_cells.specs.WellFormed.{ascend, comes_before, cell_name, pin_name, has_name, all_differ}
-use Rattle.dft_cells.proofs.Halving.{order_of, less_from, differ_less}
+use Rattle.dft_base.proofs.TextOrder.{order_of, less_from, differ_less}
 use Rattle.dft_netlist_text.specs.Items.{pin_place}
 
 pub position-cons : {X : Type 0} (p : X → Bool) (x : X) (xs : List X) → position p (x ∷ xs) ≡ cond (p x) (Some 0) (option_map suc (position p xs))

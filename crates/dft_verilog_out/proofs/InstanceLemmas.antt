@@ -3,8 +3,8 @@ use Rattle.std.proofs.Common.{◌≡◌, ℕ, zero, suc, ◌<◌, ◌≤◌, Boo
 use Rattle.std.proofs.lemmas.List.{length-map}
 use Rattle.dft_base.specs.Lexing.{Text}
 use Rattle.dft_base.specs.Name.{IsName}
-use Rattle.dft_cells.specs.declared.kind.Kind.{Kind}
-use Rattle.dft_cells.specs.declared.kind.Kind.TheVariants as primitive
+use Rattle.dft_cells.specs.declared.kind.Gate.{Gate}
+use Rattle.dft_cells.specs.declared.kind.Gate.TheVariants as primitive
 use Rattle.dft_cells.specs.declared.cell.CellId.{CellId}
 use Rattle.dft_cells.specs.declared.cell.Pin.{Pin}
 use Rattle.dft_cells.specs.declared.cell.Cell.{Cell}
@@ -81,7 +81,7 @@ input_terminals-is : (d : Draft) (us : List Token) → input_terminals d us ≡ 
 unfolding input_terminals
 input_terminals-is d us = refl
 
-terminals_read : (k : Kind) (d : Draft) (name : Option Text) (nets : List Text) (output : Signal) (ins : List Signal) (place : ℕ) (rest : Text)
+terminals_read : (k : Gate) (d : Draft) (name : Option Text) (nets : List Text) (output : Signal) (ins : List Signal) (place : ℕ) (rest : Text)
     → Operand d (site.Terminal true) (signal_text nets output) output → Operands d (site.Terminal false) nets ins → takes_inputs k (length ins) ≡ true
     → terminals k name place d (cut_up (list_text (map (signal_text nets) (output ∷ ins)) ++ 41 ∷ rest)) ≡ Ok (with_instance (gate_instance k name output ins) d, cut_up rest)
 terminals_read k d name nets output ins place rest out ops fits =
@@ -95,7 +95,7 @@ terminals_read k d name nets output ins place rest out ops fits =
     (ap (λ x. expression (site.Terminal true) d (cut_up x)) (append_assoc t more (41 ∷ rest) ∙ ap (λ x. t ++ x) b.is) ∙ out.reads b.f b.others (b.at_terminal true) ∙ ap (λ x. Ok ((d, output ∷ []), cut_up x)) (sym b.is)))
     (input_terminals-is d (cut_up (more ++ 41 ∷ rest)) ∙ inputs_read (left (cut_up (more ++ 41 ∷ rest))) d nets [] ins rest enough ops ∙ ap (λ ts. Ok ((d, ins), ts)) (cut_up-close rest)) fits
 
-cut_up-gate : (k : Kind) (rest : Text) → is_primitive k ≡ true → cut_up (gate_text k ++ 32 ∷ rest) ≡ token (gate_token k) (gate_text k) (length (gate_text k ++ 32 ∷ rest)) ∷ cut_up rest
+cut_up-gate : (k : Gate) (rest : Text) → is_primitive k ≡ true → cut_up (gate_text k ++ 32 ∷ rest) ≡ token (gate_token k) (gate_text k) (length (gate_text k ++ 32 ∷ rest)) ∷ cut_up rest
 cut_up-gate primitive.Buf rest p = cut_up-buf rest
 cut_up-gate primitive.Inv rest p = cut_up-not rest
 cut_up-gate primitive.And rest p = cut_up-and rest
@@ -104,44 +104,18 @@ cut_up-gate primitive.Or rest p = cut_up-or rest
 cut_up-gate primitive.Nor rest p = cut_up-nor rest
 cut_up-gate primitive.Xor rest p = cut_up-xor rest
 cut_up-gate primitive.Xnor rest p = cut_up-xnor rest
-cut_up-gate primitive.Mux2 rest p = absurd (cc)
-cut_up-gate (primitive.Table number) rest p = absurd (cc)
-cut_up-gate primitive.Tie0 rest p = absurd (cc)
-cut_up-gate primitive.Tie1 rest p = absurd (cc)
-cut_up-gate primitive.Dff rest p = absurd (cc)
-cut_up-gate primitive.Dffr rest p = absurd (cc)
-cut_up-gate primitive.Dffs rest p = absurd (cc)
-cut_up-gate primitive.Sdff rest p = absurd (cc)
-cut_up-gate primitive.Sdffr rest p = absurd (cc)
-cut_up-gate primitive.Sdffs rest p = absurd (cc)
-cut_up-gate primitive.Lockup rest p = absurd (cc)
-cut_up-gate primitive.Opaque rest p = absurd (cc)
+cut_up-gate _ rest p = absurd (cc)
 
-no_end_gate : (k : Kind) (word : Text) (l : ℕ) (ts : List Token) → is_primitive k ≡ true → sees kind.Endmodule (token (gate_token k) word l ∷ ts) ≡ false
+no_end_gate : (k : Gate) (word : Text) (l : ℕ) (ts : List Token) → is_primitive k ≡ true → sees kind.Endmodule (token (gate_token k) word l ∷ ts) ≡ false
 unfolding sees kind_of same_kind
-no_end_gate primitive.Buf word l ts p = refl
-no_end_gate primitive.Inv word l ts p = refl
-no_end_gate primitive.And word l ts p = refl
-no_end_gate primitive.Nand word l ts p = refl
-no_end_gate primitive.Or word l ts p = refl
-no_end_gate primitive.Nor word l ts p = refl
-no_end_gate primitive.Xor word l ts p = refl
-no_end_gate primitive.Xnor word l ts p = refl
 no_end_gate primitive.Mux2 word l ts p = absurd (cc)
 no_end_gate (primitive.Table number) word l ts p = absurd (cc)
 no_end_gate primitive.Tie0 word l ts p = absurd (cc)
 no_end_gate primitive.Tie1 word l ts p = absurd (cc)
-no_end_gate primitive.Dff word l ts p = absurd (cc)
-no_end_gate primitive.Dffr word l ts p = absurd (cc)
-no_end_gate primitive.Dffs word l ts p = absurd (cc)
-no_end_gate primitive.Sdff word l ts p = absurd (cc)
-no_end_gate primitive.Sdffr word l ts p = absurd (cc)
-no_end_gate primitive.Sdffs word l ts p = absurd (cc)
-no_end_gate primitive.Lockup word l ts p = absurd (cc)
-no_end_gate primitive.Opaque word l ts p = absurd (cc)
+no_end_gate _ word l ts p = refl
 
 -- a gate's line, whose pins are these inputs and this output
-pub record IsGate (d : Draft) (nets : List Text) (k : Kind) (output : Signal) (ins : List Signal) : Type 0 where
+pub record IsGate (d : Draft) (nets : List Text) (k : Gate) (output : Signal) (ins : List Signal) : Type 0 where
   pub primitive : is_primitive k ≡ true
   pub output_reads : Operand d (site.Terminal true) (signal_text nets output) output
   pub inputs_read : Operands d (site.Terminal false) nets ins
@@ -169,43 +143,28 @@ semicolon_line rest = cut_up-semicolon (10 ∷ rest) ∙ ap (λ ts. token kind.S
 open_at : (inside rest : Text) → Opens (bracketed inside rest) → cut_up (32 ∷ 40 ∷ bracketed inside rest) ≡ token kind.OpenParen (40 ∷ []) (suc (length (bracketed inside rest))) ∷ cut_up (bracketed inside rest)
 open_at inside rest o = cut_up-space (40 ∷ bracketed inside rest) ∙ cut_up-opened (bracketed inside rest) o
 
-abbrev pub gate_form : (nets : List Text) → Kind → Option Text → Signal → List Signal → Text
+abbrev pub gate_form : (nets : List Text) → Gate → Option Text → Signal → List Signal → Text
 gate_form nets k own output ins = form (gate_text k) own (list_text (map (signal_text nets) (output ∷ ins)))
 
-gate_opens : (d : Draft) (nets : List Text) (k : Kind) (output : Signal) (ins : List Signal) (rest : Text) → IsGate d nets k output ins → Opens (bracketed (list_text (map (signal_text nets) (output ∷ ins))) rest)
+gate_opens : (d : Draft) (nets : List Text) (k : Gate) (output : Signal) (ins : List Signal) (rest : Text) → IsGate d nets k output ins → Opens (bracketed (list_text (map (signal_text nets) (output ∷ ins))) rest)
 gate_opens d nets k output ins rest g =
     subst Opens (sym (append_assoc (signal_text nets output) (list_text_behind (codes ", ") (map (signal_text nets) ins)) (41 ∷ 59 ∷ 10 ∷ rest))) (g.output_reads.opens _)
 
-gate_some : (k : Kind) → is_primitive k ≡ true → 0 < length (gate_text k)
-gate_some primitive.Buf p = omega arith
-gate_some primitive.Inv p = omega arith
-gate_some primitive.And p = omega arith
-gate_some primitive.Nand p = omega arith
-gate_some primitive.Or p = omega arith
-gate_some primitive.Nor p = omega arith
-gate_some primitive.Xor p = omega arith
-gate_some primitive.Xnor p = omega arith
+gate_some : (k : Gate) → is_primitive k ≡ true → 0 < length (gate_text k)
 gate_some primitive.Mux2 p = absurd (cc)
 gate_some (primitive.Table number) p = absurd (cc)
 gate_some primitive.Tie0 p = absurd (cc)
 gate_some primitive.Tie1 p = absurd (cc)
-gate_some primitive.Dff p = absurd (cc)
-gate_some primitive.Dffr p = absurd (cc)
-gate_some primitive.Dffs p = absurd (cc)
-gate_some primitive.Sdff p = absurd (cc)
-gate_some primitive.Sdffr p = absurd (cc)
-gate_some primitive.Sdffs p = absurd (cc)
-gate_some primitive.Lockup p = absurd (cc)
-gate_some primitive.Opaque p = absurd (cc)
+gate_some _ p = omega arith
 
-gate_cuts : (k : Kind) (own : Option Text) (inside rest : Text) → is_primitive k ≡ true → (l : ℕ) × (ts : List Token)
+gate_cuts : (k : Gate) (own : Option Text) (inside rest : Text) → is_primitive k ≡ true → (l : ℕ) × (ts : List Token)
     × (cut_up (form (gate_text k) own inside ++ rest) ≡ token (gate_token k) (gate_text k) l ∷ ts) × (l ≡ length (form (gate_text k) own inside ++ rest))
 gate_cuts k None inside rest p =
     (_, _, ap cut_up (form_parts (gate_text k) None inside rest) ∙ cut_up-gate k (40 ∷ bracketed inside rest) p, ap length (sym (form_parts (gate_text k) None inside rest)))
 gate_cuts k (Some name) inside rest p =
     (_, _, ap cut_up (form_parts (gate_text k) (Some name) inside rest) ∙ cut_up-gate k (name_text name ++ 32 ∷ 40 ∷ bracketed inside rest) p, ap length (sym (form_parts (gate_text k) (Some name) inside rest)))
 
-gate_line_of : (k : Kind) (own : Option Text) (inside : Text) (d new : Draft) → is_primitive k ≡ true → ((rest : Text) → item d (cut_up (form (gate_text k) own inside ++ rest)) ≡ Ok (new, cut_up rest)) → Line (form (gate_text k) own inside) d new
+gate_line_of : (k : Gate) (own : Option Text) (inside : Text) (d new : Draft) → is_primitive k ≡ true → ((rest : Text) → item d (cut_up (form (gate_text k) own inside ++ rest)) ≡ Ok (new, cut_up rest)) → Line (form (gate_text k) own inside) d new
 gate_line_of k own inside d new p reads = record {
   reads = reads;
   goes_on = λ rest. let c = gate_cuts k own inside rest p in ap (sees kind.Endmodule) c.2 ∙ no_end_gate k (gate_text k) c.0 c.1 p;
@@ -213,7 +172,7 @@ gate_line_of k own inside d new p reads = record {
   some = let s = gate_some k p in omega (arith, length-append (gate_text k) (own_name_text own ++ (codes " (" ++ (inside ++ codes ");\n"))));
 }
 
-pub named_gate_read : (k : Kind) (d named : Draft) (name : Text) (nets : List Text) (output : Signal) (ins : List Signal) → IsGate named nets k output ins → IsName name → ((place : ℕ) → name_instance place name d ≡ Ok named)
+pub named_gate_read : (k : Gate) (d named : Draft) (name : Text) (nets : List Text) (output : Signal) (ins : List Signal) → IsGate named nets k output ins → IsName name → ((place : ℕ) → name_instance place name d ≡ Ok named)
     → Line (gate_form nets k (Some name) output ins) d (with_instance (gate_instance k (Some name) output ins) named)
 named_gate_read k d named name nets output ins g is_name says =
     gate_line_of k (Some name) (list_text (map (signal_text nets) (output ∷ ins))) d (with_instance (gate_instance k (Some name) output ins) named) g.primitive (λ rest.
@@ -226,7 +185,7 @@ named_gate_read k d named name nets output ins g is_name says =
     (terminals_read k named (Some name) nets output ins (suc (length (bracketed inside rest))) (59 ∷ 10 ∷ rest) g.output_reads g.inputs_read g.fits
     ∙ ap (λ ts. Ok (with_instance (gate_instance k (Some name) output ins) named, ts)) (semicolon_line rest)))
 
-pub unnamed_gate_read : (k : Kind) (d : Draft) (nets : List Text) (output : Signal) (ins : List Signal) → IsGate d nets k output ins → ((place : ℕ) → room_for_instance place d ≡ Ok d)
+pub unnamed_gate_read : (k : Gate) (d : Draft) (nets : List Text) (output : Signal) (ins : List Signal) → IsGate d nets k output ins → ((place : ℕ) → room_for_instance place d ≡ Ok d)
     → Line (gate_form nets k None output ins) d (with_instance (gate_instance k None output ins) d)
 unnamed_gate_read k d nets output ins g says =
     gate_line_of k None (list_text (map (signal_text nets) (output ∷ ins))) d (with_instance (gate_instance k None output ins) d) g.primitive (λ rest.

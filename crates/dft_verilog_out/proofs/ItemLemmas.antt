@@ -2,8 +2,8 @@
 use Rattle.std.proofs.Common.{◌≡◌, ℕ, zero, suc, Bool, true, false, List, [], ◌∷◌, ◌++◌, length, Option, Some, None, Ok, slice_get, slice_set, refl, ◌∙◌}
 use Rattle.dft_base.specs.declared.place.Range.{Range}
 use Rattle.dft_base.specs.Lexing.{Text}
-use Rattle.dft_cells.specs.declared.kind.Kind.{Kind}
-use Rattle.dft_cells.specs.declared.kind.Kind.TheVariants as primitive
+use Rattle.dft_cells.specs.declared.kind.Gate.{Gate}
+use Rattle.dft_cells.specs.declared.kind.Gate.TheVariants as primitive
 use Rattle.dft_cells.specs.declared.cell.CellId.{CellId}
 use Rattle.dft_cells.specs.declared.cell.Cell.{Cell}
 use Rattle.dft_cells.specs.Cells.{find_cell}
@@ -87,13 +87,13 @@ cell-at d named behind id cell joined word name a l b c m us ts found there free
 
 -- ---- gates
 
-pub terminals-at : (k : Kind) (d : Draft) (name : Option Text) (output : Signal) (ins : List Signal) (place m e : ℕ) (us vs ts : List Token)
+pub terminals-at : (k : Gate) (d : Draft) (name : Option Text) (output : Signal) (ins : List Signal) (place m e : ℕ) (us vs ts : List Token)
     → terminal true d us ≡ Ok ((d, output), vs) → input_terminals d vs ≡ Ok ((d, ins), token kind.CloseParen (41 ∷ []) m ∷ ts) → takes_inputs k (length ins) ≡ true
     → terminals k name place d us ≡ Ok (with_instance (gate_instance k name output ins) d, ts)
 unfolding terminals expect sees kind_of same_kind bytes left next after
 terminals-at k d name output ins place m e us vs ts out is fits = rw (out, is, fits) refl
 
-abbrev pub gate_token : Kind → TokenKind
+abbrev pub gate_token : Gate → TokenKind
 gate_token primitive.Buf = kind.Buf
 gate_token primitive.Inv = kind.Not
 gate_token primitive.And = kind.And
@@ -104,48 +104,33 @@ gate_token primitive.Xor = kind.Xor
 gate_token primitive.Xnor = kind.Xnor
 gate_token _ = kind.Other
 
-gate_item-is : (k : Kind) (d : Draft) (first : Text) (a : ℕ) (us : List Token) → is_primitive k ≡ true → item d (token (gate_token k) first a ∷ us) ≡ gate_item k d (token (gate_token k) first a ∷ us)
+gate_item-is : (k : Gate) (d : Draft) (first : Text) (a : ℕ) (us : List Token) → is_primitive k ≡ true → item d (token (gate_token k) first a ∷ us) ≡ gate_item k d (token (gate_token k) first a ∷ us)
 unfolding item kind_of
-gate_item-is primitive.Buf d first a us p = refl
-gate_item-is primitive.Inv d first a us p = refl
-gate_item-is primitive.And d first a us p = refl
-gate_item-is primitive.Nand d first a us p = refl
-gate_item-is primitive.Or d first a us p = refl
-gate_item-is primitive.Nor d first a us p = refl
-gate_item-is primitive.Xor d first a us p = refl
-gate_item-is primitive.Xnor d first a us p = refl
 gate_item-is primitive.Mux2 d first a us p = absurd (cc)
 gate_item-is (primitive.Table number) d first a us p = absurd (cc)
 gate_item-is primitive.Tie0 d first a us p = absurd (cc)
 gate_item-is primitive.Tie1 d first a us p = absurd (cc)
-gate_item-is primitive.Dff d first a us p = absurd (cc)
-gate_item-is primitive.Dffr d first a us p = absurd (cc)
-gate_item-is primitive.Dffs d first a us p = absurd (cc)
-gate_item-is primitive.Sdff d first a us p = absurd (cc)
-gate_item-is primitive.Sdffr d first a us p = absurd (cc)
-gate_item-is primitive.Sdffs d first a us p = absurd (cc)
-gate_item-is primitive.Lockup d first a us p = absurd (cc)
-gate_item-is primitive.Opaque d first a us p = absurd (cc)
+gate_item-is _ d first a us p = refl
 
-gate_item-named : (k : Kind) (t : TokenKind) (d named new : Draft) (name first : Text) (a l b m : ℕ) (us ts : List Token) → name_instance (suc l) name d ≡ Ok named
+gate_item-named : (k : Gate) (t : TokenKind) (d named new : Draft) (name first : Text) (a l b m : ℕ) (us ts : List Token) → name_instance (suc l) name d ≡ Ok named
     → terminals k (Some name) b named us ≡ Ok (new, token kind.Semicolon (59 ∷ []) m ∷ ts)
     → gate_item k d (token t first a ∷ token kind.Name name (suc l) ∷ token kind.OpenParen (40 ∷ []) b ∷ us) ≡ Ok (new, ts)
 unfolding gate_item gates gates_from one_gate named_gate expect sees kind_of same_kind bytes left next after
 gate_item-named k t d named new name first a l b m us ts free is = rw (free, is) refl
 
-gate_item-unnamed : (k : Kind) (t : TokenKind) (d new : Draft) (first : Text) (a b m : ℕ) (us ts : List Token) → room_for_instance (suc b) d ≡ Ok d
+gate_item-unnamed : (k : Gate) (t : TokenKind) (d new : Draft) (first : Text) (a b m : ℕ) (us ts : List Token) → room_for_instance (suc b) d ≡ Ok d
     → terminals k None (suc b) d us ≡ Ok (new, token kind.Semicolon (59 ∷ []) m ∷ ts)
     → gate_item k d (token t first a ∷ token kind.OpenParen (40 ∷ []) (suc b) ∷ us) ≡ Ok (new, ts)
 unfolding gate_item gates gates_from one_gate unnamed_gate expect sees kind_of same_kind bytes left next after
 gate_item-unnamed k t d new first a b m us ts free is = rw (free, is) refl
 
-pub gate-named : (k : Kind) (d named new : Draft) (name first : Text) (a l b m : ℕ) (us ts : List Token) → is_primitive k ≡ true → name_instance (suc l) name d ≡ Ok named
+pub gate-named : (k : Gate) (d named new : Draft) (name first : Text) (a l b m : ℕ) (us ts : List Token) → is_primitive k ≡ true → name_instance (suc l) name d ≡ Ok named
     → terminals k (Some name) b named us ≡ Ok (new, token kind.Semicolon (59 ∷ []) m ∷ ts)
     → item d (token (gate_token k) first a ∷ token kind.Name name (suc l) ∷ token kind.OpenParen (40 ∷ []) b ∷ us) ≡ Ok (new, ts)
 gate-named k d named new name first a l b m us ts p free is =
     gate_item-is k d first a (token kind.Name name (suc l) ∷ token kind.OpenParen (40 ∷ []) b ∷ us) p ∙ gate_item-named k (gate_token k) d named new name first a l b m us ts free is
 
-pub gate-unnamed : (k : Kind) (d new : Draft) (first : Text) (a b m : ℕ) (us ts : List Token) → is_primitive k ≡ true → room_for_instance (suc b) d ≡ Ok d
+pub gate-unnamed : (k : Gate) (d new : Draft) (first : Text) (a b m : ℕ) (us ts : List Token) → is_primitive k ≡ true → room_for_instance (suc b) d ≡ Ok d
     → terminals k None (suc b) d us ≡ Ok (new, token kind.Semicolon (59 ∷ []) m ∷ ts)
     → item d (token (gate_token k) first a ∷ token kind.OpenParen (40 ∷ []) (suc b) ∷ us) ≡ Ok (new, ts)
 gate-unnamed k d new first a b m us ts p free is =

@@ -4,7 +4,7 @@ use Rattle.std.proofs.lemmas.Bool.{and_from}
 use Rattle.dft_base.specs.declared.place.Range.{Range}
 use Rattle.dft_base.specs.Lexing.{Text}
 use Rattle.dft_base.specs.Parser.{pure, ◌>>=◌, ◌>>◌}
-use Rattle.dft_cells.specs.declared.kind.Kind.{Kind}
+use Rattle.dft_cells.specs.declared.kind.Gate.{Gate}
 use Rattle.dft_cells.specs.declared.cell.CellId.{CellId}
 use Rattle.dft_cells.specs.declared.cell.Cell.{Cell}
 use Rattle.dft_cells.specs.Cells.{find_cell}
@@ -172,13 +172,13 @@ inputs_all : (library : List Cell) (d : Draft) → IsJoinedDraft library d → (
 unfolding input_terminals
 inputs_all library d h ts = inputs_of library (left ts) d [] (h, refl) ts
 
-gate_is_joined : (k : Kind) (word : Option Text) (output : Signal) (ins : List Signal) → is_joined output ≡ true → AreBits ins → is_joined_gate (gate_instance k word output ins) ≡ true
+gate_is_joined : (k : Gate) (word : Option Text) (output : Signal) (ins : List Signal) → is_joined output ≡ true → AreBits ins → is_joined_gate (gate_instance k word output ins) ≡ true
 gate_is_joined k word output ins h j = all_behind is_joined ins (output ∷ []) j (and_from (is_joined output) true h refl)
 
 instance_joined : (library : List Cell) (i : Instance) (d : Draft) → is_joined_gate i ≡ true → IsJoinedDraft library d → IsJoinedDraft library (with_instance i d)
 instance_joined library i d h j = (all_behind is_joined_gate d.instances (i ∷ []) j.0 (and_from (is_joined_gate i) true h refl), j.1)
 
-terminals_joined : (library : List Cell) (k : Kind) (word : Option Text) (place : ℕ) → Keeps library (terminals k word place)
+terminals_joined : (library : List Cell) (k : Gate) (word : Option Text) (place : ℕ) → Keeps library (terminals k word place)
 unfolding terminals
 terminals_joined library k word place d h ts =
     behind (IsJoinedBit library) (IsJoinedDraft library) (terminal true d ts) _ (terminal_joined library true d h ts) (λ output m us.
@@ -186,33 +186,33 @@ terminals_joined library k word place d h ts =
     passed (IsJoinedDraft library) (expect kind.CloseParen vs) _ (λ w ws.
     of_need (IsJoinedDraft library) _ place (takes_inputs k (length ins.1)) _ ws (instance_joined library (gate_instance k word output.1 ins.1) ins.0 (gate_is_joined k word output.1 ins.1 m.1 n.1) n.0))))
 
-named_gate_joined : (library : List Cell) (k : Kind) → Keeps library (named_gate k)
+named_gate_joined : (library : List Cell) (k : Gate) → Keeps library (named_gate k)
 unfolding named_gate
 named_gate_joined library k d h ts =
     passed (IsJoinedDraft library) (expect kind.Name ts) _ (λ word us.
     behind (IsJoinedDraft library) (IsJoinedDraft library) (checked (name_instance (left ts) word d) us) _ (of_check (IsJoinedDraft library) (name_instance (left ts) word d) us (name_joined library (left ts) word d h)) (λ more m vs.
     passed (IsJoinedDraft library) (expect kind.OpenParen vs) _ (λ w ws. terminals_joined library k (Some word) (left vs) more m ws)))
 
-unnamed_gate_joined : (library : List Cell) (k : Kind) → Keeps library (unnamed_gate k)
+unnamed_gate_joined : (library : List Cell) (k : Gate) → Keeps library (unnamed_gate k)
 unfolding unnamed_gate
 unnamed_gate_joined library k d h ts =
     passed (IsJoinedDraft library) (expect kind.OpenParen ts) _ (λ w us.
     behind (IsJoinedDraft library) (IsJoinedDraft library) (checked (room_for_instance (left ts) d) us) _ (of_check (IsJoinedDraft library) (room_for_instance (left ts) d) us (room_joined library (left ts) d h)) (λ more m vs. terminals_joined library k None (left ts) more m vs))
 
-one_gate_joined : (library : List Cell) (k : Kind) → Keeps library (one_gate k)
+one_gate_joined : (library : List Cell) (k : Gate) → Keeps library (one_gate k)
 unfolding one_gate
 one_gate_joined library k d h ts = either (IsJoinedDraft library) (sees kind.Name ts) _ _ (named_gate_joined library k d h ts) (unnamed_gate_joined library k d h ts)
 
-gates_of : (library : List Cell) (n : ℕ) (k : Kind) → Keeps library (gates_from n k)
+gates_of : (library : List Cell) (n : ℕ) (k : Gate) → Keeps library (gates_from n k)
 unfolding gates_from
 gates_of library zero k d h ts = tt
 gates_of library (suc n) k d h ts = listed_keeps library (one_gate k) (gates_from n k) (one_gate_joined library k) (gates_of library n k) d h ts
 
-gates_all : (library : List Cell) (k : Kind) → Keeps library (gates k)
+gates_all : (library : List Cell) (k : Gate) → Keeps library (gates k)
 unfolding gates
 gates_all library k d h ts = gates_of library (left ts) k d h ts
 
-gate_item_joined : (library : List Cell) (k : Kind) → Keeps library (gate_item k)
+gate_item_joined : (library : List Cell) (k : Gate) → Keeps library (gate_item k)
 unfolding gate_item
 gate_item_joined library k d h ts = closed_keeps library kind.Semicolon (gates k) (gates_all library k) d h (next ts)
 
@@ -288,7 +288,7 @@ cell_item_joined library d h ts = passed (IsJoinedDraft library) (expect kind.Na
 
 -- ---- items
 
-gate_or_cell_joined : (library : List Cell) (k : Option Kind) → Keeps library (gate_or_cell k)
+gate_or_cell_joined : (library : List Cell) (k : Option Gate) → Keeps library (gate_or_cell k)
 gate_or_cell_joined library (Some k) d h ts = gate_item_joined library k d h ts
 gate_or_cell_joined library None d h ts = cell_item_joined library d h ts
 

@@ -7,8 +7,8 @@ use Rattle.std.proofs.Math.Seq.{take-append_seam, drop-append_seam}
 use Rattle.std.proofs.lemmas.Bool.{false_from_ne_true}
 use Rattle.dft_base.specs.Lexing.{Text}
 use Rattle.dft_base.proofs.ListLemmas.{get_there}
-use Rattle.dft_cells.specs.declared.kind.Kind.{Kind}
-use Rattle.dft_cells.specs.declared.kind.Kind.TheVariants as primitive
+use Rattle.dft_cells.specs.declared.kind.Gate.{Gate}
+use Rattle.dft_cells.specs.declared.kind.Gate.TheVariants as primitive
 use Rattle.dft_cells.specs.declared.kind.Role.{Role}
 use Rattle.dft_cells.specs.declared.kind.Role.TheVariants as role
 use Rattle.dft_cells.specs.declared.cell.Pin.{Pin}
@@ -93,27 +93,12 @@ last_signal [] s (suc count) e = absurd (omega arith)
 last_signal (i ∷ ins) s zero e = absurd (omega arith)
 last_signal (i ∷ ins) s (suc count) e = last_signal ins s count (omega arith)
 
-takes_by : (k : Kind) (n : ℕ) → is_primitive k ≡ true → TakesInputs k n → takes_inputs k n ≡ true
-takes_by primitive.Buf n p t = grind (arith, nat_tests)
-takes_by primitive.Inv n p t = grind (arith, nat_tests)
-takes_by primitive.And n p t = grind (arith, nat_tests)
-takes_by primitive.Nand n p t = grind (arith, nat_tests)
-takes_by primitive.Or n p t = grind (arith, nat_tests)
-takes_by primitive.Nor n p t = grind (arith, nat_tests)
-takes_by primitive.Xor n p t = grind (arith, nat_tests)
-takes_by primitive.Xnor n p t = grind (arith, nat_tests)
+takes_by : (k : Gate) (n : ℕ) → is_primitive k ≡ true → TakesInputs k n → takes_inputs k n ≡ true
 takes_by primitive.Mux2 n p t = absurd (cc)
 takes_by (primitive.Table number) n p t = absurd (cc)
 takes_by primitive.Tie0 n p t = absurd (cc)
 takes_by primitive.Tie1 n p t = absurd (cc)
-takes_by primitive.Dff n p t = absurd (cc)
-takes_by primitive.Dffr n p t = absurd (cc)
-takes_by primitive.Dffs n p t = absurd (cc)
-takes_by primitive.Sdff n p t = absurd (cc)
-takes_by primitive.Sdffr n p t = absurd (cc)
-takes_by primitive.Sdffs n p t = absurd (cc)
-takes_by primitive.Lockup n p t = absurd (cc)
-takes_by primitive.Opaque n p t = absurd (cc)
+takes_by _ n p t = grind (arith, nat_tests)
 
 -- each of these is live and joined
 abbrev AreJoined : ℕ → List Signal → Type 0
@@ -129,7 +114,7 @@ operands_of d texts [] known h = tt
 operands_of d texts (s ∷ ins) known h = (signal_operand d (site.Terminal false) texts s known h.0.0 h.0.1 (no_constant (site.Terminal false) s refl), operands_of d texts ins known h.1)
 
 -- a gate's pins, in two parts
-gate_of : (d : Draft) (library : List Cell) (texts : List Text) (name : Option Text) (k : Kind) (inputs : ℕ) (pins : List Signal) (p : Split pins inputs) → NetsAt d.names d.ports texts
+gate_of : (d : Draft) (library : List Cell) (texts : List Text) (name : Option Text) (k : Gate) (inputs : ℕ) (pins : List Signal) (p : Split pins inputs) → NetsAt d.names d.ports texts
     → IsInstance library (length texts) name (cell_ref.Gate k inputs) pins → ((pin : ℕ) (to : Signal) → slice_get pins pin ≡ Some to → IsConnected to) → IsGate d texts k p.output p.ins
 gate_of d library texts name k inputs pins p known stands joined =
     let last : slice_get pins inputs ≡ Some p.output = ap (λ (ss : List Signal). slice_get ss inputs) p.is ∙ last_signal p.ins p.output inputs p.size in
@@ -148,7 +133,7 @@ first_is ins output =
     let e : length (ins ++ output ∷ []) - 1 ≡ length ins = omega (arith, length-append ins (output ∷ [])) in
     rw (e, drop-append_seam ins (output ∷ []), take-append_seam ins (output ∷ [])) refl
 
-gate_line-is : (texts : List Text) (k : Kind) (i : Instance) (ins : List Signal) (output : Signal) → i.pins ≡ ins ++ output ∷ [] → gate_line texts k i ≡ gate_form texts k i.name output ins
+gate_line-is : (texts : List Text) (k : Gate) (i : Instance) (ins : List Signal) (output : Signal) → i.pins ≡ ins ++ output ∷ [] → gate_line texts k i ≡ gate_form texts k i.name output ins
 unfolding gate_line
 gate_line-is texts k i ins output e = rw (e, first_is ins output) refl
 
@@ -214,7 +199,7 @@ pub record IsReadable (library : List Cell) (count : ℕ) (i : Instance) : Type 
   pub own : IsNameIfAny i.name
   pub joined : IsJoinedGate i
 
-made_gate : (k : Kind) (name : Option Text) (inputs : ℕ) (pins ins : List Signal) (output : Signal) → length ins ≡ inputs → pins ≡ ins ++ output ∷ [] → gate_instance k name output ins ≡ inst name (cell_ref.Gate k inputs) pins
+made_gate : (k : Gate) (name : Option Text) (inputs : ℕ) (pins ins : List Signal) (output : Signal) → length ins ≡ inputs → pins ≡ ins ++ output ∷ [] → gate_instance k name output ins ≡ inst name (cell_ref.Gate k inputs) pins
 made_gate k name inputs pins ins output size is = ap (λ m. inst name (cell_ref.Gate k m) (ins ++ output ∷ [])) size ∙ ap (λ (ss : List Signal). inst name (cell_ref.Gate k inputs) ss) (sym is)
 
 instance_step : (n : Netlist) (name : Option Text) (ref : CellRef) (pins : List Signal) (names : List TakenName) (ports : List HeaderPort) (nets : List Text) (done : List Instance) (joins : List Join) (texts : List Text)

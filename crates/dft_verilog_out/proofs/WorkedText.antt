@@ -2,7 +2,8 @@
 use Rattle.std.proofs.Common.{◌≡◌, true, [], ◌∷◌, codes, Some, None, refl}
 use Rattle.std.specs.Fmt as fmt
 use Rattle.dft_base.specs.Words as words
-use Rattle.dft_cells.specs.declared.kind.Kind.TheVariants as primitive
+use Rattle.dft_cells.specs.declared.kind.TheConstants.{DFF}
+use Rattle.dft_cells.specs.declared.kind.Gate.TheVariants as primitive
 use Rattle.dft_cells.specs.declared.kind.Role.TheVariants as role
 use Rattle.dft_base.specs.declared.dir.Dir.TheVariants as dir
 use Rattle.dft_netlist.specs.declared.instance.Signal.TheVariants as signal
@@ -17,7 +18,7 @@ example = record {
   name = codes "m";
   library = record {
     name = codes "DFF";
-    kind = primitive.Dff;
+    kind = DFF;
     pins = record { name = codes "CK"; role = role.Clock } ∷ record { name = codes "D"; role = role.Din } ∷ record { name = codes "Q"; role = role.Output } ∷ record { name = codes "QN"; role = role.Inverted } ∷ [];
     scan = None;
   } ∷ [];

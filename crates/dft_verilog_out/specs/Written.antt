@@ -3,8 +3,8 @@ use Rattle.std.specs.Prelude.{ℕ, ◌-◌, Bool, true, false, if◌then◌else�
 use Rattle.dft_base.specs.declared.place.Range.{Range}
 use Rattle.dft_base.specs.Lexing.{Text}
 use Rattle.dft_base.specs.Words.{needs_escape}
-use Rattle.dft_cells.specs.declared.kind.Kind.{Kind}
-use Rattle.dft_cells.specs.declared.kind.Kind.TheVariants.{Buf, Inv, And, Nand, Or, Nor, Xor, Xnor}
+use Rattle.dft_cells.specs.declared.kind.Gate.{Gate as GateKind}
+use Rattle.dft_cells.specs.declared.kind.Gate.TheVariants.{Buf, Inv, And, Nand, Or, Nor, Xor, Xnor}
 use Rattle.dft_cells.specs.declared.cell.Pin.{Pin}
 use Rattle.dft_cells.specs.declared.cell.Cell.{Cell}
 use Rattle.dft_base.specs.declared.dir.Dir.{Dir}
@@ -111,7 +111,7 @@ connection_texts nets (pin ∷ pins) [] = []
 connection_texts nets (pin ∷ pins) (to ∷ signals) = if is_joined to then connection_text nets pin.name to ∷ connection_texts nets pins signals else connection_texts nets pins signals
 
 -- the primitive of a kind of gate
-abbrev pub gate_text : Kind → Text
+abbrev pub gate_text : GateKind → Text
 gate_text Buf = codes "buf"
 gate_text Inv = codes "not"
 gate_text And = codes "and"
@@ -132,7 +132,7 @@ own_name_text None = []
 own_name_text (Some name) = 32 ∷ name_text name
 
 -- the line of a gate, as `xor g1 (y, a, b);`
-unfoldable pub gate_line : (nets : List Text) → Kind → Instance → Text
+unfoldable pub gate_line : (nets : List Text) → GateKind → Instance → Text
 gate_line nets kind i = gate_text kind ++ (own_name_text i.name ++ (codes " (" ++ (list_text (map (signal_text nets) (output_first i.pins)) ++ codes ");\n")))
 
 -- the line of an instance of a cell, as `DFF f0 (.CK(clk), .D(d0), .Q(q0));`

@@ -9,7 +9,7 @@ ghost use Rattle.dft_verilog_out.specs.Written as form;
 use crate::names::add_name;
 use crate::nets::{NetText, add_signal};
 use dft_base::Name;
-use dft_cells::{Cell, Kind, Pin};
+use dft_cells::{Cell, Gate, Pin};
 use dft_netlist::{CellRef, Instance, Join, Signal};
 use std::alloc::AllocError;
 
@@ -86,18 +86,18 @@ fn add_connections(
     Ok(())
 }
 
-fn gate_text(kind: Kind) -> &'static [u8]
+fn gate_text(kind: Gate) -> &'static [u8]
     ensures { result.now ≡ form.gate_text kind }
 {
     match kind {
-        Kind::Buf => b"buf",
-        Kind::Inv => b"not",
-        Kind::And => b"and",
-        Kind::Nand => b"nand",
-        Kind::Or => b"or",
-        Kind::Nor => b"nor",
-        Kind::Xor => b"xor",
-        Kind::Xnor => b"xnor",
+        Gate::Buf => b"buf",
+        Gate::Inv => b"not",
+        Gate::And => b"and",
+        Gate::Nand => b"nand",
+        Gate::Or => b"or",
+        Gate::Nor => b"nor",
+        Gate::Xor => b"xor",
+        Gate::Xnor => b"xnor",
         _ => b"",
     }
 }
@@ -145,7 +145,7 @@ fn add_own_name(out: &mut Vec<u8>, name: &Option<Name>) -> Result<(), AllocError
 fn add_gate(
     out: &mut Vec<u8>,
     nets: &[NetText],
-    kind: Kind,
+    kind: Gate,
     instance: &Instance,
 ) -> Result<(), AllocError>
     requires { AreLive (length nets.now) instance.now.pins }

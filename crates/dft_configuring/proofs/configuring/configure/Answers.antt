@@ -3,7 +3,7 @@ use Rattle.std.proofs.Common.{◌≤◌, ◌∙◌, List, ℕ, ap, length, subst
 use Rattle.std.proofs.lemmas.Result.{err_from_is_err_and}
 use Rattle.dft_config.specs.Config.{Config}
 use Rattle.dft_config.specs.Range.{IsInRange}
-use Rattle.dft_config.specs.Refusals.{IsConfig}
+use Rattle.dft_config_text.specs.Refusals.{IsConfig}
 use Rattle.dft_rules.specs.Refusals as rules
 use Rattle.dft_stitch.specs.Chains.{plan_of}
 use Rattle.dft_insert.specs.declared.style.Style.TheVariants.{Edt}

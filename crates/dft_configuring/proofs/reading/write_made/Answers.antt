@@ -1,7 +1,7 @@
 -- The text is read as what was made.
 use Rattle.std.proofs.Common.{◌≡◌, ◌<◌, ◌≤◌, ◌^◌, ◌∙◌, ℕ, List, length, arith, subst}
 use Rattle.std.proofs.lemmas.Result.{err_from_is_err_and}
-use Rattle.dft_config.specs.Refusals.{IsConfig}
+use Rattle.dft_config_text.specs.Refusals.{IsConfig}
 use Rattle.dft_config_out.specs.Written.{made_text}
 use Rattle.dft_configuring.specs.Causes.{IsLong}
 use Rattle.dft_configuring.proofs.reading.write_made.Goals as goal

@@ -4,7 +4,7 @@ use Rattle.std.specs.Prelude.{if◌then◌else◌}
 use Rattle.std.proofs.lemmas.List.{get_or_default, length-set}
 use Rattle.dft_base.specs.declared.tri.Tri.{Tri}
 use Rattle.dft_base.specs.declared.tri.Tri.TheVariants.{Zero, Unknown}
-use Rattle.dft_netlist.specs.Logic.{Cell}
+use Rattle.dft_behavior.specs.Logic.{Cell}
 use Rattle.dft_cycle.specs.Machine.{value_at}
 use Rattle.dft_logic.specs.Circuit.{cell_of, cell_at}
 use Rattle.dft_logic.proofs.Writings.{Written, write_more, cell_read}

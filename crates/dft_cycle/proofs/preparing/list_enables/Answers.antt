@@ -1,9 +1,9 @@
 -- The scan enables are marked, and what is marked is listed.
 use Rattle.std.proofs.Common.{map, subst, sym, arith, ap}
 use Rattle.dft_netlist.specs.Orders.{Has}
-use Rattle.dft_logic.specs.Entries.{Entry}
+use Rattle.dft_takings.specs.Entries.{Entry}
 use Rattle.dft_logic.specs.Circuit.{Circuit, cell_of, cell_at}
-use Rattle.dft_logic.specs.EntryTables.{entry_needs}
+use Rattle.dft_takings.specs.EntryTables.{entry_needs}
 use Rattle.dft_cycle.proofs.preparing.list_enables.Goals as goal
 
 pub returns-clause-all : goal.returns-clause-all

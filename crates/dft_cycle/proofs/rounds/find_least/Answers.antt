@@ -1,6 +1,7 @@
 -- The map is least, and its next values are there, where a turn changes nothing.
 use Rattle.std.proofs.Common.{refl}
-use Rattle.dft_logic.specs.Circuit.{logic_at, pulse_at}
+use Rattle.dft_logic.specs.Circuit.{logic_at}
+use Rattle.dft_takings.specs.Views.{pulse_at}
 use Rattle.dft_cycle.proofs.Risings.{reach_start, reach_more, reach_least}
 use Rattle.dft_cycle.proofs.rounds.find_least.Goals as goal
 

@@ -1,7 +1,8 @@
 -- The map is above the old values and below all closed maps.
 use Rattle.std.proofs.Common.{ℕ, ◌≡◌, false, count_by}
 use Rattle.dft_base.specs.Tri.{is_known}
-use Rattle.dft_logic.specs.Circuit.{IsReady, flag_at, logic_at, pulse_at}
+use Rattle.dft_logic.specs.Circuit.{flag_at, logic_at}
+use Rattle.dft_takings.specs.Views.{IsReady, pulse_at}
 use Rattle.dft_cycle.specs.Views.{IsSearch}
 use Rattle.dft_cycle.proofs.Risings.{Reached}
 use Rattle.dft_cycle.proofs.rounds.find_least.Given as goal

@@ -3,7 +3,8 @@ use Rattle.std.proofs.Common.{ℕ, ◌≡◌, false}
 use Rattle.dft_base.specs.declared.tri.Tri.{Tri}
 use Rattle.dft_abstract.specs.Cycle.{AreViews}
 use Rattle.dft_cycle.specs.Machine.{value_at}
-use Rattle.dft_logic.specs.Circuit.{IsReady, flag_at, logic_at, pulse_at}
+use Rattle.dft_logic.specs.Circuit.{flag_at, logic_at}
+use Rattle.dft_takings.specs.Views.{IsReady, pulse_at}
 use Rattle.dft_cycle.specs.Views.{IsHeld}
 use Rattle.dft_cycle.proofs.rounds.hold_lockups.Given as goal
 

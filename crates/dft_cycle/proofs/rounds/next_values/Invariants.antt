@@ -3,7 +3,8 @@ use Rattle.std.proofs.Common.{ℕ, ◌≡◌, ◌<◌, false, length}
 use Rattle.dft_base.specs.declared.tri.Tri.{Tri}
 use Rattle.dft_abstract.specs.Cycle.{AreViews}
 use Rattle.dft_cycle.specs.Machine.{value_at}
-use Rattle.dft_logic.specs.Circuit.{GivenIn, logic_at, pulse_at, flag_at}
+use Rattle.dft_logic.specs.Circuit.{logic_at, flag_at}
+use Rattle.dft_takings.specs.Views.{GivenIn, pulse_at}
 use Rattle.dft_cycle.specs.Views.{IsHeld, HasNext}
 use Rattle.dft_cycle.proofs.rounds.next_values.Given as goal
 

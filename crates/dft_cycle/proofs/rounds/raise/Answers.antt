@@ -3,7 +3,7 @@ use Rattle.std.proofs.Common.{ℕ, Bool, ◌<◌, ◌≡◌, ◌∙◌, ap, sym,
 use Rattle.std.proofs.lemmas.List.{get_or_default}
 use Rattle.dft_base.specs.declared.tri.Tri.{Tri}
 use Rattle.dft_base.specs.declared.tri.Tri.TheVariants.{Zero, Unknown}
-use Rattle.dft_netlist.specs.Logic.{Cell}
+use Rattle.dft_behavior.specs.Logic.{Cell}
 use Rattle.dft_cycle.specs.Machine.{value_at}
 use Rattle.dft_logic.specs.Circuit.{cell_of, cell_at}
 use Rattle.dft_cycle.specs.Views.{raised_by}

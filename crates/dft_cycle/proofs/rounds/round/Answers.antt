@@ -2,7 +2,8 @@
 use Rattle.std.proofs.Common.{◌<◌, ◌∙◌, inr, length, refl, sym, get_or, arith}
 use Rattle.std.proofs.lemmas.Option.{slice_get-get_or}
 use Rattle.dft_netlist.specs.declared.ids.NetId.{NetId}
-use Rattle.dft_logic.specs.Circuit.{logic_at, pulse_at}
+use Rattle.dft_logic.specs.Circuit.{logic_at}
+use Rattle.dft_takings.specs.Views.{pulse_at}
 use Rattle.dft_cycle.specs.Machine.{value_at}
 use Rattle.dft_cycle.proofs.RoundLemmas.{rises_start, rises_more, round_rises}
 use Rattle.dft_cycle.proofs.DomainLemmas.{moved, held_near, ready_in}

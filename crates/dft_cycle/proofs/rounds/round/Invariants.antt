@@ -2,7 +2,8 @@
 use Rattle.std.proofs.Common.{ℕ, ◌≡◌, ◌<◌, ◌⊎◌, false, length}
 use Rattle.dft_netlist.specs.Orders.{Has}
 use Rattle.dft_cycle.specs.Machine.{value_at}
-use Rattle.dft_logic.specs.Circuit.{GivenIn, IsReady, pulse_at, flag_at}
+use Rattle.dft_logic.specs.Circuit.{flag_at}
+use Rattle.dft_takings.specs.Views.{GivenIn, IsReady, pulse_at}
 use Rattle.dft_logic.specs.Tables.{list_at}
 use Rattle.dft_cycle.proofs.RoundLemmas.{Rises}
 use Rattle.dft_cycle.proofs.rounds.round.Given as goal

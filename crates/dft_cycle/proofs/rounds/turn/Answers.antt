@@ -7,7 +7,8 @@ use Rattle.dft_base.proofs.ListLemmas.{refilled_length, refilled_items}
 use Rattle.dft_abstract.specs.Cycle.{AreViews}
 use Rattle.dft_cycle.specs.Machine.{value_at}
 use Rattle.dft_cycle.specs.Views.{StaysBelow, AreNext}
-use Rattle.dft_logic.specs.Circuit.{Circuit, IsCircuit, logic_at, pulse_at}
+use Rattle.dft_logic.specs.Circuit.{Circuit, IsCircuit, logic_at}
+use Rattle.dft_takings.specs.Views.{pulse_at}
 use Rattle.dft_cycle.proofs.AloneLemmas.{turn_alone}
 use Rattle.dft_cycle.proofs.Risings.{turn_above, turn_below, turn_done}
 use Rattle.dft_cycle.proofs.SearchLemmas.{next_at, raised_from}

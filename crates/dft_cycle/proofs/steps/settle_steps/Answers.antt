@@ -1,6 +1,6 @@
 -- One net more has its driver's value.
 use Rattle.std.proofs.Common.{◌∙◌}
-use Rattle.dft_logic.specs.Circuit.{before_base, pulse_at}
+use Rattle.dft_takings.specs.Views.{before_base, pulse_at}
 use Rattle.dft_cycle.proofs.StepLemmas.{step_live, step_settled, step_within}
 use Rattle.dft_cycle.proofs.steps.settle_steps.Goals as goal
 

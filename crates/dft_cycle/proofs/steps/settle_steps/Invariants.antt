@@ -1,6 +1,6 @@
 -- The nets of the steps before this one have their drivers' values.
-use Rattle.dft_logic.specs.Circuit.{before_base, pulse_at}
-use Rattle.dft_logic.proofs.Listings.{Listed}
+use Rattle.dft_takings.specs.Views.{before_base, pulse_at}
+use Rattle.dft_takings.proofs.Listings.{Listed}
 use Rattle.dft_cycle.specs.Steps.{step_nets}
 use Rattle.dft_cycle.proofs.steps.settle_steps.Given as goal
 

@@ -1,6 +1,7 @@
 -- Each net that is not marked has its driver's value.
 use Rattle.std.proofs.Common.{◌∙◌, ap}
-use Rattle.dft_logic.specs.Circuit.{Circuit, IsGiven}
+use Rattle.dft_logic.specs.Circuit.{Circuit}
+use Rattle.dft_takings.specs.Views.{IsGiven}
 use Rattle.dft_logic.specs.Tables.{list_at}
 use Rattle.dft_cycle.proofs.Sweepings.{both_refreshed}
 use Rattle.dft_cycle.proofs.sweeping.change_view.Goals as goal

@@ -1,6 +1,7 @@
 -- The nets before this one have their drivers' values.
 use Rattle.std.proofs.Common.{map}
-use Rattle.dft_logic.specs.Circuit.{cell_of, view_base}
+use Rattle.dft_logic.specs.Circuit.{cell_of}
+use Rattle.dft_takings.specs.Views.{view_base}
 use Rattle.dft_cycle.proofs.Sweepings.{Refreshing}
 use Rattle.dft_cycle.proofs.sweeping.refresh.Given as goal
 

@@ -4,9 +4,10 @@ use Rattle.std.proofs.lemmas.List.{get_or_read}
 use Rattle.dft_base.specs.declared.tri.Tri.{Tri}
 use Rattle.dft_logic.specs.declared.circuit.Op.{Op}
 use Rattle.dft_logic.specs.declared.circuit.Op.TheVariants.{Free}
-use Rattle.dft_netlist.specs.Settled.{value_given}
+use Rattle.dft_behavior.specs.Settled.{value_given}
 use Rattle.dft_cycle.specs.Machine.{value_at}
-use Rattle.dft_logic.specs.Circuit.{Circuit, IsCircuit, cell_of, meaning, Supply, leaves_from, view_base}
+use Rattle.dft_logic.specs.Circuit.{Circuit, IsCircuit, cell_of, meaning, Supply, leaves_from}
+use Rattle.dft_takings.specs.Views.{view_base}
 use Rattle.dft_logic.specs.Tables.{list_at}
 use Rattle.dft_logic.specs.CircuitShown.{circuit_of}
 use Rattle.dft_logic.proofs.CircuitReads.{op_read}

@@ -1,6 +1,7 @@
 -- Each net that is not marked has its driver's value.
 use Rattle.std.proofs.Common.{◌∙◌, ap, map, subst}
-use Rattle.dft_logic.specs.Circuit.{Circuit, IsCircuit, view_base, cell_of}
+use Rattle.dft_logic.specs.Circuit.{Circuit, IsCircuit, cell_of}
+use Rattle.dft_takings.specs.Views.{view_base}
 use Rattle.dft_logic.specs.Tables.{list_at}
 use Rattle.dft_cycle.proofs.DomainLemmas.{ready_refreshed}
 use Rattle.dft_cycle.proofs.sweeping.settle_again.Goals as goal

@@ -1,6 +1,7 @@
 -- The nets before this one are not marked.
 use Rattle.std.proofs.Common.{map}
-use Rattle.dft_logic.specs.Circuit.{cell_of, view_base}
+use Rattle.dft_logic.specs.Circuit.{cell_of}
+use Rattle.dft_takings.specs.Views.{view_base}
 use Rattle.dft_logic.specs.Sweepings.{Sweeping}
 use Rattle.dft_logic.proofs.Settlings.{IsGiven}
 use Rattle.dft_cycle.proofs.sweeping.sweep.Given as goal

@@ -1,6 +1,6 @@
 use Rattle.std.proofs.Common.{◌<◌, ◌∷◌, [], List, length, sym, subst, arith}
 use Rattle.std.proofs.lemmas.Result.{err_from_is_err_and}
-use Rattle.dft_cells.specs.declared.kind.Kind.TheVariants.{Buf}
+use Rattle.dft_cells.specs.declared.kind.Gate.TheVariants.{Buf}
 use Rattle.dft_netlist.specs.declared.ids.NetId.{NetId}
 use Rattle.dft_parts.specs.Recipes.{a_gate, net_at, Makes}
 use Rattle.dft_edt.proofs.Making.{output_made, sum_refused}

@@ -1,8 +1,8 @@
 -- The clock of the pin's source.
 use Rattle.std.proofs.Common.{◌∙◌, ap, sym}
-use Rattle.dft_netlist.specs.ClockSteps.{shown_clock}
+use Rattle.dft_behavior.specs.ClockSteps.{shown_clock}
 use Rattle.dft_netlist.specs.Drivers.{source_of}
-use Rattle.dft_netlist.proofs.ClockTables.{shown_in}
+use Rattle.dft_behavior.proofs.ClockTables.{shown_in}
 use Rattle.dft_expect.proofs.reads.clock_of.Goals as goal
 
 pub returns-in-Some : goal.returns-in-Some

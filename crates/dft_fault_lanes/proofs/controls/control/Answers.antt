@@ -4,9 +4,9 @@ use Rattle.std.specs.Vec.{with_items}
 use Rattle.std.proofs.lemmas.List.{with_items_is}
 use Rattle.dft_cells.specs.declared.cell.Cell.{Cell}
 use Rattle.dft_netlist.specs.declared.instance.Instance.{Instance}
-use Rattle.dft_netlist.specs.Logic.{Logic}
+use Rattle.dft_behavior.specs.Logic.{Logic}
 use Rattle.dft_logic.specs.Circuit.{flag_at}
-use Rattle.dft_logic.specs.Needs.{IsStrobeClosed}
+use Rattle.dft_takings.specs.Needs.{IsStrobeClosed}
 use Rattle.dft_fault_laws.specs.Stuck.{IsControl}
 use Rattle.dft_fault_lanes.specs.Controls.{HasPins}
 use Rattle.dft_fault_lanes.proofs.ControlLemmas.{are_control}

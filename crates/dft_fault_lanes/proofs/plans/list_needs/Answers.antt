@@ -1,9 +1,9 @@
 -- What is marked stays so.
 use Rattle.std.proofs.Common.{ℕ, length}
 use Rattle.dft_netlist.specs.Drivers.{nets_of}
-use Rattle.dft_netlist.specs.Settled.{value_from}
-use Rattle.dft_logic.specs.Needs.{next_reads}
-use Rattle.dft_logic.proofs.ListLemmas.{wider}
+use Rattle.dft_behavior.specs.Settled.{value_from}
+use Rattle.dft_takings.specs.Needs.{next_reads}
+use Rattle.dft_takings.proofs.ListLemmas.{wider}
 use Rattle.dft_fault_lanes.specs.Lanes.{flop_at}
 use Rattle.dft_fault_lanes.specs.Moves.{enable_needs}
 use Rattle.dft_fault_lanes.specs.Plans.{needs_of}

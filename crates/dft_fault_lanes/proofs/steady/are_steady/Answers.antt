@@ -1,9 +1,9 @@
 -- One cell more reads what is still, if it takes a value.
 use Rattle.std.proofs.Common.{ℕ, true, ◌<◌, ◌∙◌, ap, subst, length, arith}
-use Rattle.dft_netlist.specs.Logic.{Cell}
-use Rattle.dft_logic.specs.Needs.{HasAll}
-use Rattle.dft_logic.specs.Shows.{still_needs}
-use Rattle.dft_logic.specs.ShownTables.{shown_at}
+use Rattle.dft_behavior.specs.Logic.{Cell}
+use Rattle.dft_takings.specs.Needs.{HasAll}
+use Rattle.dft_takings.specs.Shows.{still_needs}
+use Rattle.dft_takings.specs.ShownTables.{shown_at}
 use Rattle.dft_logic.proofs.Writings.{cell_read}
 use Rattle.dft_fault_laws.specs.Rounds.{every}
 use Rattle.dft_fault_lanes.specs.Lanes.{flop_at, is_changed}

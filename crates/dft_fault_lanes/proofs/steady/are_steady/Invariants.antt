@@ -1,8 +1,8 @@
 -- The cells before this one that take a value read what is still.
 use Rattle.std.proofs.Common.{true}
-use Rattle.dft_logic.specs.Needs.{HasAll}
-use Rattle.dft_logic.specs.Shows.{still_needs}
-use Rattle.dft_logic.specs.ShownTables.{shown_at}
+use Rattle.dft_takings.specs.Needs.{HasAll}
+use Rattle.dft_takings.specs.Shows.{still_needs}
+use Rattle.dft_takings.specs.ShownTables.{shown_at}
 use Rattle.dft_fault_laws.specs.Rounds.{every}
 use Rattle.dft_fault_lanes.specs.Lanes.{flop_at, is_changed}
 use Rattle.dft_fault_lanes.specs.Plans.{cell_needs}

@@ -1,9 +1,9 @@
 -- Both are still.
 use Rattle.std.proofs.Common.{[], ◌∷◌}
 use Rattle.dft_logic.specs.Circuit.{source_at}
-use Rattle.dft_logic.specs.Shows.{still_needs}
-use Rattle.dft_logic.specs.ShownTables.{shown_at}
-use Rattle.dft_logic.proofs.RiseLemmas.{more_all}
+use Rattle.dft_takings.specs.Shows.{still_needs}
+use Rattle.dft_takings.specs.ShownTables.{shown_at}
+use Rattle.dft_takings.proofs.RiseLemmas.{more_all}
 use Rattle.dft_fault_laws.specs.Rounds.{every}
 use Rattle.dft_fault_lanes.proofs.steady.both_still.Goals as goal
 

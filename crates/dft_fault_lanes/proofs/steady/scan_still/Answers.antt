@@ -1,8 +1,8 @@
 -- The scan enable is still, and what it lets through.
 use Rattle.dft_logic.specs.Circuit.{source_at}
-use Rattle.dft_logic.specs.Shows.{still_needs}
-use Rattle.dft_logic.specs.ShownTables.{shown_at}
-use Rattle.dft_logic.proofs.RiseLemmas.{more_all}
+use Rattle.dft_takings.specs.Shows.{still_needs}
+use Rattle.dft_takings.specs.ShownTables.{shown_at}
+use Rattle.dft_takings.proofs.RiseLemmas.{more_all}
 use Rattle.dft_fault_laws.specs.Rounds.{every}
 use Rattle.dft_fault_lanes.proofs.steady.scan_still.Goals as goal
 

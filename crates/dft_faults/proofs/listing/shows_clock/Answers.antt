@@ -1,8 +1,8 @@
 -- By what each net shows.
 use Rattle.std.proofs.Common.{Option, ap, sym, ◌∙◌}
-use Rattle.dft_netlist.specs.declared.clock_roots.ClockRoot.{ClockRoot}
+use Rattle.dft_behavior.specs.declared.clock_roots.ClockRoot.{ClockRoot}
 use Rattle.dft_netlist.specs.Drivers.{Net}
-use Rattle.dft_netlist.specs.ClockSteps.{shown_clock}
+use Rattle.dft_behavior.specs.ClockSteps.{shown_clock}
 use Rattle.dft_faults.specs.Faults.{is_clock_in, is_root_in}
 use Rattle.dft_faults.proofs.listing.shows_clock.Goals as goal
 

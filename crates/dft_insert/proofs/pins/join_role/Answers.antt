@@ -1,5 +1,5 @@
 use Rattle.std.proofs.Common.{◌∙◌, ap}
-use Rattle.dft_netlist.specs.Logic.{same_role}
+use Rattle.dft_netlist.specs.Connections.{same_role}
 use Rattle.dft_scan_frame.specs.Pins.{number_of}
 use Rattle.dft_insert.proofs.MadeParts.{role_pin_made, role_pin_none}
 use Rattle.dft_insert.proofs.pins.join_role.Goals as goal

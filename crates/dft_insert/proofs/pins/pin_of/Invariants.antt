@@ -1,6 +1,6 @@
 use Rattle.std.proofs.Common.{◌≡◌, drop, map}
 use Rattle.dft_cells.specs.WellFormed.{role_of}
-use Rattle.dft_netlist.specs.Logic.{same_role}
+use Rattle.dft_netlist.specs.Connections.{same_role}
 use Rattle.dft_scan_frame.specs.Pins.{number_of}
 use Rattle.dft_insert.proofs.pins.pin_of.Given as goal
 

@@ -1,6 +1,6 @@
 -- The clock of the net.
 use Rattle.std.proofs.Common.{◌∙◌, ap}
-use Rattle.dft_netlist.specs.ClockSteps.{shown_clock}
+use Rattle.dft_behavior.specs.ClockSteps.{shown_clock}
 use Rattle.dft_netlist.specs.Drivers.{Net}
 use Rattle.dft_logic.proofs.compiling.clock_of.Goals as goal
 

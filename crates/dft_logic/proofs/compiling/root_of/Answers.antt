@@ -1,7 +1,7 @@
 -- The root of the net.
 use Rattle.std.proofs.Common.{◌∙◌, ap}
 use Rattle.dft_netlist.specs.Drivers.{Net}
-use Rattle.dft_netlist.specs.Roots.{shown_root}
+use Rattle.dft_behavior.specs.Roots.{shown_root}
 use Rattle.dft_logic.proofs.compiling.root_of.Goals as goal
 
 pub returns-in-Net : goal.returns-in-Net

@@ -1,6 +1,6 @@
 -- One flip-flop more is listed.
 use Rattle.std.proofs.Common.{[], ◌∷◌, map, ap}
-use Rattle.dft_netlist.specs.Logic.{Cell}
+use Rattle.dft_behavior.specs.Logic.{Cell}
 use Rattle.dft_logic.specs.Circuit.{cell_of, cell_at}
 use Rattle.dft_logic.proofs.Writings.{cell_read}
 use Rattle.dft_logic.proofs.TableLemmas.{table_start, table_more, table_packed}

@@ -3,7 +3,7 @@ use Rattle.std.proofs.Common.{ap, ◌∙◌}
 use Rattle.std.proofs.lemmas.List.{get_or_default}
 use Rattle.dft_logic.specs.declared.circuit.Op.{Op}
 use Rattle.dft_logic.specs.declared.circuit.Op.TheVariants.{Free}
-use Rattle.dft_netlist.specs.Logic.{reads}
+use Rattle.dft_behavior.specs.Logic.{reads}
 use Rattle.dft_logic.specs.Circuit.{meaning, op_at}
 use Rattle.dft_logic.proofs.TableLemmas.{table_start, table_more, table_packed}
 use Rattle.dft_logic.proofs.tables.readers.Goals as goal

@@ -1,6 +1,6 @@
 -- The nets before this one are listed.
 use Rattle.std.proofs.Common.{length}
-use Rattle.dft_netlist.specs.Logic.{reads}
+use Rattle.dft_behavior.specs.Logic.{reads}
 use Rattle.dft_logic.specs.Circuit.{meaning, op_at}
 use Rattle.dft_logic.specs.Tables.{IsTable}
 use Rattle.dft_logic.proofs.tables.readers.Given as goal

@@ -1,7 +1,7 @@
 -- The rest of the pins gives what all of them give.
 use Rattle.std.proofs.Common.{◌≡◌, drop, find}
 use Rattle.dft_netlist.specs.Drivers.{connections_from, connections_of, shape_of}
-use Rattle.dft_netlist.specs.Logic.{same_role}
+use Rattle.dft_netlist.specs.Connections.{same_role}
 use Rattle.dft_netlist.proofs.cells.signal_of.Given as goal
 
 abbrev pub invariant-loop-pin : goal.invariant-loop-pin

@@ -1,5 +1,5 @@
-use Rattle.dft_netlist.specs.Logic.{logic_of}
-use Rattle.dft_netlist.proofs.Ranks.{order_is_rank}
+use Rattle.dft_behavior.specs.Logic.{logic_of}
+use Rattle.dft_behavior.proofs.Ranks.{order_is_rank}
 use Rattle.dft_runs.proofs.Existence.{choices_run}
 use Rattle.dft_replay.specs.Rows.{rows_of, ports_of}
 use Rattle.dft_replay.specs.Laws.{vectors_of}

@@ -3,7 +3,7 @@ use Rattle.std.proofs.Common.{◌≡◌, ◌<◌, ◌∙◌, ℕ, List, [], sym,
 use Rattle.std.proofs.lemmas.List.{length-map}
 use Rattle.dft_netlist.specs.declared.ids.NetId.{NetId}
 use Rattle.dft_netlist.specs.Netlist.{Netlist}
-use Rattle.dft_netlist.specs.Logic.{logic_of}
+use Rattle.dft_behavior.specs.Logic.{logic_of}
 use Rattle.dft_netlist.specs.Orders.{numbers_of}
 use Rattle.dft_cycle.specs.Machine.{Machine, AreNets, logic}
 use Rattle.dft_cycle.proofs.MachineRounds.{start_forced}

@@ -1,6 +1,6 @@
 -- A verdict on what is left is the verdict on all.
 use Rattle.std.proofs.Common.{◌≡◌, ◌≤◌, ◌*◌, length, drop, map}
-use Rattle.dft_netlist.specs.Logic.{logic_of}
+use Rattle.dft_behavior.specs.Logic.{logic_of}
 use Rattle.dft_netlist.specs.Orders.{numbers_of}
 use Rattle.dft_abstract.specs.Cycle.{all_unknown}
 use Rattle.dft_cycle.specs.Machine.{value_at}

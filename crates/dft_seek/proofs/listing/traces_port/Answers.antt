@@ -1,7 +1,7 @@
 -- By the root of the net.
 use Rattle.std.proofs.Common.{inl, inr, ap, sym, ◌∙◌}
-use Rattle.dft_netlist.specs.declared.root.Root.{Root}
-use Rattle.dft_netlist.specs.Roots.{shown_root}
+use Rattle.dft_behavior.specs.declared.root.Root.{Root}
+use Rattle.dft_behavior.specs.Roots.{shown_root}
 use Rattle.dft_faults.specs.Faults.{is_clock_in}
 use Rattle.dft_seek.specs.SoughtFaults.{is_root_of}
 use Rattle.dft_seek.proofs.listing.traces_port.Goals as goal

@@ -1,6 +1,6 @@
 -- The operands before this one have their values.
 use Rattle.std.proofs.Common.{◌≡◌, map, take}
-use Rattle.dft_netlist.specs.Settled.{value_from}
+use Rattle.dft_behavior.specs.Settled.{value_from}
 use Rattle.dft_logic.specs.Values.{value_at}
 use Rattle.dft_logic.specs.Circuit.{source_at}
 use Rattle.dft_sweep.proofs.gates.gather.Given as goal

@@ -2,8 +2,8 @@
 use Rattle.std.proofs.Common.{◌∙◌, sym, subst, List}
 use Rattle.dft_base.specs.declared.tri.Tri.{Tri}
 use Rattle.dft_base.proofs.ListLemmas.{refilled_length}
-use Rattle.dft_netlist.specs.Logic.{Logic}
-use Rattle.dft_logic.specs.Needs.{AreSeen}
+use Rattle.dft_behavior.specs.Logic.{Logic}
+use Rattle.dft_takings.specs.Needs.{AreSeen}
 use Rattle.dft_logic.specs.Circuit.{logic_at}
 use Rattle.dft_cycle.specs.Machine.{Machine, logic, value_at}
 use Rattle.dft_cycle.proofs.MachineLemmas.{clear_kept}

@@ -3,11 +3,12 @@ use Rattle.std.proofs.Common.{ℕ, ◌≡◌, ◌∙◌, refl, ap, map, subst, L
 use Rattle.dft_base.specs.declared.tri.Tri.{Tri}
 use Rattle.dft_base.proofs.ListLemmas.{refilled_length, refilled_items}
 use Rattle.dft_cycle.specs.Machine.{Machine, logic, value_at}
-use Rattle.dft_logic.specs.Needs.{AreSeen}
+use Rattle.dft_takings.specs.Needs.{AreSeen}
 use Rattle.dft_netlist.specs.declared.ids.NetId.{NetId}
 use Rattle.dft_cycle.specs.MachineShown.{machine_of}
-use Rattle.dft_logic.specs.declared.settling.Pulse.{Pulse as Phase}
-use Rattle.dft_logic.specs.Circuit.{logic_at, GivenIn, pulse_at}
+use Rattle.dft_takings.specs.declared.settling.Pulse.{Pulse as Phase}
+use Rattle.dft_logic.specs.Circuit.{logic_at}
+use Rattle.dft_takings.specs.Views.{GivenIn, pulse_at}
 use Rattle.dft_cycle.proofs.DomainLemmas.{ready_view}
 use Rattle.dft_cycle.proofs.MachineLemmas.{looked, clear_kept, ready_kept}
 use Rattle.dft_cycle.proofs.machine.AbstractMachine.look_at_all.Goals as goal

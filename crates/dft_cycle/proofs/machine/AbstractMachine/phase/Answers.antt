@@ -11,8 +11,8 @@ use Rattle.dft_cycle.specs.Views.{Among}
 use Rattle.dft_registers.specs.Layout.{Layout}
 use Rattle.dft_registers.specs.declared.moves.Move.{Move}
 use Rattle.dft_registers.specs.Cells.{CanMove}
-use Rattle.dft_logic.specs.declared.takings.Taking.{Taking}
-use Rattle.dft_logic.specs.Takings.{taking_at}
+use Rattle.dft_takings.specs.declared.takings.Taking.{Taking}
+use Rattle.dft_takings.specs.Takings.{taking_at}
 use Rattle.dft_cycle.specs.Plans.{ArePlans, IsFound, IsPassed}
 use Rattle.dft_cycle.specs.MachineShown.{machine_of}
 use Rattle.dft_cycle.proofs.MachineLemmas.{clear_kept, passed_loose, pulses_among, flags_one, phase_passed, plan_found, put_passed}

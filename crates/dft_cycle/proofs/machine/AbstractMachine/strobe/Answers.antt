@@ -4,8 +4,9 @@ use Rattle.std.specs.Vec.{with_items}
 use Rattle.dft_base.proofs.ListLemmas.{refilled_length, refilled_items}
 use Rattle.dft_cycle.specs.Machine.{Machine, logic, IsStrobed}
 use Rattle.dft_cycle.specs.MachineShown.{machine_of}
-use Rattle.dft_logic.specs.declared.settling.Pulse.{Pulse as Phase}
-use Rattle.dft_logic.specs.Circuit.{logic_at, GivenIn, pulse_at}
+use Rattle.dft_takings.specs.declared.settling.Pulse.{Pulse as Phase}
+use Rattle.dft_logic.specs.Circuit.{logic_at}
+use Rattle.dft_takings.specs.Views.{GivenIn, pulse_at}
 use Rattle.dft_cycle.proofs.DomainLemmas.{ready_view}
 use Rattle.dft_cycle.proofs.MachineLemmas.{strobed, clear_kept, ready_kept}
 use Rattle.dft_cycle.proofs.machine.AbstractMachine.strobe.Goals as goal

@@ -4,8 +4,8 @@ use Rattle.std.proofs.lemmas.List.{get_or_past, length-set}
 use Rattle.std.proofs.lemmas.List.Elements.{All-set}
 use Rattle.dft_base.specs.declared.tri.Tri.TheVariants.{Unknown}
 use Rattle.dft_base.proofs.ListLemmas.{refilled_items}
-use Rattle.dft_logic.specs.EntryTables.{origin_at, entry_at}
-use Rattle.dft_logic.specs.ShownTables.{shown_at}
+use Rattle.dft_takings.specs.EntryTables.{origin_at, entry_at}
+use Rattle.dft_takings.specs.ShownTables.{shown_at}
 use Rattle.dft_cycle.specs.Plans.{IsPlan}
 use Rattle.dft_cycle.proofs.PassLemmas.{plan_made}
 use Rattle.dft_cycle.proofs.planning.Plans.make.Goals as goal

@@ -6,11 +6,11 @@ use Rattle.dft_netlist.specs.declared.ids.NetId.{NetId}
 use Rattle.dft_netlist.specs.Orders.{Has, numbers_of}
 use Rattle.dft_registers.specs.Layout.{Layout}
 use Rattle.dft_replay.specs.Vectors.{AreSignals}
-use Rattle.dft_logic.specs.declared.shown.Shown.{Shown}
+use Rattle.dft_takings.specs.declared.shown.Shown.{Shown}
 use Rattle.dft_logic.specs.Circuit.{Circuit, logic_at, flag_at, AreOrdered}
-use Rattle.dft_logic.specs.Needs.{HasAll, IsStrobeClosed}
-use Rattle.dft_logic.specs.Shows.{IsShownOn}
-use Rattle.dft_logic.specs.ShownTables.{shown_at, edges_of}
+use Rattle.dft_takings.specs.Needs.{HasAll, IsStrobeClosed}
+use Rattle.dft_takings.specs.Shows.{IsShownOn}
+use Rattle.dft_takings.specs.ShownTables.{shown_at, edges_of}
 use Rattle.dft_fault_laws.specs.Rounds.{every}
 use Rattle.dft_fault_lanes.specs.Lanes.{flop_at}
 use Rattle.dft_fault_lanes.specs.Plans.{needs_of, HasReadsOf, AreCovered, pulse_on}

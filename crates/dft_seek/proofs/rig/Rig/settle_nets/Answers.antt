@@ -4,7 +4,7 @@ use Rattle.std.specs.Vec.{with_items}
 use Rattle.dft_base.specs.declared.tri.Tri.{Tri}
 use Rattle.dft_base.proofs.ListLemmas.{refilled_length, refilled_items}
 use Rattle.dft_netlist.specs.Orders.{Has}
-use Rattle.dft_netlist.specs.Settled.{TriSources}
+use Rattle.dft_behavior.specs.Settled.{TriSources}
 use Rattle.dft_logic.specs.Values.{value_at}
 use Rattle.dft_sweep.specs.Places.{AreBusy, ArePlaces}
 use Rattle.dft_sweep.specs.Fields.{IsGivenIf}

@@ -1,0 +1,13 @@
+pub mod Meanings
+pub mod Steps
+pub mod StoredLemmas
+pub mod Ranks
+pub mod OneSettled
+pub mod Walks
+pub mod TraceLemmas
+pub mod ClockWalks
+pub mod LockupPins
+pub mod ClockLemmas
+pub mod RootTables
+pub mod ClockTables
+pub mod SettledLemmas

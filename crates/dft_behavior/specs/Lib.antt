@@ -1,0 +1,11 @@
+pub mod Traces
+pub mod ClockRoots
+pub mod ClockSteps
+pub mod ClockTables
+pub mod Logic
+pub mod Settled
+pub mod Runs
+pub mod Laws
+pub mod Roots
+pub mod RootTables
+pub mod WalkSteps

@@ -1,0 +1,185 @@
+-- What a design does, for given clock ports and reset ports: what each net's bit is, and what each flip-flop and lock-up takes.
+use Rattle.std.specs.Prelude.{ℕ, Bool, true, false, ◌≡◌, List, [], ◌∷◌, Option, None, Some, if◌then◌else◌}
+use Rattle.std.specs.Option.{option_or}
+use Rattle.dft_cells.specs.declared.kind.Kind.{Kind}
+use Rattle.dft_cells.specs.declared.kind.Kind.TheVariants as kind
+use Rattle.dft_cells.specs.declared.kind.Gate.{Gate as GateKind}
+use Rattle.dft_cells.specs.declared.kind.Role.TheVariants as role
+use Rattle.dft_cells.specs.FlipFlops.{is_flip_flop}
+use Rattle.dft_netlist.specs.Netlist.{Netlist}
+use Rattle.dft_netlist.specs.Drivers.{Source, Loose, Driver, Connection, source_of, pins_of, kind_at, driver, nets_of, AreBelow}
+use Rattle.dft_netlist.specs.Drivers as drivers
+use Rattle.dft_netlist.specs.Connections.{pin_of}
+use Rattle.dft_behavior.specs.Traces.{Root, Port, Constant, Other, root_of}
+use Rattle.dft_behavior.specs.ClockRoots.{ClockRoot, clock_root_of}
+
+-- which input ports' bits are clocks, and which are resets or sets, by their nets
+pub record Ports : Type 0 where
+  pub is_clock : ℕ → Bool
+  pub is_reset : ℕ → Bool
+
+-- ---- what the laws see
+
+pub data Meaning : Type 0 where
+  -- an input port's bit that is no clock
+  Input : Meaning
+  -- a clock port's bit
+  Clock : Meaning
+  Gate : (kind : GateKind) → (inputs : List Source) → Meaning
+  Joined : (source : Source) → Meaning
+  -- a modelled flip-flop's bit, or its inverse
+  Flop : (cell : ℕ) → (inverted : Bool) → Meaning
+  -- a lock-up, by its instance and the net of the clock port that its clock comes from; a high one is a wire while that clock is high, another
+  -- one while it is low
+  Lockup : (cell domain : ℕ) → (high : Bool) → (source : Source) → Meaning
+  -- any bit at any moment
+  Free : Meaning
+
+-- a reset (value 0) or a set (value 1), by the net of the port that is 0 where it acts
+pub record Force : Type 0 where
+  pub port : ℕ
+  pub value : Bool
+
+pub record Scan : Type 0 where
+  pub enable : Source
+  pub input : Source
+
+-- what stores a bit: a modelled flip-flop or a lock-up. Its domain is the net of the clock port that its clock pin shows, itself or inverted.
+pub record Cell : Type 0 where
+  pub domain : ℕ
+  -- whether it takes its bit at the fall of its clock, else at the rise
+  pub falling : Bool
+  pub input : Source
+  pub scan : Option Scan
+  pub force : Option Force
+
+-- The meaning of each net, and the cell of each instance. An instance that is neither a modelled flip-flop nor a lock-up on a clock port
+-- has a cell that no net shows.
+pub record Logic : Type 0 where
+  pub net : ℕ → Meaning
+  pub cell : ℕ → Cell
+
+-- ---- what a design is for the laws
+
+-- a pin that a cell has not is as one that is not connected
+abbrev pub or_loose : (instance : ℕ) → Option Source → Source
+or_loose i None = Loose i 0
+or_loose i (Some source) = source
+
+-- a clock that is shown, where its port is a clock port
+abbrev pub domain_of : Ports → Option ClockRoot → Option ClockRoot
+domain_of ports None = None
+domain_of ports (Some root) = if ports.is_clock root.port then Some root else None
+
+-- the clock port that a clock pin shows, itself or inverted
+abbrev pub domain_at : Netlist → Ports → Option Source → Option ClockRoot
+domain_at n ports None = None
+domain_at n ports (Some source) = domain_of ports (clock_root_of n source)
+
+-- What a reset or set is, by its root: None where it keeps its flip-flop from being modelled, Some None where it never acts.
+abbrev pub force_of : Ports → (value : Bool) → Root → Option (Option Force)
+force_of ports value (Port net) = if ports.is_reset net then Some (Some (record { port = net; value = value })) else None
+force_of ports value (Constant true) = Some None
+force_of ports value (Constant false) = None
+force_of ports value Other = None
+
+-- the reset of a flip-flop, or its set, if it has one
+abbrev pub forcing : Netlist → Ports → (reset preset : Option Source) → Option (Option Force)
+forcing n ports (Some reset) preset = force_of ports false (root_of n reset)
+forcing n ports None (Some preset) = force_of ports true (root_of n preset)
+forcing n ports None None = Some None
+
+abbrev pub scan_of : (enable input : Option Source) → Option Scan
+scan_of (Some enable) (Some input) = Some (record { enable = enable; input = input })
+scan_of (Some enable) None = None
+scan_of None input = None
+
+-- A flip-flop is modelled where its clock shows a clock port, and its reset or set traces to a reset port or to constant 1. It is falling where
+-- its clock is inverted.
+abbrev pub modelled : Option ClockRoot → Option (Option Force) → (input : Source) → Option Scan → Option Cell
+modelled (Some clock) (Some force) input scan = Some (record { domain = clock.port; falling = clock.inverted; input = input; scan = scan; force = force })
+modelled (Some clock) None input scan = None
+modelled None force input scan = None
+
+abbrev pub modelled_of : Netlist → Ports → (instance : ℕ) → List Connection → Option Cell
+modelled_of n ports i pins =
+    modelled (domain_at n ports (pin_of role.Clock i pins)) (forcing n ports (pin_of role.Reset i pins) (pin_of role.Preset i pins))
+    (or_loose i (pin_of role.Din i pins)) (scan_of (pin_of role.ScanEnable i pins) (pin_of role.ScanIn i pins))
+
+-- the modelled flip-flop that an instance is, if it is one
+abbrev pub flip_flop : Netlist → Ports → (instance : ℕ) → Option Cell
+flip_flop n ports i = if is_flip_flop (kind_at n i) then modelled_of n ports i (pins_of n i) else None
+
+-- a lock-up's cell has no scan pins, no reset and no set; it takes its bit where it stops being a wire
+abbrev pub lockup_cell : (domain : ℕ) → (high : Bool) → Source → Cell
+lockup_cell domain high source = record { domain = domain; falling = high; input = source; scan = None; force = None }
+
+-- a lock-up is high where its clock is inverted
+abbrev pub locked : Option ClockRoot → Source → Option Cell
+locked None source = None
+locked (Some clock) source = Some (lockup_cell clock.port clock.inverted source)
+
+abbrev pub is_lockup : Kind → Bool
+is_lockup kind.Lockup = true
+is_lockup _ = false
+
+-- the lock-up on a clock port that an instance is, if it is one
+abbrev pub lock_up : Netlist → Ports → (instance : ℕ) → Option Cell
+lock_up n ports i = if is_lockup (kind_at n i) then locked (domain_at n ports (pin_of role.Clock i (pins_of n i))) (or_loose i (pin_of role.Din i (pins_of n i))) else None
+
+-- what an instance stores a bit in
+abbrev pub stored : Netlist → Ports → (instance : ℕ) → Option Cell
+stored n ports i = option_or (flip_flop n ports i) (lock_up n ports i)
+
+-- the cell of an instance that stores none
+abbrev pub no_cell : (instance : ℕ) → Cell
+no_cell i = record { domain = 0; falling = false; input = Loose i 0; scan = None; force = None }
+
+abbrev pub cell_or_none : (instance : ℕ) → Option Cell → Cell
+cell_or_none i None = no_cell i
+cell_or_none i (Some cell) = cell
+
+abbrev pub flop_meaning : (instance : ℕ) → (inverted : Bool) → Option Cell → Meaning
+flop_meaning i inverted None = Free
+flop_meaning i inverted (Some cell) = Flop i inverted
+
+abbrev pub lockup_meaning : (instance : ℕ) → Option ClockRoot → Source → Meaning
+lockup_meaning i None source = Free
+lockup_meaning i (Some clock) source = Lockup i clock.port clock.inverted source
+
+abbrev pub meaning_of : Netlist → Ports → (net : ℕ) → Driver → Meaning
+meaning_of n ports net drivers.Input = if ports.is_clock net then Clock else Input
+meaning_of n ports net (drivers.Gate kind inputs) = Gate kind inputs
+meaning_of n ports net (drivers.Joined source) = Joined source
+meaning_of n ports net (drivers.Flop i inverted) = flop_meaning i inverted (flip_flop n ports i)
+meaning_of n ports net (drivers.Lockup i) = lockup_meaning i (domain_at n ports (pin_of role.Clock i (pins_of n i))) (or_loose i (pin_of role.Din i (pins_of n i)))
+meaning_of n ports net drivers.Free = Free
+
+abbrev pub logic_of : Netlist → Ports → Logic
+logic_of n ports = record {
+  net = λ net. meaning_of n ports net (driver n net);
+  cell = λ i. cell_or_none i (stored n ports i);
+}
+
+-- ---- an order of the nets of a logic
+
+-- the nets that a net's bit is settled from
+abbrev pub reads : Meaning → List ℕ
+reads Input = []
+reads Clock = []
+reads (Gate kind inputs) = nets_of inputs
+reads (Joined source) = nets_of (source ∷ [])
+reads (Flop cell inverted) = []
+reads (Lockup cell domain high source) = nets_of (source ∷ [])
+reads Free = []
+
+-- each net stands after those that it is settled from, and what a lock-up's net shows is the lock-up's cell
+pub record IsRanked (l : Logic) (rank : ℕ → ℕ) : Type 0 where
+  pub order : (net : ℕ) → AreBelow rank (rank net) (reads (l.net net))
+  pub lockups : (net c e : ℕ) (high : Bool) (source : Source) → l.net net ≡ Lockup c e high source → l.cell c ≡ lockup_cell e high source
+
+-- ---- edges
+
+-- every cell takes its bit at the rise of its clock
+abbrev pub IsRising : Logic → Type 0
+IsRising l = (c : ℕ) → (l.cell c).falling ≡ false

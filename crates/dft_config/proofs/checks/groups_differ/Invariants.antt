@@ -1,7 +1,0 @@
--- The rest of the lists gives what all of them give.
-use Rattle.std.proofs.Common.{◌≡◌, drop}
-use Rattle.dft_config.specs.Checks.{each_differs}
-use Rattle.dft_config.proofs.checks.groups_differ.Given as goal
-
-abbrev pub invariant-loop-list : goal.invariant-loop-list
-invariant-loop-list l = each_differs l.lists ≡ each_differs (drop l.list-index l.lists)

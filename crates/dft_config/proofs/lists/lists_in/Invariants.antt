@@ -1,8 +1,0 @@
--- The items so far, and the rest.
-use Rattle.std.proofs.Common.{◌≡◌, ◌++◌, drop, option_map}
-use Rattle.toml.specs.View.{items_view}
-use Rattle.dft_config.specs.Settings.{lists_in}
-use Rattle.dft_config.proofs.lists.lists_in.Given as goal
-
-abbrev pub invariant-loop-item : goal.invariant-loop-item
-invariant-loop-item l = lists_in (items_view l.item-items) ≡ option_map (λ rest. l.lists.items ++ rest) (lists_in (items_view (drop l.item-index l.item-items)))

@@ -1,0 +1,9 @@
+pub mod Keys
+pub mod Faults
+pub mod Ports
+pub mod Settings
+pub mod Sections
+pub mod Unknown
+pub mod Checks
+pub mod Reading
+pub mod Refusals

@@ -1,5 +1,0 @@
-use Rattle.dft_hier.proofs.SettledByPath.{flat_is_joined}
-use Rattle.dft_hier.proofs.laws.flat_designs_are_joined.Goals as goal
-
-pub returns : goal.returns
-returns c = flat_is_joined

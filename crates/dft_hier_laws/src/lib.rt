@@ -1,0 +1,6 @@
+//! What flat designs do: what their modules do side by side, joined at their ports.
+#![tactic(auto)]
+
+mod laws;
+
+pub use laws::flat_designs_are_joined;

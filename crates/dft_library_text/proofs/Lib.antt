@@ -1,0 +1,10 @@
+pub mod RowLemmas
+pub mod Differing
+pub mod ScanLemmas
+pub mod LibraryLemmas
+pub mod FitLemmas
+pub mod Outcomes
+pub mod RoleLemmas
+pub mod PinNames
+pub mod Halving
+pub mod ReadingLemmas

@@ -1,5 +1,0 @@
-use Rattle.dft_logic.proofs.LockupLemmas.{lockup_is_input, lockup_is_wire}
-use Rattle.dft_logic.proofs.laws.lockup_shows_input.Goals as goal
-
-pub returns : goal.returns
-returns c = record { view = lockup_is_input; strobe = lockup_is_wire }

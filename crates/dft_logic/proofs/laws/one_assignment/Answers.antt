@@ -1,5 +1,0 @@
-use Rattle.dft_logic.proofs.ShownLemmas.{shown_is_strobe, pass_of_shown}
-use Rattle.dft_logic.proofs.laws.one_assignment.Goals as goal
-
-pub returns : goal.returns
-returns c = record { view = shown_is_strobe; pass = pass_of_shown }

@@ -1,7 +1,0 @@
--- The nets before this one have their drivers' values.
-use Rattle.dft_logic.specs.Circuit.{before_base, pulse_at}
-use Rattle.dft_logic.proofs.Listings.{Listed}
-use Rattle.dft_logic.proofs.lists.settle_list.Given as goal
-
-abbrev pub invariant-loop-net : goal.invariant-loop-net
-invariant-loop-net l = Listed l.circuit.ops (before_base (pulse_at l.pulse)) l.nets l.values l.net-index

@@ -1,6 +1,0 @@
--- What the flip-flops before this one need is marked.
-use Rattle.dft_logic.proofs.EntryTableLemmas.{MarkedFor}
-use Rattle.dft_logic.proofs.marks.mark_entries.Given as goal
-
-abbrev pub invariant-loop-place : goal.invariant-loop-place
-invariant-loop-place l = MarkedFor l.flops l.entries l.initial.marked l.marked l.place

@@ -1,6 +1,0 @@
--- The nets before this one are marked.
-use Rattle.dft_logic.proofs.EntryTableLemmas.{MarkedNets}
-use Rattle.dft_logic.proofs.marks.mark_nets.Given as goal
-
-abbrev pub invariant-loop-net : goal.invariant-loop-net
-invariant-loop-net l = MarkedNets l.initial.marked l.marked l.nets l.net-index

@@ -1,6 +1,0 @@
-use Rattle.dft_netlist.proofs.Ranks.{order_is_rank}
-use Rattle.dft_netlist.proofs.OneSettled.{settled_one}
-use Rattle.dft_netlist.proofs.laws.settled_is_one.Goals as goal
-
-pub returns : goal.returns
-returns c = record { order = order_is_rank; one = settled_one }

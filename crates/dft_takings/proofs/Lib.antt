@@ -1,0 +1,20 @@
+mod Examples
+pub mod LockupLemmas
+pub mod ReadLemmas
+pub mod NeededLemmas
+pub mod StillLemmas
+pub mod ShownLemmas
+pub mod TakeLemmas
+pub mod ListLemmas
+pub mod EntryLemmas
+pub mod RiseLemmas
+pub mod CircuitRanks
+pub mod NeedLemmas
+pub mod Listings
+pub mod Strobes
+pub mod ShownTableLemmas
+pub mod OriginLemmas
+pub mod EntryTableLemmas
+pub mod TakingLemmas
+pub mod PlanLemmas
+pub mod LookLemmas

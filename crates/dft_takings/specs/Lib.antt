@@ -1,0 +1,12 @@
+pub mod Needs
+pub mod Moves
+pub mod Shows
+pub mod Takes
+pub mod Lists
+pub mod Entries
+pub mod Laws
+pub mod Ranks
+pub mod ShownTables
+pub mod Views
+pub mod EntryTables
+pub mod Takings

@@ -1,7 +1,0 @@
--- The rest of the bytes gives what all of them give.
-use Rattle.std.proofs.Common.{◌≡◌, drop}
-use Rattle.dft_toml.specs.Values.{all_printed}
-use Rattle.dft_toml.proofs.name.are_printed.Given as goal
-
-abbrev pub invariant-loop-byte : goal.invariant-loop-byte
-invariant-loop-byte l = all_printed l.bytes ≡ all_printed (drop l.byte-index l.bytes)

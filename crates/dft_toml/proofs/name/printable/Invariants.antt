@@ -1,7 +1,0 @@
--- The bytes shown so far are those of the first bytes.
-use Rattle.std.proofs.Common.{◌≡◌, map, take}
-use Rattle.dft_toml.specs.Values.{shown}
-use Rattle.dft_toml.proofs.name.printable.Given as goal
-
-abbrev pub invariant-loop-byte : goal.invariant-loop-byte
-invariant-loop-byte l = l.shown_bytes.items ≡ map shown (take l.byte-index l.bytes)
