@@ -4,13 +4,14 @@ use Rattle.std.specs.Prelude.{if◌then◌else◌}
 use Rattle.dft_base.specs.declared.tri.Tri.{Tri}
 use Rattle.dft_base.specs.declared.tri.Tri.TheVariants.{Zero, One, Unknown}
 use Rattle.dft_base.specs.Tri.{AboveTri, join}
-use Rattle.dft_cells.proofs.Completions.{above_self, trans, join_least, join_over_left, join_over_right, forced_monotone, chosen_monotone}
+use Rattle.dft_cells.proofs.Completions.{above_self, trans, join_least, join_over_left, join_over_right}
+use Rattle.dft_cells.proofs.TakesLemmas.{taken_monotone, left_monotone}
 use Rattle.dft_netlist.specs.Drivers.{Source, nets_of, AreBelow}
-use Rattle.dft_behavior.specs.Logic.{Logic, Force, Scan, IsRanked}
+use Rattle.dft_behavior.specs.Logic.{Logic, IsRanked}
 use Rattle.dft_behavior.specs.Settled.{TriSources, value_from, IsTriSettled}
 use Rattle.dft_behavior.specs.Runs.{Vector, takes}
 use Rattle.dft_behavior.proofs.Meanings.{source_monotone, source_over, meaning_monotone, at_nets}
-use Rattle.dft_abstract.specs.Cycle.{Pulse, tri_forced_by, tri_taken_by, changes, lockup_shown, view_sources, AreViews, next_value, IsLeast, after_pulse, rise_of, fall_of, strobe_sources, Halves, AreLeast, after_halves, Round, IsRound}
+use Rattle.dft_abstract.specs.Cycle.{Pulse, changes, lockup_shown, view_sources, AreViews, next_value, IsLeast, after_pulse, rise_of, fall_of, strobe_sources, Halves, AreLeast, after_halves, Round, IsRound}
 use Rattle.dft_abstract.specs.Laws.{StepIsBelow, NoneChanges, RoundIsOne}
 use Rattle.dft_abstract.proofs.Views.{views_exist}
 
@@ -55,19 +56,11 @@ views_monotone l rank p high low w u ranked hw lu over d net =
     (λ r ih d c e high source below. shown_monotone p.rising (p.pulsed e) (e == d) high (p.old c) _ _ _ _
     (source_monotone rank r (w d) (u d) source below (λ k less. ih k less d)) (source_monotone rank r (w e) (u e) source below (λ k less. ih k less e))) (suc (rank net)) net (omega arith) d
 
-pub forced_by_monotone : (f : Option Force) (ports : ℕ → Tri) (t u : Tri) → AboveTri t u → AboveTri (tri_forced_by f ports t) (tri_forced_by f ports u)
-forced_by_monotone None ports t u h = h
-forced_by_monotone (Some f) ports t u h = forced_monotone f.value (ports f.port) (ports f.port) t u (above_self (ports f.port)) h
-
-taken_by_monotone : (s : Option Scan) (at below : Source → Tri) (t u : Tri) → ((source : Source) → AboveTri (at source) (below source)) → AboveTri t u → AboveTri (tri_taken_by s at t) (tri_taken_by s below u)
-taken_by_monotone None at below t u p h = h
-taken_by_monotone (Some s) at below t u p h = chosen_monotone (at s.enable) (below s.enable) (at s.input) (below s.input) t u (p s.enable) (p s.input) h
-
 next_monotone : (l : Logic) (rank : ℕ → ℕ) (p : Pulse) (high low : ℕ → Tri) (w u : ℕ → ℕ → Tri) → IsRanked l rank → AreViews l p high w → AreViews l p low u → ((c : ℕ) → AboveTri (high c) (low c)) → (c : ℕ) → AboveTri (next_value l p w c) (next_value l p u c)
 next_monotone l rank p high low w u ranked hw lu over c =
     let d : ℕ = (l.cell c).domain in
     let at : (source : Source) → AboveTri (value_from (w d) source) (value_from (u d) source) = λ source. source_over (w d) (u d) source (views_monotone l rank p high low w u ranked hw lu over d) in
-    forced_by_monotone (l.cell c).force p.ports _ _ (taken_by_monotone (l.cell c).scan (value_from (w d)) (value_from (u d)) _ _ at (at (l.cell c).input))
+    left_monotone (l.cell c).forces p.ports p.ports _ _ (λ k. above_self (p.ports k)) (taken_monotone (l.cell c).takes (p.old c) (p.old c) (value_from (w d)) (value_from (u d)) (above_self (p.old c)) at)
 
 pub step_below : StepIsBelow
 step_below l rank p poss other view its ranked views closed over c pulsed =

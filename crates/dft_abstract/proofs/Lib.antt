@@ -3,7 +3,6 @@ pub mod Phases
 pub mod Turns
 pub mod Views
 pub mod Least
-pub mod Forces
 pub mod Halves
 pub mod OneDomain
 pub mod Lifts

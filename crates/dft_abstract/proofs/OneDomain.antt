@@ -6,11 +6,12 @@ use Rattle.dft_base.specs.declared.tri.Tri.{Tri}
 use Rattle.dft_base.specs.declared.tri.Tri.TheVariants.{Zero, Unknown}
 use Rattle.dft_base.specs.Tri.{AboveTri, join}
 use Rattle.dft_cells.proofs.Completions.{above_self, join_least, join_over_left, join_over_right}
+use Rattle.dft_cells.specs.FlipFlops.{Takes, tri_taken_by, tri_forced_by}
 use Rattle.dft_netlist.specs.Drivers.{Source, Net, Tied, Loose}
-use Rattle.dft_behavior.specs.Logic.{Logic, Scan, IsRanked}
+use Rattle.dft_behavior.specs.Logic.{Logic, IsRanked}
 use Rattle.dft_behavior.specs.Settled.{value_from, IsTriSettled}
 use Rattle.dft_behavior.specs.Runs.{Vector, takes}
-use Rattle.dft_abstract.specs.Cycle.{Pulse, tri_forced_by, tri_taken_by, changes, view_sources, AreViews, next_value, IsLeast, rise_of, fall_of, strobe_sources, Round}
+use Rattle.dft_abstract.specs.Cycle.{Pulse, changes, view_sources, AreViews, next_value, IsLeast, rise_of, fall_of, strobe_sources, Round}
 use Rattle.dft_abstract.specs.Laws.{HasNoLockup, next_from, OneDomain}
 use Rattle.dft_abstract.proofs.Views.{views_exist, settled_same}
 use Rattle.dft_abstract.proofs.Halves.{rises_change, rising_after}
@@ -20,9 +21,8 @@ source_equal v w (Net net) same = same net
 source_equal v w (Tied bit) same = refl
 source_equal v w (Loose i pin) same = refl
 
-taken_equal : (s : Option Scan) (at to : Source → Tri) (t u : Tri) → ((source : Source) → at source ≡ to source) → t ≡ u → tri_taken_by s at t ≡ tri_taken_by s to u
-taken_equal None at to t u same h = h
-taken_equal (Some s) at to t u same h = rw (same s.enable, same s.input, h) refl
+taken_equal : (takes : Takes Source) (own : Tri) (at to : Source → Tri) → ((source : Source) → at source ≡ to source) → tri_taken_by takes own at ≡ tri_taken_by takes own to
+taken_equal takes own at to same i = tri_taken_by takes own (λ source. same source i)
 
 clock_low : (pulsed e_is_d : Bool) → (pulsed ≡ true → e_is_d ≡ true) → (if pulsed then (if e_is_d then Zero else Unknown) else Zero) ≡ Zero
 clock_low false e_is_d h = refl
@@ -42,10 +42,10 @@ view_is_strobe l rank x d old values poss view ranked none one settled views net
     (λ k. refl) (λ e. clock_low (x.pulsed e) (e == d) (one e)) (λ c. flop_old (changes l (rise_of l x old) c) ((l.cell c).domain == d) _ _ (λ ch. one (l.cell c).domain (and_parts (x.pulsed (l.cell c).domain) (not (l.cell c).falling) ch).0))
     (λ k c e high source is ih below. absurd (none k c e high source is)) net
 
-next_is : (l : Logic) (x : Vector) (old values : ℕ → Tri) (view : ℕ → ℕ → Tri) (c : ℕ) → ((net : ℕ) → view (l.cell c).domain net ≡ values net) → next_value l (rise_of l x old) view c ≡ next_from l x values c
+next_is : (l : Logic) (x : Vector) (old values : ℕ → Tri) (view : ℕ → ℕ → Tri) (c : ℕ) → ((net : ℕ) → view (l.cell c).domain net ≡ values net) → next_value l (rise_of l x old) view c ≡ next_from l x values ((rise_of l x old).old c) c
 next_is l x old values view c same =
     let at : (source : Source) → value_from (view (l.cell c).domain) source ≡ value_from values source = λ source. source_equal (view (l.cell c).domain) values source same in
-    ap (tri_forced_by (l.cell c).force x.ports) (taken_equal (l.cell c).scan (value_from (view (l.cell c).domain)) (value_from values) _ _ at (at (l.cell c).input))
+    ap (tri_forced_by (l.cell c).forces x.ports) (taken_equal (l.cell c).takes ((rise_of l x old).old c) (value_from (view (l.cell c).domain)) (value_from values) at)
 
 -- the least map: the old value, joined with the next one where the cell takes one
 abbrev pub raised : (pulsed : Bool) (old next : Tri) → Tri
@@ -85,7 +85,7 @@ alone_view l rank p d poss other view its ranked none one views at net =
 next_same : (l : Logic) (p : Pulse) (view its : ℕ → ℕ → Tri) (c : ℕ) → ((net : ℕ) → its (l.cell c).domain net ≡ view (l.cell c).domain net) → next_value l p its c ≡ next_value l p view c
 next_same l p view its c same =
     let at : (source : Source) → value_from (its (l.cell c).domain) source ≡ value_from (view (l.cell c).domain) source = λ source. source_equal (its (l.cell c).domain) (view (l.cell c).domain) source same in
-    ap (tri_forced_by (l.cell c).force p.ports) (taken_equal (l.cell c).scan (value_from (its (l.cell c).domain)) (value_from (view (l.cell c).domain)) _ _ at (at (l.cell c).input))
+    ap (tri_forced_by (l.cell c).forces p.ports) (taken_equal (l.cell c).takes (p.old c) (value_from (its (l.cell c).domain)) (value_from (view (l.cell c).domain)) at)
 
 alone_least : (l : Logic) (rank : ℕ → ℕ) (p : Pulse) (d : ℕ) → IsRanked l rank → HasNoLockup l → ((e : ℕ) → p.pulsed e ≡ true → e ≡ d) → (poss : ℕ → Tri) × (view : ℕ → ℕ → Tri) × IsLeast l p poss view
 alone_least l rank p d ranked none one =
@@ -118,7 +118,7 @@ one_domain l rank x d old values ranked none one settled =
     let view : ℕ → ℕ → Tri = up.1 in
     let down = alone_least l rank (fall_of l x old view) d ranked none one in
     let r : Round = record { strobe = values; halves = record { rise = record { poss = up.0; view = view }; fall = record { poss = down.0; view = down.1 } } } in
-    let next_at : (c : ℕ) → x.pulsed (l.cell c).domain ≡ true → next_value l p view c ≡ next_from l x values c =
+    let next_at : (c : ℕ) → x.pulsed (l.cell c).domain ≡ true → next_value l p view c ≡ next_from l x values (p.old c) c =
     λ c pulsed. next_is l x old values view c
     (λ net. ap (λ (e : ℕ). view e net) (one (l.cell c).domain pulsed) ∙ view_is_strobe l rank x d old values up.0 view ranked none (λ e h. eq-eqb e d (one e h)) settled up.2.closed.views net) in (
       r,

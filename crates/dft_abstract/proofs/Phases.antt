@@ -6,29 +6,16 @@ use Rattle.dft_base.specs.declared.tri.Tri.{Tri}
 use Rattle.dft_base.specs.declared.tri.Tri.TheVariants.{Zero, Unknown}
 use Rattle.dft_base.specs.Tri.{known, Above, AboveTri}
 use Rattle.dft_base.proofs.BitLemmas.{same_or_not, other_bit, first_false}
-use Rattle.dft_cells.proofs.Completions.{above_self, above_trans, join_left, join_right, forced_above, chosen_above, forced_again}
+use Rattle.dft_cells.proofs.Completions.{above_self, above_trans, join_left, join_right}
+use Rattle.dft_cells.specs.FlipFlops.{tri_taken_by, tri_forced_by}
+use Rattle.dft_cells.proofs.TakesLemmas.{taken_above, left_above, left_again}
 use Rattle.dft_netlist.specs.Drivers.{Source}
-use Rattle.dft_behavior.specs.Logic.{Logic, Lockup, Cell, Force, Scan, IsRanked}
+use Rattle.dft_behavior.specs.Logic.{Logic, Lockup, Cell, IsRanked}
 use Rattle.dft_behavior.specs.Settled.{bit_from, is_wire, value_from}
-use Rattle.dft_behavior.specs.Runs.{State, Moment, Now, port_bits, sources_of, IsNow, forced_by, taken_by, takes, edge, after_event, event_of, at_moment, next_now, after, AreSteps, Edge, edge_step, times}
+use Rattle.dft_behavior.specs.Runs.{State, Moment, Now, port_bits, sources_of, IsNow, takes, edge, after_event, event_of, at_moment, next_now, after, AreSteps, Edge, edge_step, times}
 use Rattle.dft_behavior.proofs.Meanings.{completed_above, source_above, source_all, meaning_above, at_net}
-use Rattle.dft_abstract.specs.Cycle.{Pulse, tri_forced_by, tri_taken_by, changes, level_before, lockup_shown, view_sources, next_value, IsClosed, after_pulse}
+use Rattle.dft_abstract.specs.Cycle.{Pulse, changes, level_before, lockup_shown, view_sources, next_value, IsClosed, after_pulse}
 use Rattle.dft_abstract.specs.Laws.{IsForced, StandsAt, PhaseIsAbove}
-
--- ---- flip-flops
-
-pub above_forced : (f : Option Force) (ports : ℕ → Tri) (bits : ℕ → Bool) (t : Tri) (b : Bool) → ((k : ℕ) → Above (ports k) (bits k)) → Above t b → Above (tri_forced_by f ports t) (forced_by f bits b)
-above_forced None ports bits t b p h = h
-above_forced (Some f) ports bits t b p h = forced_above f.value (ports f.port) t (bits f.port) b (p f.port) h
-
-above_taken : (s : Option Scan) (at : Source → Tri) (bit_at : Source → Bool) (t : Tri) (b : Bool) → ((source : Source) → Above (at source) (bit_at source)) → Above t b → Above (tri_taken_by s at t) (taken_by s bit_at b)
-above_taken None at bit_at t b p h = h
-above_taken (Some s) at bit_at t b p h = chosen_above (at s.enable) (at s.input) t (bit_at s.enable) (bit_at s.input) b (p s.enable) (p s.input) h
-
--- a reset or set that acts again changes nothing
-pub again : (f : Option Force) (ports : ℕ → Tri) (t : Tri) → AboveTri (tri_forced_by f ports t) (tri_forced_by f ports (tri_forced_by f ports t))
-again None ports t = above_self t
-again (Some f) ports t = forced_again f.value (ports f.port) t
 
 -- ---- choices
 
@@ -116,7 +103,7 @@ lock_moved : (l : Logic) (rank : ℕ → ℕ) (p : Pulse) (view : ℕ → ℕ �
     (p.pulsed e && takes p.rising high) ≡ true → s.high e ≡ p.rising → Above (value_from (view e) source) (s.flops c)
 lock_moved l rank p view s ranked holds net c e high source is =
     let P : Cell → Type 0 = λ k. (p.pulsed k.domain && takes p.rising k.falling) ≡ true → s.high k.domain ≡ p.rising →
-    Above (tri_forced_by k.force p.ports (tri_taken_by k.scan (value_from (view k.domain)) (value_from (view k.domain) k.input))) (s.flops c) in
+    Above (tri_forced_by k.forces p.ports (tri_taken_by k.takes (p.old c) (value_from (view k.domain)))) (s.flops c) in
     subst P (ranked.lockups net c e high source is) (holds.moved c)
 
 lock_others : (l : Logic) (rank : ℕ → ℕ) (p : Pulse) (view : ℕ → ℕ → Tri) (s : State) → IsRanked l rank → Holds l p view s → (net c e : ℕ) (high : Bool) (source : Source) → l.net net ≡ Lockup c e high source →
@@ -149,8 +136,8 @@ moment_keeps : (l : Logic) (p : Pulse) (view : ℕ → ℕ → Tri) (m : Moment)
 moment_keeps l p view m s old holds = record {
   ports = holds.ports;
   quiet = holds.quiet;
-  moved = λ c ch came. above_trans _ _ _ (again (l.cell c).force p.ports _) (above_forced (l.cell c).force p.ports (port_bits s m) _ _ (ports_above p.ports s m holds.ports) (holds.moved c ch came));
-  others = λ c comes. above_trans _ _ _ (old c) (above_forced (l.cell c).force p.ports (port_bits s m) _ _ (ports_above p.ports s m holds.ports) (holds.others c comes));
+  moved = λ c ch came. above_trans _ _ _ (left_again (l.cell c).forces p.ports _) (left_above (l.cell c).forces _ _ p.ports (port_bits s m) (holds.moved c ch came) (ports_above p.ports s m holds.ports));
+  others = λ c comes. above_trans _ _ _ (old c) (left_above (l.cell c).forces _ _ p.ports (port_bits s m) (holds.others c comes) (ports_above p.ports s m holds.ports));
 }
 
 edge_keeps : (l : Logic) (p : Pulse) (view : ℕ → ℕ → Tri) (now : Now) (d : ℕ) →
@@ -172,8 +159,10 @@ edge_keeps l p view now d seen before pulsed holds =
       ];
       moved = λ c ch came. bit_choice (turn c) _ _ _
           (λ now_it. (let is = (and_parts ((l.cell c).domain == d) (takes p.rising (l.cell c).falling) now_it).0 in
-          above_forced (l.cell c).force p.ports (port_bits s now.moment) _ _ (ports_above p.ports s now.moment holds.ports)
-          (above_taken (l.cell c).scan (value_from (view (l.cell c).domain)) (bit_from (sources_of now) now.moment.seen) _ _ (λ source. from (l.cell c).domain source is) (from (l.cell c).domain (l.cell c).input is))))
+          left_above (l.cell c).forces _ _ p.ports (port_bits s now.moment)
+          (taken_above (l.cell c).takes (p.old c) (s.flops c) (value_from (view (l.cell c).domain)) (bit_from (sources_of now) now.moment.seen)
+          (holds.others c (λ again. there p s (l.cell c).domain d at is ∙ coming l p c again)) (λ source. from (l.cell c).domain source is))
+          (ports_above p.ports s now.moment holds.ports)))
           (λ no. holds.moved c ch (rw (elsewhere c no ch) at came));
       others = λ c comes. bit_choice (turn c) _ _ _
           (λ now_it. (let two = and_parts ((l.cell c).domain == d) (takes p.rising (l.cell c).falling) now_it in

@@ -3,22 +3,11 @@ use Rattle.std.specs.Prelude.{ℕ, Bool, true, false, not, ◌&&◌, ◌||◌, �
 use Rattle.dft_base.specs.declared.tri.Tri.{Tri}
 use Rattle.dft_base.specs.declared.tri.Tri.TheVariants.{Zero, Unknown}
 use Rattle.dft_base.specs.Tri.{known, AboveTri, join}
-use Rattle.dft_cells.specs.FlipFlops.{tri_forced, tri_chosen}
+use Rattle.dft_cells.specs.FlipFlops.{tri_taken_by, tri_forced_by}
 use Rattle.dft_netlist.specs.Drivers.{Source}
-use Rattle.dft_behavior.specs.Logic.{Logic, Force, Scan}
+use Rattle.dft_behavior.specs.Logic.{Logic}
 use Rattle.dft_behavior.specs.Settled.{TriSources, value_from, IsTriSettled}
 use Rattle.dft_behavior.specs.Runs.{Vector, takes}
-
--- ---- flip-flops
-
--- a value, or the join with what the reset or set leaves where its port is unknown
-abbrev pub tri_forced_by : Option Force → (ports : ℕ → Tri) → Tri → Tri
-tri_forced_by None ports value = value
-tri_forced_by (Some force) ports value = tri_forced force.value (ports force.port) value
-
-abbrev pub tri_taken_by : Option Scan → (Source → Tri) → (data_in : Tri) → Tri
-tri_taken_by None at data_in = data_in
-tri_taken_by (Some scan) at data_in = tri_chosen (at scan.enable) (at scan.input) data_in
 
 -- ---- a phase of a pulse of some domains
 
@@ -78,9 +67,7 @@ AreViews l p poss view = (d : ℕ) → IsTriSettled l (view_sources l p poss vie
 
 -- the next value of a cell in the view of its domain
 abbrev pub next_value : Logic → Pulse → (view : ℕ → ℕ → Tri) → (cell : ℕ) → Tri
-next_value l p view c =
-    let at = value_from (view (l.cell c).domain) in
-    tri_forced_by (l.cell c).force p.ports (tri_taken_by (l.cell c).scan at (at (l.cell c).input))
+next_value l p view c = tri_forced_by (l.cell c).forces p.ports (tri_taken_by (l.cell c).takes (p.old c) (value_from (view (l.cell c).domain)))
 
 -- a map above the old values and above each next value of the cells that take one, with its views
 pub record IsClosed (l : Logic) (p : Pulse) (poss : ℕ → Tri) (view : ℕ → ℕ → Tri) : Type 0 where
@@ -101,7 +88,7 @@ after_pulse l p view c = if changes l p c then next_value l p view c else p.old 
 
 -- the rises of a vector: resets and sets act at once
 abbrev pub rise_of : Logic → Vector → (old : ℕ → Tri) → Pulse
-rise_of l x old = record { rising = true; ports = x.ports; pulsed = x.pulsed; old = λ c. tri_forced_by (l.cell c).force x.ports (old c) }
+rise_of l x old = record { rising = true; ports = x.ports; pulsed = x.pulsed; old = λ c. tri_forced_by (l.cell c).forces x.ports (old c) }
 
 -- the falls after some rises
 abbrev pub falls_after : Logic → Pulse → (view : ℕ → ℕ → Tri) → Pulse

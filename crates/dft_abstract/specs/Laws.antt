@@ -4,10 +4,11 @@ use Rattle.dft_base.specs.declared.tri.Tri.{Tri}
 use Rattle.dft_base.specs.declared.tri.Tri.TheVariants.{Unknown}
 use Rattle.dft_base.specs.Tri.{known, Above, AboveTri, join}
 use Rattle.dft_netlist.specs.Drivers.{Source}
+use Rattle.dft_cells.specs.FlipFlops.{no_forces, tri_taken_by, tri_forced_by}
 use Rattle.dft_behavior.specs.Logic.{Logic, Lockup, IsRanked}
 use Rattle.dft_behavior.specs.Settled.{IsTriSettled, value_from}
 use Rattle.dft_behavior.specs.Runs.{State, Now, IsNow, after, AreSteps, Edge, edge_step, set_step, IsOrder, Vector, Turn, IsTurn, after_turn, AreLow}
-use Rattle.dft_abstract.specs.Cycle.{Pulse, changes, level_before, level_after, AreViews, next_value, IsClosed, IsLeast, after_pulse, rise_of, strobe_sources, Half, Halves, AreHalves, AreClosed, after_halves, Round, IsRound, after_round, tri_forced_by, tri_taken_by}
+use Rattle.dft_abstract.specs.Cycle.{Pulse, changes, level_before, level_after, AreViews, next_value, IsClosed, IsLeast, after_pulse, rise_of, strobe_sources, Half, Halves, AreHalves, AreClosed, after_halves, Round, IsRound, after_round}
 
 -- what holds between vectors: each value stands above its cell's bit, and all clocks are low
 pub record Stands (old : ℕ → Tri) (s : State) : Type 0 where
@@ -21,7 +22,7 @@ pub record StandsAt (level : ℕ → Bool) (old : ℕ → Tri) (s : State) : Typ
 
 -- the old values are those that resets and sets leave
 abbrev pub IsForced : Logic → Pulse → Type 0
-IsForced l p = (c : ℕ) → AboveTri (p.old c) (tri_forced_by (l.cell c).force p.ports (p.old c))
+IsForced l p = (c : ℕ) → AboveTri (p.old c) (tri_forced_by (l.cell c).forces p.ports (p.old c))
 
 -- After a phase, whatever the order of its edges and the free bits, the values of any closed map stand above the bits.
 abbrev pub PhaseIsAbove : Type 0
@@ -76,9 +77,9 @@ RoundIsOne =
 abbrev pub HasNoLockup : Logic → Type 0
 HasNoLockup l = (net c e : ℕ) (high : Bool) (source : Source) → l.net net ≡ Lockup c e high source → ⊥
 
--- the next value of a flip-flop from the values of the strobe
-abbrev pub next_from : Logic → Vector → (values : ℕ → Tri) → (cell : ℕ) → Tri
-next_from l x values c = tri_forced_by (l.cell c).force x.ports (tri_taken_by (l.cell c).scan (value_from values) (value_from values (l.cell c).input))
+-- the next value of a flip-flop from its own value and the values of the strobe
+abbrev pub next_from : Logic → Vector → (values : ℕ → Tri) → (own : Tri) → (cell : ℕ) → Tri
+next_from l x values own c = tri_forced_by (l.cell c).forces x.ports (tri_taken_by (l.cell c).takes own (value_from values))
 
 -- Without lock-ups, where one domain pulses at most, a vector's round has these strobe values, and its rising flip-flops take their next values
 -- from them.
@@ -86,7 +87,7 @@ abbrev pub OneDomain : Type 0
 OneDomain =
     (l : Logic) (rank : ℕ → ℕ) (x : Vector) (d : ℕ) (old values : ℕ → Tri) → IsRanked l rank → HasNoLockup l → ((e : ℕ) → x.pulsed e ≡ true → e ≡ d) →
     IsTriSettled l (strobe_sources l x old values) values →
-    (r : Round) × ((r.strobe ≡ values) × IsRound l x old r × ((c : ℕ) → (l.cell c).falling ≡ false → after_round l x old r c ≡ (if x.pulsed (l.cell c).domain then next_from l x values c else (rise_of l x old).old c)))
+    (r : Round) × ((r.strobe ≡ values) × IsRound l x old r × ((c : ℕ) → (l.cell c).falling ≡ false → after_round l x old r c ≡ (if x.pulsed (l.cell c).domain then next_from l x values ((rise_of l x old).old c) c else (rise_of l x old).old c)))
 
 -- ---- from the abstract cycle to runs: what it knows from a run's own bits, the run has
 
@@ -110,7 +111,7 @@ falls_from x old = record { rising = false; ports = x.ports; pulsed = x.pulsed; 
 
 -- these values are the state's own bits in each cell without reset or set
 abbrev pub AreOwn : Logic → State → (old : ℕ → Tri) → Type 0
-AreOwn l s old = (c : ℕ) → (l.cell c).force ≡ None → old c ≡ bits s c
+AreOwn l s old = (c : ℕ) → (l.cell c).forces ≡ no_forces → old c ≡ bits s c
 
 -- a cell that all falls give a known bit, from a run's own bits after the rises, has it after every turn
 abbrev pub KnownAfterFalls : Type 0

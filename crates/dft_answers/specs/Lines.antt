@@ -7,7 +7,7 @@ use Rattle.dft_compile.specs.declared.texts.Counts as compiled
 use Rattle.dft_configuring.specs.declared.counting.MadeCounts.{MadeCounts}
 use Rattle.dft_seeking.specs.declared.counting.SeekCounts.{SeekCounts}
 use Rattle.dft_answers.specs.declared.answer.Code.{Code}
-use Rattle.dft_answers.specs.declared.answer.Code.TheVariants.{F1, L1, L2, L3, L4, L5, L6, L7, C1, C2, C3, C4, C5, C6, V1, V2, V3, V4, V5, V6, V7, V8, V9, V10, V11, V12, H1, H2, H3, H4, H5, N1, N2, N3, N4, G1, G2, G3, G4, G5, G6, G7, P1, P2, P3, P4, P5, P6, P7, P8, P9, P10, Q1, Q2, Q3, Q4, Q5, Q6, Q7, Q8, Q9, K1, K2, K3, K4, K5, K6, X1, X2, X3, X4}
+use Rattle.dft_answers.specs.declared.answer.Code.TheVariants.{F1, L1, L2, L3, L4, L5, L6, L7, C1, C2, C3, C4, C5, C6, V1, V2, V3, V5, V6, V7, V9, V10, V11, V12, H1, H2, H3, H4, H5, N1, N2, N3, N4, G1, G2, G3, G4, G5, G6, G7, P1, P2, P3, P4, P5, P6, P7, P8, P9, P10, Q1, Q2, Q3, Q4, Q5, Q6, Q7, Q8, Q9, K1, K2, K3, K4, K5, K6, X1, X2, X3, X4}
 use Rattle.dft_answers.specs.declared.answer.Refusal.{Refusal}
 use Rattle.dft_answers.specs.declared.outcome.Outcome.{Outcome}
 use Rattle.dft_answers.specs.declared.outcome.Outcome.TheVariants.{Usage, Refused, Finished}
@@ -34,11 +34,9 @@ code_text C6 = codes "C6"
 code_text V1 = codes "V1"
 code_text V2 = codes "V2"
 code_text V3 = codes "V3"
-code_text V4 = codes "V4"
 code_text V5 = codes "V5"
 code_text V6 = codes "V6"
 code_text V7 = codes "V7"
-code_text V8 = codes "V8"
 code_text V9 = codes "V9"
 code_text V10 = codes "V10"
 code_text V11 = codes "V11"

@@ -47,7 +47,7 @@ use Rattle.dft_report_reader.specs.declared.error.ReadError.TheVariants as read
 use Rattle.dft_certify.specs.declared.error.CertifyError.{CertifyError}
 use Rattle.dft_certify.specs.declared.error.CertifyError.TheVariants as certify
 use Rattle.dft_answers.specs.declared.answer.Code.{Code}
-use Rattle.dft_answers.specs.declared.answer.Code.TheVariants.{L1, L2, L3, L4, L5, L6, L7, C1, C2, C3, C4, C5, C6, V1, V2, V3, V4, V5, V6, V7, V8, V9, V10, V11, V12, H1, H2, H3, H4, H5, N1, N2, N3, N4, G1, G2, G3, G4, G5, G6, G7, P1, P2, P3, P4, P5, P6, P8, P9, P10, Q1, Q2, Q3, Q4, Q5, Q6, Q7, Q8, Q9, K1, K2, K3, K4, K5, K6, X2, X3, X4}
+use Rattle.dft_answers.specs.declared.answer.Code.TheVariants.{L1, L2, L3, L4, L5, L6, L7, C1, C2, C3, C4, C5, C6, V1, V2, V3, V5, V6, V7, V9, V10, V11, V12, H1, H2, H3, H4, H5, N1, N2, N3, N4, G1, G2, G3, G4, G5, G6, G7, P1, P2, P3, P4, P5, P6, P8, P9, P10, Q1, Q2, Q3, Q4, Q5, Q6, Q7, Q8, Q9, K1, K2, K3, K4, K5, K6, X2, X3, X4}
 use Rattle.dft_answers.specs.declared.answer.Refusal.{Refusal}
 
 -- ---- refusals by their parts
@@ -101,11 +101,9 @@ abbrev pub verilog_refusal : VerilogError → Option Refusal
 verilog_refusal (verilog.V1 place) = Some (placed V1 place)
 verilog_refusal (verilog.V2 place) = Some (placed V2 place)
 verilog_refusal (verilog.V3 place name) = Some (worded V3 place name)
-verilog_refusal (verilog.V4 place name) = Some (worded V4 place name)
 verilog_refusal (verilog.V5 place name) = Some (worded V5 place name)
 verilog_refusal (verilog.V6 place) = Some (placed V6 place)
 verilog_refusal (verilog.V7 place) = Some (placed V7 place)
-verilog_refusal (verilog.V8 place) = Some (placed V8 place)
 verilog_refusal (verilog.V9 place) = Some (placed V9 place)
 verilog_refusal (verilog.V10 place) = Some (placed V10 place)
 verilog_refusal (verilog.V11 place name) = Some (worded V11 place name)

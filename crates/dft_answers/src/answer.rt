@@ -59,19 +59,15 @@ pub enum Code {
     V1,
     /// A token that stands where none such may, or a constant that is driven.
     V2,
-    /// A word or directive that the structural part leaves out. Its parts are the place and the word, as at V4, V5, V11
-    /// and V12.
+    /// A word or directive that the structural part leaves out. Its parts are the place and the word, as at V5, V11 and
+    /// V12.
     V3,
-    /// A cell that the library has not, where a text of one module is read.
-    V4,
     /// A pin that the cell has not.
     V5,
     /// Widths, numbers of terminals, bits or sizes that do not fit.
     V6,
     /// `inout`.
     V7,
-    /// A second module, where a text of one module is read.
-    V8,
     /// The text ends too early.
     V9,
     /// A number that is too large.

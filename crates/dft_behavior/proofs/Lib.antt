@@ -7,7 +7,6 @@ pub mod Walks
 pub mod TraceLemmas
 pub mod ClockWalks
 pub mod LockupPins
-pub mod ClockLemmas
 pub mod RootTables
-pub mod ClockTables
+pub mod RootForms
 pub mod SettledLemmas

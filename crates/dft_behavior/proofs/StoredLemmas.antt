@@ -2,6 +2,7 @@
 use Rattle.std.proofs.Common.{ℕ, suc, ◌+◌, Bool, true, false, List, [], ◌∷◌, ◌++◌, ◌≡◌, ◌==◌, Option, None, Some, is_some, slice_get, refl, sym, ap, arith, ◌∙◌}
 use Rattle.std.specs.Prelude.{if◌then◌else◌}
 use Rattle.std.specs.Option.{option_or}
+use Rattle.std.proofs.lemmas.Option.{none-some, same_Some}
 use Rattle.std.specs.List.{AllByRecursion}
 use Rattle.dft_base.specs.declared.dir.Dir.{Dir}
 use Rattle.dft_base.specs.declared.dir.Dir.TheVariants as dir
@@ -11,7 +12,7 @@ use Rattle.dft_cells.specs.declared.kind.Kind.TheVariants as kind
 use Rattle.dft_cells.specs.declared.kind.Gate.{Gate}
 use Rattle.dft_cells.specs.declared.kind.Role.{Role}
 use Rattle.dft_cells.specs.declared.kind.Role.TheVariants as role
-use Rattle.dft_cells.specs.FlipFlops.{is_flip_flop}
+use Rattle.dft_cells.specs.FlipFlops.{is_flip_flop, Forces}
 use Rattle.dft_netlist.specs.declared.ids.NetId.{NetId}
 use Rattle.dft_netlist.specs.declared.instance.Signal.{Signal}
 use Rattle.dft_netlist.specs.declared.instance.Signal.TheVariants as signal
@@ -22,7 +23,7 @@ use Rattle.dft_netlist.specs.Netlist.{Netlist}
 use Rattle.dft_netlist.specs.Drivers.{Source, Driver, Driven, Connection, driver_of_kind, at_signal, at_role, driven_by_pins, connections_of, inputs_of, shape_of, driven_by, driven_by_instances, driven_by_bits, driven_by_ports, driven_by_joins, all_driven, driver_in, driver, kind_of, kind_at, pins_of}
 use Rattle.dft_netlist.specs.Drivers as drivers
 use Rattle.dft_netlist.specs.Connections.{pin_of}
-use Rattle.dft_behavior.specs.Logic.{Ports, Input, Clock, Lockup, Cell, or_loose, domain_at, modelled_of, flip_flop, lockup_cell, locked, is_lockup, lock_up, cell_or_none, lockup_meaning, meaning_of, logic_of}
+use Rattle.dft_behavior.specs.Logic.{Ports, Input, Clock, Lockup, Cell, or_loose, domain_at, both_forces, modelled_of, flip_flop, lockup_cell, locked, is_lockup, lock_up, cell_or_none, lockup_meaning, meaning_of, logic_of}
 use Rattle.dft_behavior.specs.ClockRoots.{ClockRoot}
 use Rattle.dft_behavior.proofs.SettledLemmas.{no_flop}
 
@@ -39,14 +40,22 @@ pub kept_cell : (n : Netlist) (ports : Ports) (i : ℕ) → is_some (flip_flop n
 kept_cell n ports i is = kept_by i (flip_flop n ports i) (lock_up n ports i) is
 
 -- a lock-up has no reset and no set
-force_by : (i : ℕ) (o : Option Cell) (b : Bool) (domain : Option ClockRoot) (source : Source) → (cell_or_none i (option_or o (if b then locked domain source else None))).force ≡ (cell_or_none i o).force
+force_by : (i : ℕ) (o : Option Cell) (b : Bool) (domain : Option ClockRoot) (source : Source) → (cell_or_none i (option_or o (if b then locked domain source else None))).forces ≡ (cell_or_none i o).forces
 force_by i (Some cell) b domain source = refl
 force_by i None false domain source = refl
 force_by i None true None source = refl
 force_by i None true (Some domain) source = refl
 
-pub stored_force : (n : Netlist) (ports : Ports) (i : ℕ) → ((logic_of n ports).cell i).force ≡ (cell_or_none i (flip_flop n ports i)).force
+pub stored_force : (n : Netlist) (ports : Ports) (i : ℕ) → ((logic_of n ports).cell i).forces ≡ (cell_or_none i (flip_flop n ports i)).forces
 stored_force n ports i = force_by i (flip_flop n ports i) (is_lockup (kind_at n i)) (domain_at n ports (pin_of role.Clock i (pins_of n i))) (or_loose i (pin_of role.Din i (pins_of n i)))
+
+-- what forces a modelled flip-flop is what each pin gives
+pub both_parts : (clear preset : Option (Option ℕ)) (forces : Forces ℕ) → both_forces clear preset ≡ Some forces → (clear ≡ Some forces.clear) × (preset ≡ Some forces.preset)
+both_parts (Some clear) (Some preset) forces e =
+    let same : record { clear = clear; preset = preset } ≡ forces = same_Some (record { clear = clear; preset = preset }) forces e in
+    (ap (λ (f : Forces ℕ). Some f.clear) same, ap (λ (f : Forces ℕ). Some f.preset) same)
+both_parts (Some clear) None forces e = absurd (none-some forces e)
+both_parts None preset forces e = absurd (none-some forces e)
 
 -- ---- what drives a net as a lock-up is an instance of that kind
 

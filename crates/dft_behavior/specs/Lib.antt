@@ -1,7 +1,6 @@
+pub mod NetRoots
 pub mod Traces
 pub mod ClockRoots
-pub mod ClockSteps
-pub mod ClockTables
 pub mod Logic
 pub mod Settled
 pub mod Runs

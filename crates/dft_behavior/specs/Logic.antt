@@ -5,7 +5,7 @@ use Rattle.dft_cells.specs.declared.kind.Kind.{Kind}
 use Rattle.dft_cells.specs.declared.kind.Kind.TheVariants as kind
 use Rattle.dft_cells.specs.declared.kind.Gate.{Gate as GateKind}
 use Rattle.dft_cells.specs.declared.kind.Role.TheVariants as role
-use Rattle.dft_cells.specs.FlipFlops.{is_flip_flop}
+use Rattle.dft_cells.specs.FlipFlops.{is_flip_flop, Scan, Takes, Forces, no_forces}
 use Rattle.dft_netlist.specs.Netlist.{Netlist}
 use Rattle.dft_netlist.specs.Drivers.{Source, Loose, Driver, Connection, source_of, pins_of, kind_at, driver, nets_of, AreBelow}
 use Rattle.dft_netlist.specs.Drivers as drivers
@@ -35,23 +35,14 @@ pub data Meaning : Type 0 where
   -- any bit at any moment
   Free : Meaning
 
--- a reset (value 0) or a set (value 1), by the net of the port that is 0 where it acts
-pub record Force : Type 0 where
-  pub port : ℕ
-  pub value : Bool
-
-pub record Scan : Type 0 where
-  pub enable : Source
-  pub input : Source
-
 -- what stores a bit: a modelled flip-flop or a lock-up. Its domain is the net of the clock port that its clock pin shows, itself or inverted.
 pub record Cell : Type 0 where
   pub domain : ℕ
   -- whether it takes its bit at the fall of its clock, else at the rise
   pub falling : Bool
-  pub input : Source
-  pub scan : Option Scan
-  pub force : Option Force
+  pub takes : Takes Source
+  -- its reset and its set, by the nets of the ports that are 0 where they act
+  pub forces : Forces ℕ
 
 -- The meaning of each net, and the cell of each instance. An instance that is neither a modelled flip-flop nor a lock-up on a clock port
 -- has a cell that no net shows.
@@ -77,42 +68,59 @@ domain_at n ports None = None
 domain_at n ports (Some source) = domain_of ports (clock_root_of n source)
 
 -- What a reset or set is, by its root: None where it keeps its flip-flop from being modelled, Some None where it never acts.
-abbrev pub force_of : Ports → (value : Bool) → Root → Option (Option Force)
-force_of ports value (Port net) = if ports.is_reset net then Some (Some (record { port = net; value = value })) else None
-force_of ports value (Constant true) = Some None
-force_of ports value (Constant false) = None
-force_of ports value Other = None
+abbrev pub force_of : Ports → Root → Option (Option ℕ)
+force_of ports (Port net) = if ports.is_reset net then Some (Some net) else None
+force_of ports (Constant true) = Some None
+force_of ports (Constant false) = None
+force_of ports Other = None
 
--- the reset of a flip-flop, or its set, if it has one
-abbrev pub forcing : Netlist → Ports → (reset preset : Option Source) → Option (Option Force)
-forcing n ports (Some reset) preset = force_of ports false (root_of n reset)
-forcing n ports None (Some preset) = force_of ports true (root_of n preset)
-forcing n ports None None = Some None
+abbrev pub force_at : Netlist → Ports → (pin : Option Source) → Option (Option ℕ)
+force_at n ports None = Some None
+force_at n ports (Some source) = force_of ports (root_of n source)
 
-abbrev pub scan_of : (enable input : Option Source) → Option Scan
+abbrev pub both_forces : (clear preset : Option (Option ℕ)) → Option (Forces ℕ)
+both_forces (Some clear) (Some preset) = Some (record { clear = clear; preset = preset })
+both_forces (Some clear) None = None
+both_forces None preset = None
+
+-- the reset and the set of a flip-flop, by what its pins read
+abbrev pub forcing : Netlist → Ports → Forces Source → Option (Forces ℕ)
+forcing n ports pins = both_forces (force_at n ports pins.clear) (force_at n ports pins.preset)
+
+abbrev pub scan_of : (enable input : Option Source) → Option (Scan Source)
 scan_of (Some enable) (Some input) = Some (record { enable = enable; input = input })
 scan_of (Some enable) None = None
 scan_of None input = None
 
--- A flip-flop is modelled where its clock shows a clock port, and its reset or set traces to a reset port or to constant 1. It is falling where
+-- what a flip-flop with these pins takes, and what forces it
+abbrev pub takes_of : (instance : ℕ) → List Connection → Takes Source
+takes_of i pins = record { input = or_loose i (pin_of role.Din i pins); scan = scan_of (pin_of role.ScanEnable i pins) (pin_of role.ScanIn i pins) }
+
+abbrev pub forces_of : (instance : ℕ) → List Connection → Forces Source
+forces_of i pins = record { clear = pin_of role.Reset i pins; preset = pin_of role.Preset i pins }
+
+-- A flip-flop is modelled where its clock shows a clock port, and its reset and set trace to a reset port or to constant 1. It is falling where
 -- its clock is inverted.
-abbrev pub modelled : Option ClockRoot → Option (Option Force) → (input : Source) → Option Scan → Option Cell
-modelled (Some clock) (Some force) input scan = Some (record { domain = clock.port; falling = clock.inverted; input = input; scan = scan; force = force })
-modelled (Some clock) None input scan = None
-modelled None force input scan = None
+abbrev pub modelled : Option ClockRoot → Option (Forces ℕ) → Takes Source → Option Cell
+modelled (Some clock) (Some forces) takes = Some (record { domain = clock.port; falling = clock.inverted; takes = takes; forces = forces })
+modelled (Some clock) None takes = None
+modelled None forces takes = None
 
 abbrev pub modelled_of : Netlist → Ports → (instance : ℕ) → List Connection → Option Cell
 modelled_of n ports i pins =
-    modelled (domain_at n ports (pin_of role.Clock i pins)) (forcing n ports (pin_of role.Reset i pins) (pin_of role.Preset i pins))
-    (or_loose i (pin_of role.Din i pins)) (scan_of (pin_of role.ScanEnable i pins) (pin_of role.ScanIn i pins))
+    modelled (domain_at n ports (pin_of role.Clock i pins)) (forcing n ports (forces_of i pins)) (takes_of i pins)
 
 -- the modelled flip-flop that an instance is, if it is one
 abbrev pub flip_flop : Netlist → Ports → (instance : ℕ) → Option Cell
 flip_flop n ports i = if is_flip_flop (kind_at n i) then modelled_of n ports i (pins_of n i) else None
 
+-- what a cell without scan pins takes
+abbrev pub plain : Source → Takes Source
+plain source = record { input = source; scan = None }
+
 -- a lock-up's cell has no scan pins, no reset and no set; it takes its bit where it stops being a wire
 abbrev pub lockup_cell : (domain : ℕ) → (high : Bool) → Source → Cell
-lockup_cell domain high source = record { domain = domain; falling = high; input = source; scan = None; force = None }
+lockup_cell domain high source = record { domain = domain; falling = high; takes = plain source; forces = no_forces }
 
 -- a lock-up is high where its clock is inverted
 abbrev pub locked : Option ClockRoot → Source → Option Cell
@@ -133,7 +141,7 @@ stored n ports i = option_or (flip_flop n ports i) (lock_up n ports i)
 
 -- the cell of an instance that stores none
 abbrev pub no_cell : (instance : ℕ) → Cell
-no_cell i = record { domain = 0; falling = false; input = Loose i 0; scan = None; force = None }
+no_cell i = record { domain = 0; falling = false; takes = plain (Loose i 0); forces = no_forces }
 
 abbrev pub cell_or_none : (instance : ℕ) → Option Cell → Cell
 cell_or_none i None = no_cell i

@@ -2,9 +2,9 @@
 use Rattle.std.specs.Prelude.{ℕ, Bool, true, false, not, ◌&&◌, List, [], ◌∷◌, ◌++◌, ◌≡◌, ◌==◌, ◌+◌, Option, None, Some, if◌then◌else◌, map}
 use Rattle.dft_base.specs.declared.tri.Tri.{Tri}
 use Rattle.dft_base.specs.Tri.{completed}
-use Rattle.dft_cells.specs.FlipFlops.{forced, chosen}
+use Rattle.dft_cells.specs.FlipFlops.{taken_by, forced_by}
 use Rattle.dft_netlist.specs.Drivers.{Source}
-use Rattle.dft_behavior.specs.Logic.{Logic, Force, Scan, Cell}
+use Rattle.dft_behavior.specs.Logic.{Logic, Cell}
 use Rattle.dft_behavior.specs.Settled.{Sources, bit_from, IsSettled}
 
 -- ---- what a design keeps from moment to moment
@@ -45,21 +45,9 @@ IsNow l now = IsSettled l (sources_of now) now.moment.seen
 
 -- ---- flip-flops
 
--- a bit, or the value of the reset or set whose port is 0
-abbrev pub forced_by : Option Force → (ports : ℕ → Bool) → Bool → Bool
-forced_by None ports bit = bit
-forced_by (Some force) ports bit = forced force.value (ports force.port) bit
-
--- the bit of D, or the scan input where a scan cell is enabled
-abbrev pub taken_by : Option Scan → (Source → Bool) → (data_in : Bool) → Bool
-taken_by None at data_in = data_in
-taken_by (Some scan) at data_in = chosen (at scan.enable) (at scan.input) data_in
-
--- the bit that a flip-flop or lock-up takes at an edge of its clock, from the settled bits just before
-abbrev pub next_bit : Cell → Now → Bool
-next_bit cell now =
-    let at = bit_from (sources_of now) now.moment.seen in
-    forced_by cell.force (port_bits now.state now.moment) (taken_by cell.scan at (at cell.input))
+-- the bit that a flip-flop or lock-up takes at an edge of its clock, from its own bit and the settled bits just before
+abbrev pub next_bit : Cell → (own : Bool) → Now → Bool
+next_bit cell own now = forced_by cell.forces (port_bits now.state now.moment) (taken_by cell.takes own (bit_from (sources_of now) now.moment.seen))
 
 -- ---- events
 
@@ -77,7 +65,7 @@ takes rising falling = if rising then not falling else falling
 abbrev pub edge : Logic → Now → (domain : ℕ) → (rising : Bool) → State
 edge l now d rising = record {
   ports = now.state.ports;
-  flops = λ c. if (l.cell c).domain == d && takes rising (l.cell c).falling then next_bit (l.cell c) now else now.state.flops c;
+  flops = λ c. if (l.cell c).domain == d && takes rising (l.cell c).falling then next_bit (l.cell c) (now.state.flops c) now else now.state.flops c;
   high = λ e. if e == d then rising else now.state.high e;
 }
 
@@ -94,7 +82,7 @@ after_event l now (Fall d) = edge l now d false
 abbrev pub at_moment : Logic → Moment → State → State
 at_moment l m s = record {
   ports = s.ports;
-  flops = λ c. forced_by (l.cell c).force (port_bits s m) (s.flops c);
+  flops = λ c. forced_by (l.cell c).forces (port_bits s m) (s.flops c);
   high = s.high;
 }
 

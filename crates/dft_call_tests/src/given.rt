@@ -3,7 +3,8 @@
 use dft_base::Tri;
 use dft_cells::Library;
 use dft_netlist::Design;
-use dft_verilog::{MAX_TEXT, read};
+use dft_netlist_reader::read;
+use dft_verilog::MAX_TEXT;
 use std::alloc::{AllocError, Global};
 
 // The design of a text over the standard cells.

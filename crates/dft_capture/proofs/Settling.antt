@@ -1,21 +1,18 @@
 -- Settled values in a capture: there are some, they are one, and they stand above those from below.
-use Rattle.std.proofs.Common.{ℕ, zero, suc, Bool, true, false, List, ◌≡◌, ◌<◌, Option, None, Some, refl, sym, subst, arith}
+use Rattle.std.proofs.Common.{ℕ, zero, suc, Bool, true, false, List, ◌≡◌, ◌<◌, refl, sym, subst, arith}
 use Rattle.std.specs.Prelude.{if◌then◌else◌}
 use Rattle.dft_base.specs.declared.tri.Tri.{Tri}
 use Rattle.dft_base.specs.declared.tri.Tri.TheVariants.{Unknown}
 use Rattle.dft_base.specs.Tri.{AboveTri}
-use Rattle.dft_cells.specs.declared.kind.Role.TheVariants as role
-use Rattle.dft_cells.proofs.Completions.{forced_monotone, chosen_monotone}
+use Rattle.dft_cells.proofs.TakesLemmas.{taken_monotone, left_monotone}
 use Rattle.dft_netlist.specs.Netlist.{Netlist}
 use Rattle.dft_netlist.specs.Drivers.{Source, Driver, Connection, pins_of, driver, nets_of, nets_read, AreBelow, IsOrdered}
 use Rattle.dft_netlist.specs.Drivers as drivers
-use Rattle.dft_netlist.specs.Connections.{pin_of}
-use Rattle.dft_behavior.specs.Logic.{Logic, Input, Clock, Flop, Lockup, Free, Scan, or_loose, scan_of, reads}
+use Rattle.dft_behavior.specs.Logic.{Logic, Input, Clock, Flop, Lockup, Free, takes_of, forces_of, reads}
 use Rattle.dft_behavior.specs.Settled.{value_from, value_given}
 use Rattle.dft_behavior.proofs.Meanings.{meaning_monotone, at_nets, source_over}
-use Rattle.dft_abstract.specs.Cycle.{tri_taken_by}
 use Rattle.dft_abstract.proofs.Views.{family, settled_same}
-use Rattle.dft_capture.specs.Captures.{Moving, IsSettledFrom, after_moves, capture_logic, forced_by_pin, meaning_in, next_at, next_by_pins, sources_at}
+use Rattle.dft_capture.specs.Captures.{Moving, IsSettledFrom, after_moves, capture_logic, meaning_in, next_at, next_by_pins, sources_at}
 use Rattle.dft_capture.specs.Laws.{OrderIsRank, CaptureExists, CaptureIsOne, CaptureIsAbove}
 
 -- ---- an order
@@ -91,22 +88,10 @@ settled_over n m rank ports state given held values shows order over_ports over_
 
 -- ---- next values
 
-forced_over : (value : Bool) (pin : Option Source) (v w : ℕ → Tri) (t u : Tri) → ((net : ℕ) → AboveTri (v net) (w net)) → AboveTri t u → AboveTri (forced_by_pin value pin v t) (forced_by_pin value pin w u)
-forced_over value None v w t u all over = over
-forced_over value (Some pin) v w t u all over = forced_monotone value (value_from v pin) (value_from w pin) t u (source_over v w pin all) over
-
-taken_over : (scan : Option Scan) (v w : ℕ → Tri) (t u : Tri) → ((net : ℕ) → AboveTri (v net) (w net)) → AboveTri t u → AboveTri (tri_taken_by scan (value_from v) t) (tri_taken_by scan (value_from w) u)
-taken_over None v w t u all over = over
-taken_over (Some scan) v w t u all over =
-    chosen_monotone (value_from v scan.enable) (value_from w scan.enable) (value_from v scan.input) (value_from w scan.input) t u (source_over v w scan.enable all) (source_over v w scan.input all) over
-
 pub next_over : (i : ℕ) (pins : List Connection) (v w : ℕ → Tri) → ((net : ℕ) → AboveTri (v net) (w net)) → AboveTri (next_at i pins v) (next_at i pins w)
 next_over i pins v w all =
-    let data_pin : Source = or_loose i (pin_of role.Din i pins) in
-    let scan : Option Scan = scan_of (pin_of role.ScanEnable i pins) (pin_of role.ScanIn i pins) in
-    forced_over false (pin_of role.Reset i pins) v w _ _ all
-    (forced_over true (pin_of role.Preset i pins) v w _ _ all
-    (taken_over scan v w (value_from v data_pin) (value_from w data_pin) all (source_over v w data_pin all)))
+    let at : (source : Source) → AboveTri (value_from v source) (value_from w source) = λ source. source_over v w source all in
+    left_monotone (forces_of i pins) (value_from v) (value_from w) _ _ at (taken_monotone (takes_of i pins) Unknown Unknown (value_from v) (value_from w) tt at)
 
 moved_over : (moves : Bool) (t u x y : Tri) → AboveTri t u → AboveTri x y → AboveTri (if moves then t else x) (if moves then u else y)
 moved_over true t u x y next stays = next

@@ -3,14 +3,13 @@ use Rattle.std.specs.Prelude.{ℕ, Bool, true, false, List, Option, None, Some, 
 use Rattle.dft_base.specs.declared.tri.Tri.{Tri}
 use Rattle.dft_base.specs.declared.tri.Tri.TheVariants.{Zero, Unknown}
 use Rattle.dft_cells.specs.declared.kind.Role.TheVariants as role
-use Rattle.dft_cells.specs.FlipFlops.{tri_forced}
+use Rattle.dft_cells.specs.FlipFlops.{tri_taken_by, tri_forced_by}
 use Rattle.dft_netlist.specs.Netlist.{Netlist}
 use Rattle.dft_netlist.specs.Drivers.{Source, Driver, Connection, pins_of, driver}
 use Rattle.dft_netlist.specs.Drivers as drivers
 use Rattle.dft_netlist.specs.Connections.{pin_of}
-use Rattle.dft_behavior.specs.Logic.{Logic, Meaning, Input, Clock, Gate, Joined, Flop, Free, or_loose, scan_of, no_cell}
+use Rattle.dft_behavior.specs.Logic.{Logic, Meaning, Input, Clock, Gate, Joined, Flop, Free, takes_of, forces_of, no_cell}
 use Rattle.dft_behavior.specs.Settled.{TriSources, value_from, IsTriSettled}
-use Rattle.dft_abstract.specs.Cycle.{tri_taken_by}
 
 -- ---- the design between pulses
 
@@ -43,17 +42,10 @@ IsSettledFrom n m ports state values = IsTriSettled (capture_logic n m) (sources
 
 -- ---- next values
 
--- a value, or what a reset (value 0) or a set (value 1) leaves by the value at its pin, if the flip-flop has one
-abbrev pub forced_by_pin : (value : Bool) → (pin : Option Source) → (values : ℕ → Tri) → Tri → Tri
-forced_by_pin value None values next = next
-forced_by_pin value (Some pin) values next = tri_forced value (value_from values pin) next
-
--- the next value of a flip-flop with these pins: by its reset pin, else by its set pin, else from its scan input or its data input
+-- The next value of a flip-flop with these pins: what it takes, and then what its reset and its set leave. No cell of today takes anything of
+-- its own value.
 abbrev pub next_at : (instance : ℕ) → List Connection → (values : ℕ → Tri) → Tri
-next_at i pins values =
-    forced_by_pin false (pin_of role.Reset i pins) values
-    (forced_by_pin true (pin_of role.Preset i pins) values
-    (tri_taken_by (scan_of (pin_of role.ScanEnable i pins) (pin_of role.ScanIn i pins)) (value_from values) (value_from values (or_loose i (pin_of role.Din i pins)))))
+next_at i pins values = tri_forced_by (forces_of i pins) (value_from values) (tri_taken_by (takes_of i pins) Unknown (value_from values))
 
 -- the next value of a flip-flop by the values at its pins, whatever these trace to
 abbrev pub next_by_pins : Netlist → (values : ℕ → Tri) → (cell : ℕ) → Tri

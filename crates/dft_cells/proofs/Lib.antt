@@ -7,3 +7,4 @@ pub mod Bits
 pub mod KindLemmas
 pub mod CellNames
 pub mod TriLemmas
+pub mod TakesLemmas

@@ -1,6 +1,6 @@
 //! Laws about the meaning of cells, as contracts of functions that do nothing.
 
-ghost use Rattle.dft_cells.specs.Laws.{CompletionsAreAbove, ForcedIsAbove, ChosenIsAbove};
+ghost use Rattle.dft_cells.specs.Laws.{CompletionsAreAbove, ForcedIsAbove, ChosenIsAbove, TakenIsAbove, LeftIsAbove};
 
 /// What all completions of the unknown inputs share stands above the output at each completion.
 pub fn completions_are_above()
@@ -11,4 +11,6 @@ pub fn completions_are_above()
 pub fn next_values_are_above()
     ensures forced { ForcedIsAbove }
     ensures chosen { ChosenIsAbove }
+    ensures taken { TakenIsAbove }
+    ensures left { LeftIsAbove }
 {}

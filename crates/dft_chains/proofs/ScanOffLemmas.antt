@@ -1,16 +1,19 @@
 -- With scan off the nets of the original have the same bits.
-use Rattle.std.proofs.Common.{ℕ, zero, suc, Bool, true, false, List, [], ◌∷◌, ◌≡◌, ◌==◌, ◌<◌, refl, sym, ap, arith, map, ◌∙◌, Option, None, Some, ◌&&◌}
+use Rattle.std.proofs.Common.{ℕ, zero, suc, Bool, true, false, List, [], ◌∷◌, ◌≡◌, ◌==◌, ◌<◌, refl, sym, ap, subst, arith, map, ◌∙◌, Option, None, Some, ◌&&◌}
 use Rattle.std.specs.Prelude.{if◌then◌else◌, not}
 use Rattle.std.proofs.lemmas.Bool.{and_left}
 use Rattle.dft_base.specs.declared.tri.Tri.TheVariants.{Zero}
-use Rattle.dft_base.specs.Tri.{completed}
+use Rattle.dft_base.specs.declared.tri.Tri.{Tri}
+use Rattle.dft_base.specs.Tri.{completed, AboveTri}
 use Rattle.dft_cells.specs.Gates.{bit_of}
-use Rattle.dft_cells.specs.FlipFlops.{forced, chosen}
+use Rattle.dft_cells.specs.FlipFlops.{chosen, tri_chosen, Scan, Forces, moved_forces, scan_sources, taken_from, scanned, taken_by, forced_by, tri_scanned, tri_taken_by}
+use Rattle.dft_cells.proofs.TriLemmas.{chosen_zero}
+use Rattle.dft_cells.proofs.TakesLemmas.{bits_moved}
 use Rattle.dft_netlist.specs.Drivers.{Source, Net, Tied, Loose, nets_of, AreBelow}
-use Rattle.dft_behavior.specs.Logic.{Logic, Meaning, Input, Clock, Gate, Joined, Flop, Lockup, Free, Force, Scan, Cell, reads, IsRanked}
+use Rattle.dft_behavior.specs.Logic.{Logic, Meaning, Input, Clock, Gate, Joined, Flop, Lockup, Free, Cell, reads, IsRanked}
 use Rattle.dft_behavior.specs.Settled.{Sources, bit_from, bit_given}
-use Rattle.dft_behavior.specs.Runs.{State, Moment, Now, port_bits, sources_of, IsNow, forced_by, taken_by, next_bit, Event, Set, after_event, at_moment, Step, next_now, AreSteps, takes, edge}
-use Rattle.dft_chains.specs.ScanOff.{moved_source, moved_force, moved_meaning, Places, IsWithin, IsForceWithin, IsEnabledBy, KeepsFlop, Contains, IsSameEvent, SameSet, SameRise, SameFall, AddedRise, AddedFall, AreFreeAlike, AreSameSteps, AllAgree, set_to, ScanOff}
+use Rattle.dft_behavior.specs.Runs.{State, Moment, Now, port_bits, sources_of, IsNow, next_bit, Event, Set, after_event, at_moment, Step, next_now, AreSteps, takes, edge}
+use Rattle.dft_chains.specs.ScanOff.{moved_source, moved_meaning, Places, IsWithin, AreForcesWithin, AllOf, IsEnabledBy, KeepsFlop, PinsKeep, Contains, IsSameEvent, SameSet, SameRise, SameFall, AddedRise, AddedFall, AreFreeAlike, AreSameSteps, AllAgree, set_to, ScanOff}
 
 -- what both have in common at a moment, but for free bits
 record AreAlike (p : Places) (s its : State) : Type 0 where
@@ -67,9 +70,8 @@ seen_same original written rank p now its ranked has alike free settled its_sett
 
 -- ---- flip-flops
 
-forced_same : (p : Places) (f : Option Force) (a b : ℕ → Bool) (x y : Bool) → IsForceWithin p.size f → ((net : ℕ) → net < p.size → a (p.moved net) ≡ b net) → x ≡ y → forced_by (moved_force p.moved f) a x ≡ forced_by f b y
-forced_same p None a b x y inside same is = is
-forced_same p (Some force) a b x y inside same is = ap (λ bit. forced force.value bit x) (same force.port inside) ∙ ap (forced force.value (b force.port)) is
+forced_same : (p : Places) (forces : Forces ℕ) (a b : ℕ → Bool) (x y : Bool) → AreForcesWithin p.size forces → ((net : ℕ) → net < p.size → a (p.moved net) ≡ b net) → x ≡ y → forced_by (moved_forces p.moved forces) a x ≡ forced_by forces b y
+forced_same p forces a b x y inside same is = bits_moved p.moved forces a b x (λ port has. same port (inside port has)) ∙ ap (forced_by forces b) is
 
 input_same : (p : Places) (now its : Now) → ((i pin : ℕ) → now.moment.loose i pin ≡ its.moment.loose i pin) → ((net : ℕ) → net < p.size → now.moment.seen (p.moved net) ≡ its.moment.seen net) → (source : Source) → IsWithin p.size source →
     bit_from (sources_of now) now.moment.seen (moved_source p.moved source) ≡ bit_from (sources_of its) its.moment.seen source
@@ -77,25 +79,53 @@ input_same p now its pins same (Net net) inside = same net inside
 input_same p now its pins same (Tied bit) inside = refl
 input_same p now its pins same (Loose i pin) inside = pins i pin
 
--- a scan enable that is 0 leaves D
-taken_off : (port : ℕ) (scan : Option Scan) (at : Source → Bool) (bit : Bool) → IsEnabledBy port scan → at (Net port) ≡ false → taken_by scan at bit ≡ bit
-taken_off port None at bit enabled off = refl
-taken_off port (Some scan) at bit enabled off = ap (λ e. chosen (at e) (at scan.input) bit) enabled ∙ ap (λ e. chosen e (at scan.input) bit) off
+all_of : (P Q : Source → Type 0) → ((source : Source) → P source → Q source) → (sources : List Source) → AllOf P sources → AllOf Q sources
+all_of P Q each [] all = tt
+all_of P Q each (source ∷ sources) all = (each source all.0, all_of P Q each sources all.1)
+
+-- a scan enable that is 0 leaves the data input
+scan_off_bit : (port : ℕ) (scan : Option (Scan Source)) (at : Source → Bool) (bit : Bool) → IsEnabledBy port scan → at (Net port) ≡ false → scanned scan at bit ≡ bit
+scan_off_bit port None at bit enabled off = refl
+scan_off_bit port (Some scan) at bit enabled off = ap (λ e. chosen (at e) (at scan.input) bit) enabled ∙ ap (λ e. chosen e (at scan.input) bit) off
+
+scan_off_value : (port : ℕ) (scan : Option (Scan Source)) (at : Source → Tri) (t : Tri) → IsEnabledBy port scan → at (Net port) ≡ Zero → tri_scanned scan at t ≡ t
+scan_off_value port None at t enabled off = refl
+scan_off_value port (Some scan) at t enabled off = ap (λ e. tri_chosen (at e) (at scan.input) t) enabled ∙ ap (λ e. tri_chosen e (at scan.input) t) off ∙ chosen_zero (at scan.input) t
+
+over_equal : (t u v w : Tri) → t ≡ u → v ≡ w → AboveTri u w → AboveTri t v
+over_equal t u v w e f over = rw (e, f) over
+
+pub pins_keep : PinsKeep
+pins_keep p old new kept = record {
+  domain = kept.domain;
+  falling = kept.falling;
+  forces = kept.forces;
+  forces_within = kept.forces_within;
+  within = (kept.input_within, subst (λ (s : Option (Scan Source)). AllOf (IsWithin p.size) (scan_sources s)) (sym kept.plain) tt);
+  same = λ own at there off agree. scan_off_bit p.enable new.takes.scan at (at new.takes.input) kept.scan off ∙ ap at kept.input ∙ agree.0
+      ∙ sym (ap (λ (s : Option (Scan Source)). scanned s there (there old.takes.input)) kept.plain);
+  below = λ own its at there above off over. over_equal (tri_taken_by old.takes its there) (there old.takes.input) (tri_taken_by new.takes own at) (at (moved_source p.moved old.takes.input))
+      (ap (λ (s : Option (Scan Source)). tri_scanned s there (there old.takes.input)) kept.plain) (scan_off_value p.enable new.takes.scan at (at new.takes.input) kept.scan off ∙ ap at kept.input) over.0;
+}
 
 enable_low : (original written : Logic) (p : Places) (now : Now) → Contains original written p → now.state.ports p.enable ≡ Zero → IsNow written now → now.moment.seen p.enable ≡ false
 enable_low original written p now has off settled =
     settled p.enable ∙ ap (bit_given (sources_of now) now.moment.seen p.enable) has.enable ∙ ap (λ t. completed t (now.moment.free p.enable)) off
 
-next_same : (original written : Logic) (p : Places) (now its : Now) (old new : Cell) → Contains original written p → AreAlike p now.state its.state → AreFreeAlike p now.moment its.moment → now.moment.seen p.enable ≡ false →
-    ((net : ℕ) → net < p.size → now.moment.seen (p.moved net) ≡ its.moment.seen net) → KeepsFlop p old new → next_bit new now ≡ next_bit old its
-next_same original written p now its old new has alike free low same kept =
+next_same : (original written : Logic) (p : Places) (now its : Now) (c : ℕ) → Contains original written p → AreAlike p now.state its.state → AreFreeAlike p now.moment its.moment → now.moment.seen p.enable ≡ false →
+    ((net : ℕ) → net < p.size → now.moment.seen (p.moved net) ≡ its.moment.seen net) → p.is_flop c ≡ true → next_bit (written.cell c) (now.state.flops c) now ≡ next_bit (original.cell c) (its.state.flops c) its
+next_same original written p now its c has alike free low same is =
     let at : Source → Bool = bit_from (sources_of now) now.moment.seen in
     let there : Source → Bool = bit_from (sources_of its) its.moment.seen in
-    ap (λ (f : Option Force). forced_by f (port_bits now.state now.moment) (taken_by new.scan at (at new.input))) kept.force
-    ∙ forced_same p old.force (port_bits now.state now.moment) (port_bits its.state its.moment) (taken_by new.scan at (at new.input)) (taken_by old.scan there (there old.input)) kept.force_within
+    let old : Cell = original.cell c in
+    let new : Cell = written.cell c in
+    let kept : KeepsFlop p old new = has.flops c is in
+    let agree : AllOf (λ source. at (moved_source p.moved source) ≡ there source) (taken_from old.takes) =
+    all_of (IsWithin p.size) (λ source. at (moved_source p.moved source) ≡ there source) (input_same p now its free.pins same) (taken_from old.takes) kept.within in
+    ap (λ (f : Forces ℕ). forced_by f (port_bits now.state now.moment) (taken_by new.takes (now.state.flops c) at)) kept.forces
+    ∙ forced_same p old.forces (port_bits now.state now.moment) (port_bits its.state its.moment) (taken_by new.takes (now.state.flops c) at) (taken_by old.takes (its.state.flops c) there) kept.forces_within
     (λ net inside. port_same p now its alike free net inside)
-    (taken_off p.enable new.scan at (at new.input) kept.scan low ∙ ap at kept.input ∙ input_same p now its free.pins same old.input kept.input_within
-    ∙ sym (ap (λ (s : Option Scan). taken_by s there (there old.input)) kept.plain))
+    (kept.same (now.state.flops c) at there low agree ∙ ap (λ (own : Bool). taken_by old.takes own there) (alike.flops c is))
 
 pick : (a b : Bool) (x y z t : Bool) → a ≡ b → x ≡ z → y ≡ t → (if a then x else y) ≡ (if b then z else t)
 pick a b x y z t e f g = rw (e, f, g) refl
@@ -111,9 +141,9 @@ edge_alike original written p now its d rising has alike free low same = record 
   ports = alike.ports;
   off = alike.off;
   flops = λ c is. pick ((written.cell c).domain == p.moved d && takes rising (written.cell c).falling) ((original.cell c).domain == d && takes rising (original.cell c).falling)
-      (next_bit (written.cell c) now) (now.state.flops c) (next_bit (original.cell c) its) (its.state.flops c)
+      (next_bit (written.cell c) (now.state.flops c) now) (now.state.flops c) (next_bit (original.cell c) (its.state.flops c) its) (its.state.flops c)
       (λ t. (ap (λ e. e == p.moved d) (has.flops c is).domain ∙ has.apart (original.cell c).domain d) t && takes rising ((has.flops c is).falling t))
-      (next_same original written p now its (original.cell c) (written.cell c) has alike free low same (has.flops c is)) (alike.flops c is);
+      (next_same original written p now its c has alike free low same is) (alike.flops c is);
   high = λ e. pick (p.moved e == p.moved d) (e == d) rising (now.state.high (p.moved e)) rising (its.state.high e) (has.apart e d) refl (alike.high e);
 }
 
@@ -122,7 +152,7 @@ added_alike : (original written : Logic) (p : Places) (now its : Now) (k : ℕ) 
 added_alike original written p now its k rising has alike added = record {
   ports = alike.ports;
   off = alike.off;
-  flops = λ c is. not_picked ((written.cell c).domain == k && takes rising (written.cell c).falling) (next_bit (written.cell c) now) (now.state.flops c) (its.state.flops c)
+  flops = λ c is. not_picked ((written.cell c).domain == k && takes rising (written.cell c).falling) (next_bit (written.cell c) (now.state.flops c) now) (now.state.flops c) (its.state.flops c)
       (and_left ((written.cell c).domain == k) (takes rising (written.cell c).falling) (ap (λ e. e == k) (has.flops c is).domain ∙ added (original.cell c).domain)) (alike.flops c is);
   high = λ e. not_picked (p.moved e == k) rising (now.state.high (p.moved e)) (its.state.high e) (added e) (alike.high e);
 }
@@ -140,8 +170,8 @@ moment_alike : (original written : Logic) (p : Places) (s its : State) (m o : Mo
 moment_alike original written p s its m o has alike free = record {
   ports = alike.ports;
   off = alike.off;
-  flops = λ c is. ap (λ (f : Option Force). forced_by f (port_bits s m) (s.flops c)) (has.flops c is).force
-      ∙ forced_same p (original.cell c).force (port_bits s m) (port_bits its o) (s.flops c) (its.flops c) (has.flops c is).force_within
+  flops = λ c is. ap (λ (f : Forces ℕ). forced_by f (port_bits s m) (s.flops c)) (has.flops c is).forces
+      ∙ forced_same p (original.cell c).forces (port_bits s m) (port_bits its o) (s.flops c) (its.flops c) (has.flops c is).forces_within
       (λ net inside. port_same p (record { state = s; moment = m }) (record { state = its; moment = o }) alike free net inside) (alike.flops c is);
   high = alike.high;
 }

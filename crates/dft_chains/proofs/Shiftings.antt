@@ -7,21 +7,21 @@ use Rattle.dft_base.specs.declared.tri.Tri.{Tri}
 use Rattle.dft_base.specs.declared.tri.Tri.TheVariants.{Zero, One, Unknown}
 use Rattle.dft_base.specs.Tri.{known, Above}
 use Rattle.dft_base.proofs.BitLemmas.{or_true}
-use Rattle.dft_cells.specs.FlipFlops.{tri_forced, tri_chosen}
-use Rattle.dft_cells.proofs.TriLemmas.{forced_one, chosen_one}
+use Rattle.dft_cells.specs.FlipFlops.{Forces, forced_by, tri_taken_by, tri_forced_by}
+use Rattle.dft_cells.proofs.TakesLemmas.{left_rests, bits_rest}
 use Rattle.dft_netlist.specs.declared.ids.InstanceId.{InstanceId}
 use Rattle.dft_netlist.specs.Drivers.{Source, Net}
-use Rattle.dft_behavior.specs.Logic.{Logic, Ports, Force, Scan, Input, Flop, Lockup, IsRanked}
+use Rattle.dft_behavior.specs.Logic.{Logic, Ports, Input, Flop, Lockup, IsRanked}
 use Rattle.dft_behavior.specs.Settled.{value_from, bit_given}
-use Rattle.dft_behavior.specs.Runs.{Now, Moment, State, next_now, set_step, sources_of, port_bits, forced_by, Vector, Turn, after_turn, AreTurns, AreLow, takes}
+use Rattle.dft_behavior.specs.Runs.{Now, Moment, State, next_now, set_step, sources_of, port_bits, Vector, Turn, after_turn, AreTurns, AreLow, takes}
 use Rattle.dft_behavior.proofs.SettledLemmas.{value_at}
-use Rattle.dft_abstract.specs.Cycle.{Pulse, tri_forced_by, tri_taken_by, changes, closing, opening, view_sources, AreViews, next_value, after_pulse, rise_of, fall_of, Halves, AreHalves, after_halves}
+use Rattle.dft_abstract.specs.Cycle.{Pulse, changes, closing, opening, view_sources, AreViews, next_value, after_pulse, rise_of, fall_of, Halves, AreHalves, after_halves}
 use Rattle.dft_abstract.specs.Laws.{bits}
 use Rattle.dft_abstract.proofs.Halves.{rises_change, rises_rest, falls_change, rising_after, falling_old}
 use Rattle.dft_abstract.proofs.Lifts.{known_after_turn, low_after_turn}
 use Rattle.dft_runs.specs.Passes.{after_turns}
 use Rattle.dft_stitch.specs.Plans.{cell_at}
-use Rattle.dft_chains.specs.Hardware.{ChainNets, ScanNets, ActsByPort, IsScanCell, Leads, Directly, AcrossEdges, ByLockup, HasChains, Shows, IsPlain, Enters}
+use Rattle.dft_chains.specs.Hardware.{ChainNets, ScanNets, ActByPorts, IsScanCell, Leads, Directly, AcrossEdges, ByLockup, HasChains, Shows, IsPlain, Enters}
 use Rattle.dft_chains.specs.Shifts.{IsShift, LinkLaw, EntryLaw, IsShifted, ShiftInRuns, AreShifts, AreShifted, ShiftExperiment, at_strobe, EndsShow, EndsShowBefore}
 
 -- ---- values
@@ -63,13 +63,8 @@ port_value l p poss view d net views is = value_at l (view_sources l p poss view
 -- ---- a scan cell in a shift vector
 
 -- resets are 1, so they leave the value
-pub not_forced : (ports : Ports) (e : ℕ) (x : Vector) (f : Option Force) (v : Tri) → ActsByPort ports f → IsShift ports e x → tri_forced_by f x.ports v ≡ v
-not_forced ports e x None v acts shift = refl
-not_forced ports e x (Some force) v acts shift = ap (λ p. tri_forced force.value p v) (shift.resets force.port acts) ∙ forced_one force.value v
-
--- the scan input is taken
-taken_in : (scan : Option Scan) (enable : ℕ) (source : Source) (at : Source → Tri) (d : Tri) → scan ≡ Some (record { enable = Net enable; input = source }) → at (Net enable) ≡ One → tri_taken_by scan at d ≡ at source
-taken_in scan enable source at d is one = ap (λ (s : Option Scan). tri_taken_by s at d) is ∙ ap (λ e. tri_chosen e (at source) d) one ∙ chosen_one (at source) d
+pub not_forced : (ports : Ports) (e : ℕ) (x : Vector) (forces : Forces ℕ) (v : Tri) → ActByPorts ports forces → IsShift ports e x → tri_forced_by forces x.ports v ≡ v
+not_forced ports e x forces v act shift = left_rests forces x.ports v (λ port has. shift.resets port (act port has))
 
 pick_true : (b : Bool) (x y : Tri) → b ≡ true → (if b then x else y) ≡ x
 pick_true true x y h = refl
@@ -83,10 +78,9 @@ takes_source l ports chains w x p poss view source cell has shift same views tur
     let d : ℕ = (l.cell cell).domain in
     let at : Source → Tri = value_from (view d) in
     pick_true (changes l p cell) (next_value l p view cell) (p.old cell) turn
-    ∙ ap (λ (f : ℕ → Tri). tri_forced_by (l.cell cell).force f (tri_taken_by (l.cell cell).scan at (at (l.cell cell).input))) same
-    ∙ not_forced ports w.enable x (l.cell cell).force (tri_taken_by (l.cell cell).scan at (at (l.cell cell).input)) is.force shift
-    ∙ taken_in (l.cell cell).scan w.enable source at (at (l.cell cell).input) is.scan
-    (port_value l p poss view d w.enable views has.enable ∙ ap (λ (f : ℕ → Tri). f w.enable) same ∙ shift.enabled)
+    ∙ ap (λ (f : ℕ → Tri). tri_forced_by (l.cell cell).forces f (tri_taken_by (l.cell cell).takes (p.old cell) at)) same
+    ∙ not_forced ports w.enable x (l.cell cell).forces (tri_taken_by (l.cell cell).takes (p.old cell) at) is.forces shift
+    ∙ is.takes (p.old cell) at (port_value l p poss view d w.enable views has.enable ∙ ap (λ (f : ℕ → Tri). f w.enable) same ∙ shift.enabled)
 
 -- a rising cell in the rises, a falling one in the falls
 pub rise_takes : (l : Logic) (ports : Ports) (chains : List (List InstanceId)) (w : ChainNets) (x : Vector) (old : ℕ → Tri) (h : Halves) (source : Source) (cell : ℕ) →
@@ -129,7 +123,7 @@ pub link_law : LinkLaw
 link_law l ports chains w x old h has shift are chain place cell next stands follows =
     link_by l ports chains w x old h cell.0 next.0 (w.into chain place) (w.into chain (suc place)) (l.cell next.0).falling has shift are refl (has.cells chain place cell stands) (has.cells chain (suc place) next follows)
     (has.links chain place cell next stands follows)
-    ∙ not_forced ports w.enable x (l.cell cell.0).force (old cell.0) (has.cells chain place cell stands).force shift
+    ∙ not_forced ports w.enable x (l.cell cell.0).forces (old cell.0) (has.cells chain place cell stands).forces shift
 
 entry_by : (l : Logic) (ports : Ports) (chains : List (List InstanceId)) (w : ScanNets) (x : Vector) (old : ℕ → Tri) (h : Halves) (chain cell : ℕ) (falling : Bool) →
     HasChains l ports chains w.nets → IsShift ports w.nets.enable x → AreHalves l x old h → (l.cell cell).falling ≡ falling → IsScanCell l ports w.nets.enable (w.nets.into chain zero) cell → Enters l w chain →
@@ -224,11 +218,10 @@ ends_show l ports chains w x now t plain turn chain place cell stands last =
     turn.steps.0 (w.scan_out chain) ∙ ap (bit_given (sources_of at) t.strobe.seen (w.scan_out chain)) shows.buffer
     ∙ turn.steps.0 shows.output ∙ ap (bit_given (sources_of at) t.strobe.seen shows.output) shows.flop
 
-bit_not_forced : (ports : Ports) (e : ℕ) (x : Vector) (s : State) (m : Moment) (f : Option Force) (b : Bool) → s.ports ≡ x.ports → ActsByPort ports f → IsShift ports e x → forced_by f (port_bits s m) b ≡ b
-bit_not_forced ports e x s m None b same acts shift = refl
-bit_not_forced ports e x s m (Some force) b same acts shift = rw (same, shift.resets force.port acts) refl
+bit_not_forced : (ports : Ports) (e : ℕ) (x : Vector) (s : State) (m : Moment) (forces : Forces ℕ) (b : Bool) → s.ports ≡ x.ports → ActByPorts ports forces → IsShift ports e x → forced_by forces (port_bits s m) b ≡ b
+bit_not_forced ports e x s m forces b same act shift = bits_rest forces (port_bits s m) b (λ port has. rw (same, shift.resets port (act port has)) refl)
 
 pub ends_show_before : EndsShowBefore
 ends_show_before l ports chains w x now t plain shift turn chain place cell stands last =
     ends_show l ports chains w x now t plain turn chain place cell stands last
-    ∙ bit_not_forced ports w.nets.enable x (at_strobe l x now t) t.strobe (l.cell cell.0).force (now.state.flops cell.0) refl (plain.has.cells chain place cell stands).force shift
+    ∙ bit_not_forced ports w.nets.enable x (at_strobe l x now t) t.strobe (l.cell cell.0).forces (now.state.flops cell.0) refl (plain.has.cells chain place cell stands).forces shift

@@ -1,10 +1,9 @@
 -- What a logic has stands in every logic that means as much or more.
 use Rattle.std.proofs.Common.{ℕ, suc, ◌≡◌, false, Some, inl, inr, sym, subst, ap, ◌∙◌}
-use Rattle.std.proofs.lemmas.Option.{none-some}
 use Rattle.dft_netlist.specs.Drivers.{Source, Net}
-use Rattle.dft_behavior.specs.Logic.{Logic, Ports, Meaning, Cell, Scan, Input, Flop, Lockup, Free}
+use Rattle.dft_behavior.specs.Logic.{Logic, Ports, Meaning, Cell, Input, Flop, Lockup, Free, no_cell}
 use Rattle.dft_runs.specs.WiderPorts.{MeansMore}
-use Rattle.dft_chains.specs.Hardware.{ActsByPort, IsScanCell, Leads, Directly, AcrossEdges, ByLockup, ChainsStay}
+use Rattle.dft_chains.specs.Hardware.{ActByPorts, TakesOn, IsScanCell, Leads, Directly, AcrossEdges, ByLockup, ChainsStay}
 
 abbrev IsFree : Meaning → Type 0
 IsFree Free = Unit {0}
@@ -17,20 +16,21 @@ net_stays l m net is more here driven = elim (more.nets net) [
   | inr same ↦ same ∙ here
 ]
 
--- a flip-flop with scan pins
-pub cell_stays : (l m : Logic) (i : ℕ) (scan : Scan) → MeansMore l m → (l.cell i).scan ≡ Some scan → m.cell i ≡ l.cell i
-cell_stays l m i scan more is = elim (more.cells i) [
-  | inl none ↦ absurd (none-some scan (sym (ap (λ (c : Cell). c.scan) none) ∙ is))
+-- a cell that is modelled
+pub cell_stays : (l m : Logic) (i : ℕ) → MeansMore l m → (l.cell i ≡ no_cell i → ⊥) → m.cell i ≡ l.cell i
+cell_stays l m i more is = elim (more.cells i) [
+  | inl none ↦ absurd (is none)
   | inr same ↦ same
 ]
 
 scan_cell_stays : (l m : Logic) (ports : Ports) (enable : ℕ) (source : Source) (cell : ℕ) → MeansMore l m → IsScanCell l ports enable source cell → IsScanCell m ports enable source cell
 scan_cell_stays l m ports enable source cell more is =
-    let same = cell_stays l m cell (record { enable = Net enable; input = source }) more is.scan in
+    let same = cell_stays l m cell more is.modelled in
     record {
-      scan = ap (λ (c : Cell). c.scan) same ∙ is.scan;
+      takes = subst (λ (c : Cell). TakesOn enable source c.takes) (sym same) is.takes;
+      modelled = λ none. is.modelled (sym same ∙ none);
       domain = ap (λ (c : Cell). ports.is_clock c.domain) same ∙ is.domain;
-      force = subst (λ (c : Cell). ActsByPort ports c.force) (sym same) is.force;
+      forces = subst (λ (c : Cell). ActByPorts ports c.forces) (sym same) is.forces;
     }
 
 leads_stays : (l m : Logic) (cell next : ℕ) (source : Source) → MeansMore l m → m.cell cell ≡ l.cell cell → m.cell next ≡ l.cell next → Leads l cell next source → Leads m cell next source
@@ -49,7 +49,7 @@ chains_stay l m ports chains w more has = record {
   enable = net_stays l m w.enable Input more has.enable (λ free. free);
   cells = λ chain place cell stands. scan_cell_stays l m ports w.enable (w.into chain place) cell.0 more (has.cells chain place cell stands);
   links = λ chain place cell next stands follows. leads_stays l m cell.0 next.0 (w.into chain (suc place)) more
-      (cell_stays l m cell.0 (record { enable = Net w.enable; input = w.into chain place }) more (has.cells chain place cell stands).scan)
-      (cell_stays l m next.0 (record { enable = Net w.enable; input = w.into chain (suc place) }) more (has.cells chain (suc place) next follows).scan)
+      (cell_stays l m cell.0 more (has.cells chain place cell stands).modelled)
+      (cell_stays l m next.0 more (has.cells chain (suc place) next follows).modelled)
       (has.links chain place cell next stands follows);
 }

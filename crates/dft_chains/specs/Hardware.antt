@@ -1,9 +1,12 @@
 -- What it is for a design to have scan chains: facts about its scan cells and about what leads into them.
 use Rattle.std.specs.Prelude.{ℕ, zero, suc, ◌≡◌, Bool, true, false, List, [], ◌∷◌, Option, None, Some}
+use Rattle.dft_base.specs.declared.tri.Tri.{Tri}
+use Rattle.dft_base.specs.declared.tri.Tri.TheVariants.{One}
 use Rattle.dft_cells.specs.declared.kind.Gate.TheVariants.{Buf}
+use Rattle.dft_cells.specs.FlipFlops.{Takes, Forces, IsForceOf, tri_taken_by}
 use Rattle.dft_netlist.specs.declared.ids.InstanceId.{InstanceId}
 use Rattle.dft_netlist.specs.Drivers.{Source, Net}
-use Rattle.dft_behavior.specs.Logic.{Logic, Ports, Force, Input, Gate, Flop, Lockup}
+use Rattle.dft_behavior.specs.Logic.{Logic, Ports, Input, Gate, Flop, Lockup, no_cell}
 use Rattle.dft_runs.specs.WiderPorts.{MeansMore}
 use Rattle.dft_stitch.specs.Plans.{cell_at}
 
@@ -18,16 +21,20 @@ pub record ScanNets : Type 0 where
   pub scan_in : (chain : ℕ) → ℕ
   pub scan_out : (chain : ℕ) → ℕ
 
--- a reset or set, if there is one, acts by a reset port
-abbrev pub ActsByPort : Ports → Option Force → Type 0
-ActsByPort ports None = Unit {0}
-ActsByPort ports (Some force) = ports.is_reset force.port ≡ true
+-- resets and sets act by reset ports
+abbrev pub ActByPorts : Ports → Forces ℕ → Type 0
+ActByPorts ports forces = (port : ℕ) → IsForceOf forces port → ports.is_reset port ≡ true
+
+-- where the port `enable` is 1 a cell takes the bit of a source
+abbrev pub TakesOn : (enable : ℕ) → Source → Takes Source → Type 0
+TakesOn enable source takes = (own : Tri) (values : Source → Tri) → values (Net enable) ≡ One → tri_taken_by takes own values ≡ values source
 
 -- a scan cell on a clock port, which takes the bit of a source where the port `enable` is 1
 pub record IsScanCell (l : Logic) (ports : Ports) (enable : ℕ) (source : Source) (cell : ℕ) : Type 0 where
-  pub scan : (l.cell cell).scan ≡ Some (record { enable = Net enable; input = source })
+  pub takes : TakesOn enable source (l.cell cell).takes
+  pub modelled : l.cell cell ≡ no_cell cell → ⊥
   pub domain : ports.is_clock (l.cell cell).domain ≡ true
-  pub force : ActsByPort ports (l.cell cell).force
+  pub forces : ActByPorts ports (l.cell cell).forces
 
 -- A source leads from a cell to the next one: the cell's output, where both take their bits at one edge of one clock, or the cell
 -- at falls and the next one at rises; or a lock-up behind it on the cell's clock, where both take their bits at its edge.

@@ -2,8 +2,10 @@
 use Rattle.std.specs.Prelude.{ℕ, ◌<◌, ◌≡◌, ◌==◌, Bool, true, false, List, [], ◌∷◌, map, Option, None, Some}
 use Rattle.dft_base.specs.declared.tri.Tri.{Tri}
 use Rattle.dft_base.specs.declared.tri.Tri.TheVariants.{Zero}
+use Rattle.dft_base.specs.Tri.{AboveTri}
+use Rattle.dft_cells.specs.FlipFlops.{Scan, Takes, Forces, IsForceOf, moved_forces, taken_from, taken_by, tri_taken_by}
 use Rattle.dft_netlist.specs.Drivers.{Source, Net, Tied, Loose, AreBelow}
-use Rattle.dft_behavior.specs.Logic.{Logic, Meaning, Input, Clock, Gate, Joined, Flop, Lockup, Free, Force, Scan, Cell, reads, IsRanked}
+use Rattle.dft_behavior.specs.Logic.{Logic, Meaning, Input, Clock, Gate, Joined, Flop, Lockup, Free, Cell, reads, IsRanked}
 use Rattle.dft_behavior.specs.Runs.{Moment, Now, Event, Set, Rise, Fall, Step, next_now, AreSteps, AreLow}
 
 -- ---- what a net means, where nets have other numbers
@@ -12,10 +14,6 @@ abbrev pub moved_source : (moved : ℕ → ℕ) → Source → Source
 moved_source moved (Net net) = Net (moved net)
 moved_source moved (Tied bit) = Tied bit
 moved_source moved (Loose i pin) = Loose i pin
-
-abbrev pub moved_force : (moved : ℕ → ℕ) → Option Force → Option Force
-moved_force moved None = None
-moved_force moved (Some force) = Some (record { port = moved force.port; value = force.value })
 
 abbrev pub moved_meaning : (moved : ℕ → ℕ) → Meaning → Meaning
 moved_meaning moved Input = Input
@@ -41,25 +39,55 @@ IsWithin size (Net net) = net < size
 IsWithin size (Tied bit) = Unit {0}
 IsWithin size (Loose i pin) = Unit {0}
 
-abbrev pub IsForceWithin : (size : ℕ) → Option Force → Type 0
-IsForceWithin size None = Unit {0}
-IsForceWithin size (Some force) = force.port < size
+abbrev pub AreForcesWithin : (size : ℕ) → Forces ℕ → Type 0
+AreForcesWithin size forces = (port : ℕ) → IsForceOf forces port → port < size
+
+-- what holds of each of these sources
+abbrev pub AllOf : (Source → Type 0) → List Source → Type 0
+AllOf holds [] = Unit {0}
+AllOf holds (source ∷ sources) = holds source × AllOf holds sources
+
+-- While scan_enable is 0 the new cell takes the bit that the old one takes, whatever its own, where the sources of the old one have the same bits.
+abbrev pub TakesSame : Places → (old new : Takes Source) → Type 0
+TakesSame p old new =
+    (own : Bool) (at there : Source → Bool) → at (Net p.enable) ≡ false → AllOf (λ source. at (moved_source p.moved source) ≡ there source) (taken_from old) →
+    taken_by new own at ≡ taken_by old own there
+
+-- The same over three values: what the old cell takes stands above what the new one takes, where the values of its sources do.
+abbrev pub TakesBelow : Places → (old new : Takes Source) → Type 0
+TakesBelow p old new =
+    (own its : Tri) (at there : Source → Tri) → AboveTri its own → at (Net p.enable) ≡ Zero → AllOf (λ source. AboveTri (there source) (at (moved_source p.moved source))) (taken_from old) →
+    AboveTri (tri_taken_by old its there) (tri_taken_by new own at)
+
+-- A flip-flop keeps its domain, its edge, its reset and its set, and what it takes while scan_enable is 0, which comes from nets of the original.
+pub record KeepsFlop (p : Places) (old new : Cell) : Type 0 where
+  pub domain : new.domain ≡ p.moved old.domain
+  pub falling : new.falling ≡ old.falling
+  pub forces : new.forces ≡ moved_forces p.moved old.forces
+  pub forces_within : AreForcesWithin p.size old.forces
+  pub within : AllOf (IsWithin p.size) (taken_from old.takes)
+  pub same : TakesSame p old.takes new.takes
+  pub below : TakesBelow p old.takes new.takes
 
 -- scan pins, if there are any, are enabled by this port
-abbrev pub IsEnabledBy : (port : ℕ) → Option Scan → Type 0
+abbrev pub IsEnabledBy : (port : ℕ) → Option (Scan Source) → Type 0
 IsEnabledBy port None = Unit {0}
 IsEnabledBy port (Some scan) = scan.enable ≡ Net port
 
--- a flip-flop without scan pins keeps its domain, its D and its reset or set; it may get scan pins
-pub record KeepsFlop (p : Places) (old new : Cell) : Type 0 where
-  pub plain : old.scan ≡ None
+-- A flip-flop without scan pins keeps its pins; it may get scan pins, which scan_enable enables.
+pub record KeepsPins (p : Places) (old new : Cell) : Type 0 where
+  pub plain : old.takes.scan ≡ None
   pub domain : new.domain ≡ p.moved old.domain
   pub falling : new.falling ≡ old.falling
-  pub input : new.input ≡ moved_source p.moved old.input
-  pub input_within : IsWithin p.size old.input
-  pub force : new.force ≡ moved_force p.moved old.force
-  pub force_within : IsForceWithin p.size old.force
-  pub scan : IsEnabledBy p.enable new.scan
+  pub input : new.takes.input ≡ moved_source p.moved old.takes.input
+  pub input_within : IsWithin p.size old.takes.input
+  pub forces : new.forces ≡ moved_forces p.moved old.forces
+  pub forces_within : AreForcesWithin p.size old.forces
+  pub scan : IsEnabledBy p.enable new.takes.scan
+
+-- A flip-flop that keeps its pins keeps what it takes.
+abbrev pub PinsKeep : Type 0
+PinsKeep = (p : Places) (old new : Cell) → KeepsPins p old new → KeepsFlop p old new
 
 -- the written design has each net of the original, with the same meaning, and each of its flip-flops
 pub record Contains (original written : Logic) (p : Places) : Type 0 where

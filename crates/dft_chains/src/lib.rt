@@ -4,4 +4,4 @@
 
 mod laws;
 
-pub use laws::{chains_shift, chains_stay, scan_off_agrees};
+pub use laws::{chains_shift, chains_stay, pins_keep, scan_off_agrees};

@@ -1,5 +1,5 @@
 -- The most used of some ports.
-use Rattle.std.proofs.Common.{◌≡◌, ℕ, zero, suc, ◌+◌, ◌<◌, ◌==◌, Bool, true, false, cond, ◌&&◌, ◌||◌, List, [], ◌∷◌, ◌++◌, map, filter, count_by, Option, refl, sym, ◌∙◌, ap, arith, append-nil, zero-add}
+use Rattle.std.proofs.Common.{◌≡◌, ℕ, zero, suc, ◌+◌, ◌<◌, ◌==◌, Bool, true, false, cond, ◌&&◌, ◌||◌, List, [], ◌∷◌, ◌++◌, map, filter, count_by, Option, refl, sym, ◌∙◌, ap, arith, append_assoc, append-nil, zero-add}
 use Rattle.std.specs.Prelude.{nat_lt}
 use Rattle.std.specs.List.{range_with_len}
 use Rattle.std.proofs.lemmas.List.{map-append}
@@ -43,10 +43,16 @@ pub chosen_not : (p : ℕ → Bool) (net : ℕ) (before : List NetId) → p net 
 chosen_not p net before is rest =
     rest ∙ sym (append-nil (filter p (range_with_len 0 net))) ∙ ap (λ (b : Bool). filter p (range_with_len 0 net) ++ cond b (net ∷ []) []) (sym is) ∙ sym (filter_more p net)
 
+-- one number more, behind others
+pub pushed_behind : (f : ℕ → Option ℕ) (k : ℕ) (others before after : List (Option NetId)) (x : Option NetId) → after ≡ before ++ x ∷ [] → number x ≡ f k → numbers_of before ≡ numbers_of others ++ map f (range_with_len 0 k) →
+    numbers_of after ≡ numbers_of others ++ map f (range_with_len 0 (k + 1))
+pushed_behind f k others before after x pushed is rest =
+    ap numbers_of pushed ∙ map-append number before (x ∷ []) ∙ (λ i. rest i ++ is i ∷ []) ∙ append_assoc (numbers_of others) (map f (range_with_len 0 k)) (f k ∷ [])
+    ∙ ap (λ (l : List (Option ℕ)). numbers_of others ++ l) (sym (map-range_with_len_more f 0 k k (omega arith)))
+
 -- one net more that may not be there
 pub pushed_number : (f : ℕ → Option ℕ) (k : ℕ) (before after : List (Option NetId)) (x : Option NetId) → after ≡ before ++ x ∷ [] → number x ≡ f k → numbers_of before ≡ map f (range_with_len 0 k) → numbers_of after ≡ map f (range_with_len 0 (k + 1))
-pushed_number f k before after x pushed is rest =
-    ap numbers_of pushed ∙ map-append number before (x ∷ []) ∙ (λ i. rest i ++ is i ∷ []) ∙ sym (map-range_with_len_more f 0 k k (omega arith))
+pushed_number f k before after x pushed is rest = pushed_behind f k [] before after x pushed is rest
 
 -- a number is kept, or it is not
 pub kept_more : (p : ℕ → Bool) (k : ℕ) (before after : List ℕ) → p k ≡ true → after ≡ before ++ k ∷ [] → before ≡ filter p (range_with_len 0 k) → after ≡ filter p (range_with_len 0 (k + 1))

@@ -6,6 +6,8 @@ use Rattle.std.proofs.lemmas.Bool.{eqb-true, lt-ltb}
 use Rattle.std.proofs.lemmas.Iterator.Adapters.{position_from-zero}
 use Rattle.std.proofs.lemmas.Option.{slice_get_within}
 use Rattle.dft_base.specs.Lexing.{Text}
+use Rattle.dft_base.proofs.BitLemmas.{and_first, and_second}
+use Rattle.dft_cells.specs.declared.kind.Role.{Role}
 use Rattle.dft_cells.specs.declared.kind.Role.TheVariants as role
 use Rattle.dft_config.specs.Config.{Config}
 use Rattle.dft_netlist.specs.declared.ids.NetId.{NetId}
@@ -18,7 +20,7 @@ use Rattle.dft_behavior.specs.Traces.{Root, Port, Constant, Other, root_of}
 use Rattle.dft_behavior.specs.ClockRoots.{ClockRoot, clock_root_of}
 use Rattle.dft_rules.specs.Findings.{AreNets}
 use Rattle.dft_rules.specs.Refusals.{is_data_of, is_scanned, refusal}
-use Rattle.dft_rules.specs.Rules.{are_held, are_held_at, clock_of_source, clocked_by, is_held, is_kept, judged, judged_by, place_of_clock, place_of_port, scan_cell_of}
+use Rattle.dft_rules.specs.Rules.{are_held_at, clock_of_source, clocked_by, is_held, is_kept, is_pin_held, judged, judged_by, place_of_clock, place_of_port, scan_cell_of}
 use Rattle.dft_rules.specs.declared.judged.Judged.{Judged}
 use Rattle.dft_rules.specs.declared.judged.Judged.TheVariants.{Scanned, Unscanned}
 use Rattle.dft_rules.proofs.ClockReads.{no_data}
@@ -27,7 +29,7 @@ use Rattle.dft_rules.proofs.JudgeLemmas.{same_place}
 use Rattle.dft_rules.proofs.NamedPorts.{name_at, named}
 use Rattle.dft_configure.specs.Found.{numbers}
 use Rattle.dft_configure.specs.Most.{CutsNone, HasRoots, MostAreScanned}
-use Rattle.dft_configure.specs.Roots.{can_hold, clean_clock, clean_only, domains_of, hold_root, is_among, is_clean, is_port, is_tapped, open_clock, open_reset, port_of_clock, port_of_root, port_shown, root_of_either}
+use Rattle.dft_configure.specs.Roots.{can_hold, can_hold_both, clean_clock, clean_only, domains_of, hold_root, is_among, is_clean, is_port, is_tapped, open_clock, open_reset, port_of_clock, port_of_root, port_shown}
 
 -- ---- it is open
 
@@ -70,15 +72,21 @@ root_can n names (Port net) is = refl
 root_can n names (Constant bit) is = is
 root_can n names Other is = absurd cc
 
-held_can : (n : Netlist) (names : List Text) (reset preset : Option Source) → are_held n names reset preset ≡ true → can_hold (root_of_either n reset preset) ≡ true
-held_can n names (Some reset) preset is = root_can n names (root_of n reset) is
-held_can n names None (Some preset) is = root_can n names (root_of n preset) is
-held_can n names None None is = refl
+pin_can : (n : Netlist) (names : List Text) (pin : Option Source) → is_pin_held n names pin ≡ true → can_hold (option_map (root_of n) pin) ≡ true
+pin_can n names None is = refl
+pin_can n names (Some source) is = root_can n names (root_of n source) is
+
+held_can : (n : Netlist) (other : Config) (i : ℕ) → are_held_at n other i ≡ true → can_hold_both n i ≡ true
+held_can n other i is =
+    let reset = pin_of role.Reset i (pins_of n i) in
+    let preset = pin_of role.Preset i (pins_of n i) in
+    λ j. pin_can n other.resets reset (and_first (is_pin_held n other.resets reset) (is_pin_held n other.resets preset) is) j
+    && pin_can n other.resets preset (and_second (is_pin_held n other.resets reset) (is_pin_held n other.resets preset) is) j
 
 is_open : (n : Netlist) (other : Config) (i domain : ℕ) (falling : Bool) → IsNetlist n → refusal n other ≡ None → (v : IsVerdict n other i domain falling) (c : IsClocked n other i domain falling) → open_clock n i ≡ Some c.net
 unfolding open_clock
 is_open n other i domain falling sound passed v c =
-    let hold : can_hold (hold_root n i) ≡ true = held_can n other.resets (pin_of role.Reset i (pins_of n i)) (pin_of role.Preset i (pins_of n i)) v.passed.is_held in
+    let hold = held_can n other i v.passed.is_held in
     (λ j. if (v.kind j && v.passed.is_scan j) && hold j then clean_clock n i else None)
     ∙ ap (λ (o : Option Source). clean_only n (option_and_then (port_shown n) o)) c.pin ∙ ap (λ (r : Option ClockRoot). clean_only n (port_of_clock r)) c.root
     ∙ ap (λ (b : Bool). if b then Some c.net else None) (clean_port n other i domain falling sound passed c)
@@ -105,11 +113,10 @@ held_root n names (Port net) can there = there net refl
 held_root n names (Constant bit) can there = can
 held_root n names Other can there = absurd cc
 
-held_made : (n : Netlist) (names : List Text) (reset preset : Option Source) → can_hold (root_of_either n reset preset) ≡ true → ((net : ℕ) → port_of_root (root_of_either n reset preset) ≡ Some net → is_some (place_of_port n names net) ≡ true) →
-    are_held n names reset preset ≡ true
-held_made n names (Some reset) preset can there = held_root n names (root_of n reset) can there
-held_made n names None (Some preset) can there = held_root n names (root_of n preset) can there
-held_made n names None None can there = refl
+pin_made : (n : Netlist) (names : List Text) (pin : Option Source) → can_hold (option_map (root_of n) pin) ≡ true → ((net : ℕ) → port_of_root (option_map (root_of n) pin) ≡ Some net → is_some (place_of_port n names net) ≡ true) →
+    is_pin_held n names pin ≡ true
+pin_made n names None can there = refl
+pin_made n names (Some source) can there = held_root n names (root_of n source) can there
 
 scanned_by : (clock : Option (ℕ × Bool)) (held scans kept : Bool) → is_some clock ≡ true → held ≡ true → scans ≡ true → kept ≡ false → is_scanned (judged_by clock held scans kept) ≡ true
 scanned_by None held scans kept c h s k = absurd cc
@@ -130,11 +137,14 @@ made_scans n made other i domain falling sound roots cuts passed v c =
     let clock : is_some (clocked_by n made i) ≡ true =
     ap (λ (o : Option Source). is_some (option_and_then (clock_of_source n made.domains) o)) c.pin ∙ ap (λ (r : Option ClockRoot). is_some (place_of_clock n made.domains r)) c.root
     ∙ some_mapped (λ p. (p, falling)) (place_of_port n made.domains c.net) place in
-    let can : can_hold (hold_root n i) ≡ true = held_can n other.resets (pin_of role.Reset i (pins_of n i)) (pin_of role.Preset i (pins_of n i)) v.passed.is_held in
-    let reset : (net : ℕ) → port_of_root (hold_root n i) ≡ Some net → open_reset n (domains_of n) i ≡ Some net =
-    λ net at. (ap (λ (o : Option ℕ). if is_among (domains_of n) o then port_of_root (hold_root n i) else None) opened ∙ ap (λ (b : Bool). if b then port_of_root (hold_root n i) else None) among ∙ at) in
-    let held : are_held_at n made i ≡ true = held_made n made.resets (pin_of role.Reset i (pins_of n i)) (pin_of role.Preset i (pins_of n i)) can
-    (λ net at. place_there n made.resets roots.resets _ net roots.resets_named roots.held (cuts.resets i net (reset net at))) in
+    let can = held_can n other i v.passed.is_held in
+    let reset : (hold : Role) (net : ℕ) → port_of_root (hold_root n hold i) ≡ Some net → open_reset n (domains_of n) hold i ≡ Some net =
+    λ hold net at. (ap (λ (o : Option ℕ). if is_among (domains_of n) o then port_of_root (hold_root n hold i) else None) opened ∙ ap (λ (b : Bool). if b then port_of_root (hold_root n hold i) else None) among ∙ at) in
+    let held : are_held_at n made i ≡ true =
+    λ j. pin_made n made.resets (pin_of role.Reset i (pins_of n i)) (and_first (can_hold (hold_root n role.Reset i)) (can_hold (hold_root n role.Preset i)) can)
+    (λ net at. place_there n made.resets roots.resets _ net roots.resets_named roots.held (cuts.resets i net (reset role.Reset net at))) j
+    && pin_made n made.resets (pin_of role.Preset i (pins_of n i)) (and_second (can_hold (hold_root n role.Reset i)) (can_hold (hold_root n role.Preset i)) can)
+    (λ net at. place_there n made.resets roots.resets _ net roots.resets_named roots.held (cuts.sets i net (reset role.Preset net at))) j in
     let kept : is_kept n made.keep i ≡ false = ap (λ (l : List Text). is_kept n l i) roots.keep in
     ap (λ (b : Bool). is_scanned (if b then judged_by (clocked_by n made i) (are_held_at n made i) (is_some (scan_cell_of n i)) (is_kept n made.keep i) else None)) v.kind
     ∙ scanned_by (clocked_by n made i) (are_held_at n made i) (is_some (scan_cell_of n i)) (is_kept n made.keep i) clock held v.passed.is_scan kept

@@ -7,26 +7,25 @@ use Rattle.std.proofs.lemmas.List.Folds.{list_any-append}
 use Rattle.std.proofs.lemmas.List.FromFn.{get_or-map-range_with_len, length-map-range_with_len}
 use Rattle.dft_base.proofs.BitLemmas.{or_false}
 use Rattle.dft_base.proofs.ListLemmas.{range_last}
-use Rattle.dft_cells.specs.declared.kind.Role.TheVariants.{Clock, Reset, Preset}
+use Rattle.dft_cells.specs.declared.kind.Role.{Role}
+use Rattle.dft_cells.specs.declared.kind.Role.TheVariants.{Clock}
 use Rattle.dft_netlist.specs.declared.ids.NetId.{NetId}
 use Rattle.dft_netlist.specs.declared.instance.Instance.{Instance}
 use Rattle.dft_netlist.specs.declared.instance.Signal.{Signal}
-use Rattle.dft_behavior.specs.declared.clock_roots.ClockRoot.{ClockRoot}
-use Rattle.dft_behavior.specs.declared.root.Root as declared
+use Rattle.dft_netlist.specs.declared.instance.Signal.TheVariants as signal
+use Rattle.dft_behavior.specs.declared.root.ClockRoot.{ClockRoot}
+use Rattle.dft_behavior.specs.declared.root.NetRoot as declared
 use Rattle.dft_netlist.specs.Netlist.{Netlist}
 use Rattle.dft_netlist.specs.Connections.{signal_of, pin_of}
 use Rattle.dft_netlist.specs.Drivers.{Connection, Net, Source, connections_of, source_of}
-use Rattle.dft_behavior.specs.ClockSteps.{shown_clock}
-use Rattle.dft_behavior.specs.ClockTables.{AreClocks, clock_in}
-use Rattle.dft_behavior.specs.Roots.{shown_root}
-use Rattle.dft_behavior.specs.RootTables.{AreRoots, root_in}
+use Rattle.dft_behavior.specs.Roots.{shown_root, shown_clock}
+use Rattle.dft_behavior.specs.RootTables.{AreRoots, root_in, clock_in}
 use Rattle.dft_behavior.specs.Traces.{root_of}
-use Rattle.dft_behavior.proofs.ClockTables.{shown_in as clock_shown_in}
-use Rattle.dft_behavior.proofs.RootTables.{shown_in}
+use Rattle.dft_behavior.proofs.RootTables.{root_in_is, clock_in_is}
 use Rattle.dft_rules.specs.Findings.{AreUsed}
 use Rattle.dft_rules.proofs.JudgeLemmas.{same_pin, same_then}
 use Rattle.dft_configure.specs.Found.{AreClean, hold_at, marked_only, number, numbers_of, port_at, shown_hold}
-use Rattle.dft_configure.specs.Roots.{clean_clock, clean_only, hold_root, is_clean, is_port, is_tapped, open_clock, open_clocks, port_of_clock, port_shown, root_of_either}
+use Rattle.dft_configure.specs.Roots.{clean_clock, clean_only, hold_root, is_clean, is_port, is_tapped, open_clock, open_clocks, port_of_clock, port_shown}
 
 -- ---- clean nets
 
@@ -39,11 +38,11 @@ neither true false t = refl
 neither false l t = refl
 
 -- the mark of a port after one net more
-pub clean_more : (n : Netlist) (clocks : List (Option ClockRoot)) (used : List Bool) (net port : ℕ) (clock : Option ClockRoot) (mark before after : Bool) → AreClocks n clocks → AreUsed n.library n.instances (length n.nets) used →
-    net < length n.nets → clock ≡ slice_index_or clocks net None → mark ≡ slice_index_or used net false → before ≡ (nat_lt port (length n.nets) && not (list_any (is_tapped n port) (range_with_len 0 net))) →
+pub clean_more : (n : Netlist) (roots : List declared.NetRoot) (used : List Bool) (net port : ℕ) (clock : Option ClockRoot) (mark before after : Bool) → AreRoots n roots → AreUsed n.library n.instances (length n.nets) used →
+    net < length n.nets → clock ≡ clock_in roots (signal.Net (record { 0 = net })) → mark ≡ slice_index_or used net false → before ≡ (nat_lt port (length n.nets) && not (list_any (is_tapped n port) (range_with_len 0 net))) →
     after ≡ (before && not (is_port port (port_of_clock (shown_clock clock)) && mark)) → after ≡ (nat_lt port (length n.nets) && not (list_any (is_tapped n port) (range_with_len 0 (net + 1))))
-clean_more n clocks used net port clock mark before after shows marks less at marked rest step =
-    let root = ap shown_clock at ∙ shows.each (Net net) in
+clean_more n roots used net port clock mark before after shows marks less at marked rest step =
+    let root = ap shown_clock at ∙ clock_in_is n roots shows 0 0 (signal.Net (record { 0 = net })) in
     let tapped : (is_port port (port_of_clock (shown_clock clock)) && mark) ≡ is_tapped n port net = (λ i. is_port port (port_of_clock (root i)) && (marked ∙ marks.each net less) i) in
     step ∙ (λ i. rest i && not (tapped i)) ∙ neither (nat_lt port (length n.nets)) (list_any (is_tapped n port) (range_with_len 0 net)) (is_tapped n port net)
     ∙ ap (λ (b : Bool). nat_lt port (length n.nets) && not b) (sym (any_last (is_tapped n port) net))
@@ -58,42 +57,34 @@ clean_all n marks net size all each = record {
 
 -- ---- clocks
 
-port_is : (n : Netlist) (clocks : List (Option ClockRoot)) → AreClocks n clocks → (i : ℕ) (pins : List Connection) → port_at clocks (signal_of Clock pins) ≡ option_and_then (port_shown n) (pin_of Clock i pins)
-port_is n clocks shows i pins =
-    same_then (λ s. port_of_clock (shown_clock (clock_in clocks s))) (port_shown n) (signal_of Clock pins) (pin_of Clock i pins)
-    (same_pin (λ s. port_of_clock (shown_clock (clock_in clocks s))) (port_shown n) (λ j p s. ap port_of_clock (sym (clock_shown_in clocks j p s) ∙ shows.each (source_of j p s))) Clock i pins)
+port_is : (n : Netlist) (roots : List declared.NetRoot) → AreRoots n roots → (i : ℕ) (pins : List Connection) → port_at roots (signal_of Clock pins) ≡ option_and_then (port_shown n) (pin_of Clock i pins)
+port_is n roots shows i pins =
+    same_then (λ s. port_of_clock (shown_clock (clock_in roots s))) (port_shown n) (signal_of Clock pins) (pin_of Clock i pins)
+    (same_pin (λ s. port_of_clock (shown_clock (clock_in roots s))) (port_shown n) (λ j p s. ap port_of_clock (clock_in_is n roots shows j p s)) Clock i pins)
 
 marked_is : (n : Netlist) (marks : List Bool) → AreClean n marks → (port : Option ℕ) → marked_only marks port ≡ clean_only n port
 marked_is n marks clean None = refl
 marked_is n marks clean (Some port) = ap (λ (b : Bool). cond b (Some port) None) (clean.each port)
 
-pub clean_clock_is : (n : Netlist) (clocks : List (Option ClockRoot)) (marks : List Bool) (i : ℕ) (x : Instance) → slice_get n.instances i ≡ Some x → AreClocks n clocks → AreClean n marks →
-    marked_only marks (port_at clocks (signal_of Clock (connections_of n.library x))) ≡ clean_clock n i
-clean_clock_is n clocks marks i x at shows clean =
+pub clean_clock_is : (n : Netlist) (roots : List declared.NetRoot) (marks : List Bool) (i : ℕ) (x : Instance) → slice_get n.instances i ≡ Some x → AreRoots n roots → AreClean n marks →
+    marked_only marks (port_at roots (signal_of Clock (connections_of n.library x))) ≡ clean_clock n i
+clean_clock_is n roots marks i x at shows clean =
     let pins = connections_of n.library x in
-    rw at (ap (marked_only marks) (port_is n clocks shows i pins) ∙ marked_is n marks clean (option_and_then (port_shown n) (pin_of Clock i pins)))
+    rw at (ap (marked_only marks) (port_is n roots shows i pins) ∙ marked_is n marks clean (option_and_then (port_shown n) (pin_of Clock i pins)))
 
 -- ---- resets and sets
 
-hold_by : (n : Netlist) (roots : List declared.Root) (reset preset : Option Signal) (resets presets : Option Source) → option_map (λ s. shown_root (root_in roots s)) reset ≡ option_map (root_of n) resets →
-    option_map (λ s. shown_root (root_in roots s)) preset ≡ option_map (root_of n) presets → shown_hold (hold_at roots reset preset) ≡ root_of_either n resets presets
-hold_by n roots None None None None a b = refl
-hold_by n roots None None None (Some y) a b = absurd (let h : ⊥ = cc in h)
-hold_by n roots None (Some x) None None a b = absurd (let h : ⊥ = cc in h)
-hold_by n roots None (Some x) None (Some y) a b = b
-hold_by n roots None preset (Some y) presets a b = absurd (let h : ⊥ = cc in h)
-hold_by n roots (Some x) preset None presets a b = absurd (let h : ⊥ = cc in h)
-hold_by n roots (Some x) preset (Some y) presets a b = a
+hold_shown : (roots : List declared.NetRoot) (pin : Option Signal) → shown_hold (hold_at roots pin) ≡ option_map (λ s. shown_root (root_in roots s)) pin
+hold_shown roots None = refl
+hold_shown roots (Some s) = refl
 
-hold_is : (n : Netlist) (roots : List declared.Root) → AreRoots n roots → (i : ℕ) (pins : List Connection) → shown_hold (hold_at roots (signal_of Reset pins) (signal_of Preset pins)) ≡ root_of_either n (pin_of Reset i pins) (pin_of Preset i pins)
-hold_is n roots found i pins =
-    let same : (j p : ℕ) (s : Signal) → shown_root (root_in roots s) ≡ root_of n (source_of j p s) = λ j p s. (sym (shown_in roots j p s) ∙ found.each (source_of j p s)) in
-    hold_by n roots (signal_of Reset pins) (signal_of Preset pins) (pin_of Reset i pins) (pin_of Preset i pins) (same_pin (λ s. shown_root (root_in roots s)) (root_of n) same Reset i pins)
-    (same_pin (λ s. shown_root (root_in roots s)) (root_of n) same Preset i pins)
+hold_is : (n : Netlist) (roots : List declared.NetRoot) → AreRoots n roots → (hold : Role) (i : ℕ) (pins : List Connection) → shown_hold (hold_at roots (signal_of hold pins)) ≡ option_map (root_of n) (pin_of hold i pins)
+hold_is n roots found hold i pins =
+    hold_shown roots (signal_of hold pins) ∙ same_pin (λ s. shown_root (root_in roots s)) (root_of n) (root_in_is n roots found) hold i pins
 
-pub hold_root_is : (n : Netlist) (roots : List declared.Root) (i : ℕ) (x : Instance) → slice_get n.instances i ≡ Some x → AreRoots n roots →
-    shown_hold (hold_at roots (signal_of Reset (connections_of n.library x)) (signal_of Preset (connections_of n.library x))) ≡ hold_root n i
-hold_root_is n roots i x at found = rw at (hold_is n roots found i (connections_of n.library x))
+pub hold_root_is : (n : Netlist) (roots : List declared.NetRoot) (hold : Role) (i : ℕ) (x : Instance) → slice_get n.instances i ≡ Some x → AreRoots n roots →
+    shown_hold (hold_at roots (signal_of hold (connections_of n.library x))) ≡ hold_root n hold i
+hold_root_is n roots hold i x at found = rw at (hold_is n roots found hold i (connections_of n.library x))
 
 -- ---- tables of instances
 

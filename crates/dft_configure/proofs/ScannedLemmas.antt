@@ -1,10 +1,10 @@
 -- As many flip-flops are counted as are scanned.
-use Rattle.std.proofs.Common.{◌≡◌, ℕ, ◌+◌, ◌==◌, Bool, true, false, cond, ◌&&◌, ◌||◌, List, [], ◌∷◌, length, map, filter, count_by, Option, None, Some, is_some, option_and_then, refl, sym, ◌∙◌, ap, zero-add}
+use Rattle.std.proofs.Common.{◌≡◌, ◌⊎◌, inl, inr, ℕ, zero, suc, ◌+◌, ◌==◌, Bool, true, false, cond, ◌&&◌, ◌||◌, List, [], ◌∷◌, length, map, filter, count_by, Option, None, Some, is_some, option_map, option_and_then, refl, sym, ◌∙◌, ap, zero-add, arith}
 use Rattle.std.specs.Prelude.{nat_lt, if◌then◌else◌}
 use Rattle.std.specs.List.{list_any, position_from, range_with_len}
-use Rattle.std.proofs.lemmas.Bool.{eqb-true}
+use Rattle.std.proofs.lemmas.Bool.{eqb-true, lt-ltb}
 use Rattle.std.proofs.lemmas.Iterator.Adapters.{position_from-zero}
-use Rattle.std.proofs.lemmas.List.Sums.{sum_by-cons}
+use Rattle.std.proofs.lemmas.List.Sums.{sum_by-append, sum_by-cons}
 use Rattle.dft_base.specs.Lexing.{Text}
 use Rattle.dft_base.proofs.BitLemmas.{and_first, with_true}
 use Rattle.dft_base.proofs.SumLemmas.{and_false}
@@ -20,13 +20,13 @@ use Rattle.dft_behavior.specs.Traces.{Root, Port, Constant, Other, root_of}
 use Rattle.dft_behavior.specs.ClockRoots.{ClockRoot, clock_root_of}
 use Rattle.dft_rules.specs.Findings.{AreNets}
 use Rattle.dft_rules.specs.Refusals.{is_scanned}
-use Rattle.dft_rules.specs.Rules.{are_held, are_held_at, clock_of_source, clocked_by, is_held, is_kept, judged, judged_by, may_be_scanned, place_of_clock, place_of_port, scan_cell_of}
+use Rattle.dft_rules.specs.Rules.{are_held_at, clock_of_source, clocked_by, is_held, is_kept, is_pin_held, judged, judged_by, may_be_scanned, place_of_clock, place_of_port, scan_cell_of}
 use Rattle.dft_rules.proofs.JudgeLemmas.{same_place}
 use Rattle.dft_configure.proofs.ChoiceLemmas.{count_same}
 use Rattle.dft_configure.specs.Found.{numbers}
 use Rattle.dft_configure.specs.Most.{HasRoots}
-use Rattle.dft_configure.specs.Roots.{can_hold, clean_clock, clean_only, domains_of, hold_root, is_among, is_clean, is_fit, is_most_used, is_port, most_used, open_clock, open_clocks, port_of_clock, port_of_root, port_shown, resets_of, root_of_either, uses}
-use Rattle.dft_configure.specs.Scanned.{ScannedAreCounted, is_kept_at, is_taken, scanned_count}
+use Rattle.dft_configure.specs.Roots.{can_hold, can_hold_both, clean_clock, clean_only, domains_of, hold_root, is_among, is_clean, is_fit, is_most_used, is_port, most_used, open_clock, open_clocks, open_reset, open_resets, port_of_clock, port_of_root, port_shown, resets_by, resets_of, uses}
+use Rattle.dft_configure.specs.Scanned.{ScannedAreCounted, are_kept_at, is_kept_at, is_taken, scanned_count}
 
 count_cons : {A : Type 0} (p : A → Bool) (x : A) (xs : List A) → count_by p (x ∷ xs) ≡ cond (p x) 1 0 + count_by p xs
 count_cons p x xs = sum_by-cons (λ y. cond (p y) 1 0) x xs
@@ -71,13 +71,32 @@ open_by n p o false port = absurd cc
 
 open_clean : (n : Netlist) (i p : ℕ) → is_port p (open_clock n i) ≡ true → is_clean n p ≡ true
 unfolding open_clock
-open_clean n i p port = open_by n p (option_and_then (port_shown n) (pin_of role.Clock i (pins_of n i))) (is_fit n i && can_hold (hold_root n i)) port
+open_clean n i p port = open_by n p (option_and_then (port_shown n) (pin_of role.Clock i (pins_of n i))) (is_fit n i && can_hold_both n i) port
 
 pub domain_clean : (n : Netlist) (port : ℕ) → is_among (domains_of n) (Some port) ≡ true → is_clean n port ≡ true
 unfolding domains_of
 domain_clean n port among =
     let some = one_counted (open_clock n) (is_port port) (range_with_len 0 (length n.instances)) (used (uses (open_clocks n)) (length n.nets) port among) in
     open_clean n some.0 port some.1
+
+none_left : (a b : ℕ) → nat_lt 0 a ≡ false → nat_lt 0 (a + b) ≡ true → nat_lt 0 b ≡ true
+none_left zero b none some = ap (nat_lt 0) (sym (zero-add b)) ∙ some
+none_left (suc a) b none some = let never : true ≡ false = sym (lt-ltb 0 (suc a) (omega arith)) ∙ none in absurd cc
+
+-- some reset or set is counted
+pub reset_counted : (n : Netlist) (domains : List ℕ) (p : Option ℕ → Bool) → nat_lt 0 (count_by p (open_resets n domains)) ≡ true →
+    (i : ℕ) × ((p (open_reset n domains role.Reset i) ≡ true) ⊎ (p (open_reset n domains role.Preset i) ≡ true))
+unfolding open_resets
+reset_counted n domains p some =
+    by (nat_lt 0 (count_by p (resets_by n domains role.Reset))) refl (ap (nat_lt 0) (sym (sum_by-append (λ y. cond (p y) 1 0) (resets_by n domains role.Reset) (resets_by n domains role.Preset))) ∙ some)
+  where
+    instances : List ℕ
+    instances = range_with_len 0 (length n.instances)
+
+    by : (b : Bool) → nat_lt 0 (count_by p (resets_by n domains role.Reset)) ≡ b → nat_lt 0 (count_by p (resets_by n domains role.Reset) + count_by p (resets_by n domains role.Preset)) ≡ true →
+        (i : ℕ) × ((p (open_reset n domains role.Reset i) ≡ true) ⊎ (p (open_reset n domains role.Preset i) ≡ true))
+    by true is some = let one = one_counted (open_reset n domains role.Reset) p instances is in (one.0, inl one.1)
+    by false is some = let one = one_counted (open_reset n domains role.Preset) p instances (none_left _ _ is some) in (one.0, inr one.1)
 
 -- ---- places of names
 
@@ -120,11 +139,21 @@ root_same n config roots (Port net) = sym (place_same n config.resets roots.rese
 root_same n config roots (Constant bit) = sym (with_true bit)
 root_same n config roots Other = refl
 
-held_same : (n : Netlist) (config : Config) (roots : HasRoots n config) (reset preset : Option Source) →
-    (can_hold (root_of_either n reset preset) && is_kept_at (resets_of n (domains_of n)) (port_of_root (root_of_either n reset preset))) ≡ are_held n config.resets reset preset
-held_same n config roots (Some reset) preset = root_same n config roots (root_of n reset)
-held_same n config roots None (Some preset) = root_same n config roots (root_of n preset)
-held_same n config roots None None = refl
+pin_held_same : (n : Netlist) (config : Config) (roots : HasRoots n config) (pin : Option Source) →
+    (can_hold (option_map (root_of n) pin) && is_kept_at (resets_of n (domains_of n)) (port_of_root (option_map (root_of n) pin))) ≡ is_pin_held n config.resets pin
+pin_held_same n config roots None = refl
+pin_held_same n config roots (Some source) = root_same n config roots (root_of n source)
+
+both_swap : (a b c d : Bool) → ((a && b) && (c && d)) ≡ ((a && c) && (b && d))
+both_swap true true c d = refl
+both_swap true false true d = refl
+both_swap true false false d = refl
+both_swap false b c d = refl
+
+held_same : (n : Netlist) (config : Config) (i : ℕ) (roots : HasRoots n config) → (can_hold_both n i && are_kept_at n (resets_of n (domains_of n)) i) ≡ are_held_at n config i
+held_same n config i roots =
+    both_swap (can_hold (hold_root n role.Reset i)) (can_hold (hold_root n role.Preset i)) (is_kept_at (resets_of n (domains_of n)) (port_of_root (hold_root n role.Reset i))) (is_kept_at (resets_of n (domains_of n)) (port_of_root (hold_root n role.Preset i)))
+    ∙ (λ j. pin_held_same n config roots (pin_of role.Reset i (pins_of n i)) j && pin_held_same n config roots (pin_of role.Preset i (pins_of n i)) j)
 
 -- ---- the judgement
 
@@ -145,8 +174,8 @@ taken_by true true true domains clock kept shown held among holds =
 taken_same : (n : Netlist) (config : Config) (i : ℕ) → HasRoots n config → is_taken n (domains_of n) (resets_of n (domains_of n)) i ≡ is_scanned (judged n config i)
 unfolding open_clock
 taken_same n config i roots =
-    taken_by (may_be_scanned (kind_at n i)) (is_some (scan_cell_of n i)) (can_hold (hold_root n i)) (domains_of n) (clean_clock n i) (is_kept_at (resets_of n (domains_of n)) (port_of_root (hold_root n i)))
-    (clocked_by n config i) (are_held_at n config i) (pin_same n config roots (pin_of role.Clock i (pins_of n i))) (held_same n config roots (pin_of role.Reset i (pins_of n i)) (pin_of role.Preset i (pins_of n i)))
+    taken_by (may_be_scanned (kind_at n i)) (is_some (scan_cell_of n i)) (can_hold_both n i) (domains_of n) (clean_clock n i) (are_kept_at n (resets_of n (domains_of n)) i)
+    (clocked_by n config i) (are_held_at n config i) (pin_same n config roots (pin_of role.Clock i (pins_of n i))) (held_same n config i roots)
     ∙ ap (λ (l : List Text). is_scanned (if may_be_scanned (kind_at n i) then judged_by (clocked_by n config i) (are_held_at n config i) (is_some (scan_cell_of n i)) (is_kept n l i) else None)) (sym roots.keep)
 
 count_mapped : {A B : Type 0} (p : B → Bool) (f : A → B) (xs : List A) → count_by p (map f xs) ≡ count_by (λ x. p (f x)) xs

@@ -2,13 +2,11 @@
 use Rattle.std.specs.Prelude.{ℕ, ◌≡◌, Bool, false, List, length, map, Option, None, Some, option_map, option_and_then, slice_index_or, if◌then◌else◌}
 use Rattle.dft_netlist.specs.declared.ids.NetId.{NetId}
 use Rattle.dft_netlist.specs.declared.instance.Signal.{Signal}
-use Rattle.dft_behavior.specs.declared.clock_roots.ClockRoot.{ClockRoot}
+use Rattle.dft_behavior.specs.declared.root.NetRoot.{NetRoot}
 use Rattle.dft_behavior.specs.declared.root.Root.{Root}
 use Rattle.dft_netlist.specs.Netlist.{Netlist}
-use Rattle.dft_behavior.specs.ClockSteps.{shown_clock}
-use Rattle.dft_behavior.specs.ClockTables.{AreClocks, clock_in}
-use Rattle.dft_behavior.specs.Roots.{shown_root}
-use Rattle.dft_behavior.specs.RootTables.{AreRoots, root_in}
+use Rattle.dft_behavior.specs.Roots.{shown_root, shown_clock}
+use Rattle.dft_behavior.specs.RootTables.{AreRoots, root_in, clock_in}
 use Rattle.dft_behavior.specs.Traces as traces
 use Rattle.dft_configure.specs.declared.opening.Tables.{Tables}
 use Rattle.dft_configure.specs.declared.roots.Roots.{Roots}
@@ -37,24 +35,21 @@ pub record AreClean (n : Netlist) (marks : List Bool) : Type 0 where
 
 -- the tables hold what they should
 pub record AreTables (n : Netlist) (tables : Tables) : Type 0 where
-  pub clocks : AreClocks n tables.clocks.items
   pub roots : AreRoots n tables.roots.items
   pub clean : AreClean n tables.clean.items
 
--- the port whose clock a pin shows, where these are the clocks of the nets
-abbrev pub port_at : List (Option ClockRoot) → Option Signal → Option ℕ
-port_at clocks pin = option_and_then (λ s. port_of_clock (shown_clock (clock_in clocks s))) pin
+-- the port whose clock a pin shows, where these are the roots of the nets
+abbrev pub port_at : List NetRoot → Option Signal → Option ℕ
+port_at roots pin = option_and_then (λ s. port_of_clock (shown_clock (clock_in roots s))) pin
 
 -- a port, where it is marked
 abbrev pub marked_only : List Bool → Option ℕ → Option ℕ
 marked_only marks None = None
 marked_only marks (Some port) = if slice_index_or marks port false then Some port else None
 
--- the root of the reset, or of the set, if there is one, where these are the roots of the nets
-abbrev pub hold_at : List Root → (reset preset : Option Signal) → Option Root
-hold_at roots (Some reset) preset = Some (root_in roots reset)
-hold_at roots None (Some preset) = Some (root_in roots preset)
-hold_at roots None None = None
+-- the root of a pin, if there is one, where these are the roots of the nets
+abbrev pub hold_at : List NetRoot → (pin : Option Signal) → Option Root
+hold_at roots pin = option_map (root_in roots) pin
 
 abbrev pub shown_hold : Option Root → Option traces.Root
 shown_hold root = option_map shown_root root

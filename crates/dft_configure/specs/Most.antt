@@ -1,5 +1,6 @@
 -- Most flip-flops are scanned under a made configuration.
 use Rattle.std.specs.Prelude.{ℕ, ◌≡◌, true, List, [], None, Some}
+use Rattle.dft_cells.specs.declared.kind.Role.TheVariants as role
 use Rattle.dft_config.specs.Config.{Config}
 use Rattle.dft_netlist.specs.declared.ids.NetId.{NetId}
 use Rattle.dft_netlist.specs.Netlist.{Netlist}
@@ -10,10 +11,11 @@ use Rattle.dft_rules.specs.Rules.{judged}
 use Rattle.dft_configure.specs.Found.{numbers}
 use Rattle.dft_configure.specs.Roots.{domains_of, is_among, open_clock, open_reset, resets_of}
 
--- no clock and no reset of an open flip-flop is left out for want of room
+-- no clock, no reset and no set of an open flip-flop is left out for want of room
 pub record CutsNone (n : Netlist) : Type 0 where
   pub domains : (i port : ℕ) → open_clock n i ≡ Some port → is_among (domains_of n) (Some port) ≡ true
-  pub resets : (i port : ℕ) → open_reset n (domains_of n) i ≡ Some port → is_among (resets_of n (domains_of n)) (Some port) ≡ true
+  pub resets : (i port : ℕ) → open_reset n (domains_of n) role.Reset i ≡ Some port → is_among (resets_of n (domains_of n)) (Some port) ≡ true
+  pub sets : (i port : ℕ) → open_reset n (domains_of n) role.Preset i ≡ Some port → is_among (resets_of n (domains_of n)) (Some port) ≡ true
 
 -- the domains and the resets of a configuration are those that are made for the netlist, and it keeps no flip-flop back
 pub record HasRoots (n : Netlist) (config : Config) : Type 0 where

@@ -1,6 +1,7 @@
 -- Which ports of a netlist are the scan clocks and the resets of its made configuration. All is said of the netlist alone.
-use Rattle.std.specs.Prelude.{ℕ, ◌==◌, Bool, true, false, not, ◌&&◌, ◌||◌, List, map, length, filter, count_by, nat_lt, Option, None, Some, is_some, option_map, option_and_then, if◌then◌else◌}
+use Rattle.std.specs.Prelude.{ℕ, ◌==◌, Bool, true, false, not, ◌&&◌, ◌||◌, List, ◌++◌, map, length, filter, count_by, nat_lt, Option, None, Some, is_some, option_map, option_and_then, if◌then◌else◌}
 use Rattle.std.specs.List.{list_any, range_with_len}
+use Rattle.dft_cells.specs.declared.kind.Role.{Role}
 use Rattle.dft_cells.specs.declared.kind.Role.TheVariants as role
 use Rattle.dft_netlist.specs.Netlist.{Netlist}
 use Rattle.dft_netlist.specs.Drivers.{Source, Net, pins_of, kind_at}
@@ -45,14 +46,9 @@ clean_only n (Some port) = if is_clean n port then Some port else None
 abbrev pub clean_clock : Netlist → (instance : ℕ) → Option ℕ
 clean_clock n i = clean_only n (option_and_then (port_shown n) (pin_of role.Clock i (pins_of n i)))
 
--- the root of the reset, or of the set, if there is one
-abbrev pub root_of_either : Netlist → (reset preset : Option Source) → Option Root
-root_of_either n (Some reset) preset = Some (root_of n reset)
-root_of_either n None (Some preset) = Some (root_of n preset)
-root_of_either n None None = None
-
-abbrev pub hold_root : Netlist → (instance : ℕ) → Option Root
-hold_root n i = root_of_either n (pin_of role.Reset i (pins_of n i)) (pin_of role.Preset i (pins_of n i))
+-- the root of the reset of an instance or of its set, if it has one
+abbrev pub hold_root : Netlist → (hold : Role) → (instance : ℕ) → Option Root
+hold_root n hold i = option_map (root_of n) (pin_of hold i (pins_of n i))
 
 -- whether a set or reset with this root can be kept at 1: at an input port, or at constant 1
 abbrev pub can_hold : Option Root → Bool
@@ -61,6 +57,10 @@ can_hold (Some (Port net)) = true
 can_hold (Some (Constant bit)) = bit
 can_hold (Some Other) = false
 
+-- whether the reset of an instance and its set can, as far as it has them
+abbrev pub can_hold_both : Netlist → (instance : ℕ) → Bool
+can_hold_both n i = can_hold (hold_root n role.Reset i) && can_hold (hold_root n role.Preset i)
+
 -- the port at which it is kept
 abbrev pub port_of_root : Option Root → Option ℕ
 port_of_root None = None
@@ -68,10 +68,10 @@ port_of_root (Some (Port net)) = Some net
 port_of_root (Some (Constant bit)) = None
 port_of_root (Some Other) = None
 
--- A flip-flop is open where it is fit, its clock is a clean port's, and its set or reset, if it has one, can be kept at 1. This is its
--- clock then.
+-- A flip-flop is open where it is fit, its clock is a clean port's, and its reset and its set, as far as it has them, can be kept at
+-- 1. This is its clock then.
 unfoldable pub open_clock : Netlist → (instance : ℕ) → Option ℕ
-open_clock n i = if is_fit n i && can_hold (hold_root n i) then clean_clock n i else None
+open_clock n i = if is_fit n i && can_hold_both n i then clean_clock n i else None
 
 -- the clocks of all instances
 abbrev pub open_clocks : Netlist → List (Option ℕ)
@@ -110,12 +110,16 @@ abbrev pub is_among : (ports : List ℕ) → Option ℕ → Bool
 is_among ports None = false
 is_among ports (Some port) = list_any (λ other. other == port) ports
 
--- the reset port of an open flip-flop whose clock is among these
-abbrev pub open_reset : Netlist → (domains : List ℕ) → (instance : ℕ) → Option ℕ
-open_reset n domains i = if is_among domains (open_clock n i) then port_of_root (hold_root n i) else None
+-- the port of the reset, or of the set, of an open flip-flop whose clock is among these
+abbrev pub open_reset : Netlist → (domains : List ℕ) → (hold : Role) → (instance : ℕ) → Option ℕ
+open_reset n domains hold i = if is_among domains (open_clock n i) then port_of_root (hold_root n hold i) else None
 
-abbrev pub open_resets : Netlist → (domains : List ℕ) → List (Option ℕ)
-open_resets n domains = map (open_reset n domains) (range_with_len 0 (length n.instances))
+abbrev pub resets_by : Netlist → (domains : List ℕ) → (hold : Role) → List (Option ℕ)
+resets_by n domains hold = map (open_reset n domains hold) (range_with_len 0 (length n.instances))
+
+-- those of all resets, then those of all sets
+unfoldable pub open_resets : Netlist → (domains : List ℕ) → List (Option ℕ)
+open_resets n domains = resets_by n domains role.Reset ++ resets_by n domains role.Preset
 
 -- the resets: the most used ones of the open flip-flops in these domains
 unfoldable pub resets_of : Netlist → (domains : List ℕ) → List ℕ

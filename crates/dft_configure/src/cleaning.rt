@@ -1,12 +1,12 @@
 //! Which nets are clean: no instance takes their clocks as data.
 
 ghost use Rattle.std.specs.Prelude.{ℕ, ◌≡◌, ◌<◌, ◌&&◌, not, false, IfOk, length, slice_index_or};
-ghost use Rattle.dft_behavior.specs.ClockSteps.{shown_clock};
-ghost use Rattle.dft_behavior.specs.ClockTables.{AreClocks};
+ghost use Rattle.dft_behavior.specs.Roots.{shown_clock};
+ghost use Rattle.dft_behavior.specs.RootTables.{AreRoots};
 ghost use Rattle.dft_configure.specs.Roots.{is_port, port_of_clock};
 ghost use Rattle.dft_configure.specs.Found.{AreClean};
 
-use dft_behavior::ClockRoot;
+use dft_behavior::{ClockRoot, NetRoot};
 use dft_netlist::Design;
 use dft_rules::data_nets;
 use std::alloc::{AllocError, Global};
@@ -24,19 +24,19 @@ fn clear(marks: &mut [bool], used: bool, clock: Option<ClockRoot>)
     }
 }
 
-// Marks the clean nets of a design whose nets show these clocks.
+// Marks the clean nets of a design whose nets have these roots.
 pub(crate) fn clean_nets(
     alloc: Global,
     design: &Design,
-    clocks: &[Option<ClockRoot>],
+    roots: &[NetRoot],
 ) -> Result<Vec<bool>, AllocError>
-    requires { AreClocks design.now clocks.now }
+    requires { AreRoots design.now roots.now }
     ensures { IfOk result (λ marks. AreClean design.now marks.items) }
 {
     let used = data_nets(alloc, design)?;
     let mut marks = vec![in alloc; true; used.len()]?;
     for net in 0..used.len() {
-        clear(&mut marks, used[net], clocks[net]);
+        clear(&mut marks, used[net], roots[net].clock());
     }
     Ok(marks)
 }

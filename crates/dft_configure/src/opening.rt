@@ -1,6 +1,6 @@
 //! The clocks and the resets of open flip-flops.
 
-ghost use Rattle.std.specs.Prelude.{ℕ, ◌≡◌, ◌<◌, ◌&&◌, IfOk, Some, length, is_some};
+ghost use Rattle.std.specs.Prelude.{ℕ, ◌≡◌, ◌<◌, ◌&&◌, ◌++◌, IfOk, Some, length, is_some};
 ghost use Rattle.dft_netlist.specs.Drivers.{shape_of};
 ghost use Rattle.dft_rules.specs.Rules as rules;
 ghost use Rattle.dft_configure.specs.Roots as spec;
@@ -8,7 +8,7 @@ ghost use Rattle.dft_configure.specs.Found as at;
 ghost use Rattle.dft_configure.specs.Found.{AreTables, number, numbers, numbers_of, shown_hold};
 
 use crate::cleaning::clean_nets;
-use dft_behavior::{ClockRoot, Root, clock_in, find_clocks, find_roots, root_in};
+use dft_behavior::{NetRoot, Root, clock_in, find_roots, root_in};
 use dft_cells::{Cell, Role};
 use dft_netlist::{CellRef, Design, Instance, NetId, Signal, kind_of, signal_of};
 use dft_rules::{has_scan_cell, may_be_scanned};
@@ -17,10 +17,8 @@ use std::alloc::{AllocError, Global};
 // What is found of each net, by its number.
 #[derive(Debug)]
 pub(crate) struct Tables {
-    // The clock that it shows.
-    pub(crate) clocks: Vec<Option<ClockRoot>>,
     // Its root.
-    pub(crate) roots: Vec<Root>,
+    pub(crate) roots: Vec<NetRoot>,
     // Whether no instance takes its clock as data.
     pub(crate) clean: Vec<bool>,
 }
@@ -28,11 +26,7 @@ pub(crate) struct Tables {
 // One call for all fields, so that the proof of what owns a value stays short.
 impl Drop for Tables {
     fn drop(self) {
-        let Tables {
-            clocks: _,
-            roots: _,
-            clean: _,
-        } = self;
+        let Tables { roots: _, clean: _ } = self;
     }
 }
 
@@ -41,13 +35,9 @@ impl Tables {
     pub(crate) fn of(alloc: Global, design: &Design) -> Result<Tables, AllocError>
         ensures { IfOk result (AreTables design.now) }
     {
-        let clocks = find_clocks(alloc, design)?;
-        let clean = clean_nets(alloc, design, &clocks)?;
-        Ok(Tables {
-            clocks,
-            roots: find_roots(alloc, design)?,
-            clean,
-        })
+        let roots = find_roots(alloc, design)?;
+        let clean = clean_nets(alloc, design, &roots)?;
+        Ok(Tables { roots, clean })
     }
 }
 
@@ -59,11 +49,11 @@ fn is_fit(cells: &[Cell], cell: CellRef) -> bool
 }
 
 // The port whose clock a pin shows.
-fn port_at(clocks: &[Option<ClockRoot>], pin: Option<Signal>) -> Option<NetId>
-    ensures { number result ≡ at.port_at clocks.now pin }
+fn port_at(roots: &[NetRoot], pin: Option<Signal>) -> Option<NetId>
+    ensures { number result ≡ at.port_at roots.now pin }
 {
     match pin {
-        Some(signal) => match clock_in(clocks, signal) {
+        Some(signal) => match clock_in(roots, signal) {
             Some(clock) => Some(clock.port),
             None => None,
         },
@@ -84,16 +74,13 @@ fn marked_only(marks: &[bool], port: Option<NetId>) -> Option<NetId>
     }
 }
 
-// The root of the reset, or of the set, if there is one.
-fn hold_at(roots: &[Root], reset: Option<Signal>, preset: Option<Signal>) -> Option<Root>
-    ensures { result ≡ at.hold_at roots.now reset preset }
+// The root of a pin, if there is one.
+fn hold_at(roots: &[NetRoot], pin: Option<Signal>) -> Option<Root>
+    ensures { result ≡ at.hold_at roots.now pin }
 {
-    match reset {
+    match pin {
         Some(signal) => Some(root_in(roots, signal)),
-        None => match preset {
-            Some(signal) => Some(root_in(roots, signal)),
-            None => None,
-        },
+        None => None,
     }
 }
 
@@ -109,7 +96,7 @@ fn can_hold(root: Option<Root>) -> bool
 }
 
 // The port at which it is kept.
-pub(crate) fn port_of_root(root: Option<Root>) -> Option<NetId>
+fn port_of_root(root: Option<Root>) -> Option<NetId>
     ensures { number result ≡ spec.port_of_root (shown_hold root) }
 {
     match root {
@@ -118,17 +105,39 @@ pub(crate) fn port_of_root(root: Option<Root>) -> Option<NetId>
     }
 }
 
-// The root of the reset of an instance, or of its set, if it has one.
-pub(crate) fn hold_root(design: &Design, tables: &Tables, number: usize) -> Option<Root>
+// The root of the reset of an instance or of its set, if it has one.
+fn hold_root(design: &Design, tables: &Tables, hold: Role, number: usize) -> Option<Root>
     requires number { number < length design.now.instances }
     requires tables { AreTables design.now tables.now }
-    ensures { shown_hold result ≡ spec.hold_root design.now number }
+    ensures { shown_hold result ≡ spec.hold_root design.now hold number }
 {
     let cells = design.library().cells();
     let instance = &design.instances()[number];
-    let reset = signal_of(cells, instance, Role::Reset);
-    let preset = signal_of(cells, instance, Role::Preset);
-    hold_at(&tables.roots, reset, preset)
+    hold_at(&tables.roots, signal_of(cells, instance, hold))
+}
+
+// Whether the reset of an instance and its set can be kept at 1, as far as it has them.
+fn can_hold_both(design: &Design, tables: &Tables, number: usize) -> bool
+    requires number { number < length design.now.instances }
+    requires tables { AreTables design.now tables.now }
+    ensures { result ≡ spec.can_hold_both design.now number }
+{
+    can_hold(hold_root(design, tables, Role::Reset, number))
+        && can_hold(hold_root(design, tables, Role::Preset, number))
+}
+
+// The port at which the reset of an instance is kept, or its set.
+pub(crate) fn hold_port(
+    design: &Design,
+    tables: &Tables,
+    hold: Role,
+    number: usize,
+) -> Option<NetId>
+    requires number { number < length design.now.instances }
+    requires tables { AreTables design.now tables.now }
+    ensures { at.number result ≡ spec.port_of_root (spec.hold_root design.now hold number) }
+{
+    port_of_root(hold_root(design, tables, hold, number))
 }
 
 // The clock of an instance, if it is a clean port's.
@@ -140,7 +149,7 @@ fn clean_clock(design: &Design, tables: &Tables, number: usize) -> Option<NetId>
     let cells = design.library().cells();
     let instance = &design.instances()[number];
     let pin = signal_of(cells, instance, Role::Clock);
-    marked_only(&tables.clean, port_at(&tables.clocks, pin))
+    marked_only(&tables.clean, port_at(&tables.roots, pin))
 }
 
 // The clock of an instance, if it is an open flip-flop.
@@ -154,7 +163,7 @@ pub(crate) fn open_clock(design: &Design, tables: &Tables, number: usize) -> Opt
     if !is_fit(design.library().cells(), instance.cell) {
         return None;
     }
-    if !can_hold(hold_root(design, tables, number)) {
+    if !can_hold_both(design, tables, number) {
         return None;
     }
     clean_clock(design, tables, number)
@@ -198,27 +207,49 @@ fn has_net(ports: &[NetId], net: NetId) -> bool
     false
 }
 
-// The reset port of an instance with this clock, where the clock is among these.
+// The port of the reset, or of the set, of an instance with this clock, where the clock is among these.
 fn open_reset(
     design: &Design,
     tables: &Tables,
     domains: &[NetId],
     clock: Option<NetId>,
+    hold: Role,
     number: usize,
 ) -> Option<NetId>
     requires number { number < length design.now.instances }
     requires tables { AreTables design.now tables.now }
     requires clock { at.number clock ≡ spec.open_clock design.now number }
-    ensures { at.number result ≡ spec.open_reset design.now (numbers domains.now) number }
+    ensures { at.number result ≡ spec.open_reset design.now (numbers domains.now) hold number }
 {
     if is_among(domains, clock) {
-        port_of_root(hold_root(design, tables, number))
+        hold_port(design, tables, hold, number)
     } else {
         None
     }
 }
 
-// The reset ports of all open flip-flops whose clocks are among these.
+// Those of all instances, behind others.
+fn add_resets(
+    design: &Design,
+    tables: &Tables,
+    domains: &[NetId],
+    clocks: &[Option<NetId>],
+    hold: Role,
+    resets: &mut Vec<Option<NetId>>,
+) -> Result<(), AllocError>
+    requires tables { AreTables design.now tables.now }
+    requires clocks { numbers_of clocks.now ≡ spec.open_clocks design.now }
+    ensures { IfOk result (λ _. numbers_of resets.new.items ≡ numbers_of resets.old.items ++ spec.resets_by design.now (numbers domains.now) hold) }
+{
+    let count = design.instances().len();
+    for number in 0..count {
+        resets.push(open_reset(design, tables, domains, clocks[number], hold, number))?;
+    }
+    Ok(())
+}
+
+// The ports of the resets and sets of all open flip-flops whose clocks are among these.
+#[tactic(auto, unfolding(crate::specs::Roots::open_resets))]
 pub(crate) fn open_resets(
     alloc: Global,
     design: &Design,
@@ -230,10 +261,8 @@ pub(crate) fn open_resets(
     requires clocks { numbers_of clocks.now ≡ spec.open_clocks design.now }
     ensures { IfOk result (λ resets. numbers_of resets.items ≡ spec.open_resets design.now (numbers domains.now)) }
 {
-    let count = design.instances().len();
-    let mut resets = Vec::with_capacity(alloc, count)?;
-    for number in 0..count {
-        resets.push(open_reset(design, tables, domains, clocks[number], number))?;
-    }
+    let mut resets = Vec::new(alloc);
+    add_resets(design, tables, domains, clocks, Role::Reset, &mut resets)?;
+    add_resets(design, tables, domains, clocks, Role::Preset, &mut resets)?;
     Ok(resets)
 }

@@ -18,7 +18,7 @@ pub struct Roots {
 }
 
 /// The scan clocks and the resets of a netlist. A flip-flop is open where it has a scan cell, its clock shows an input port's bit or its
-/// inverse that no instance takes as data, and its set or reset traces to an input port or to constant 1. The clocks are those of open
+/// inverse that no instance takes as data, and its reset and its set trace to input ports or to constant 1. The clocks are those of open
 /// flip-flops, and the resets those of open flip-flops with these clocks; of more than 16, the most used ones, and of two that are used
 /// as much the one that comes first.
 #[tactic(auto, unfolding(crate::specs::Roots::domains_of, crate::specs::Roots::resets_of))]

@@ -4,8 +4,9 @@ ghost use Rattle.std.specs.Prelude.{◌≡◌, ◌<◌, ◌≤◌, IfOk, if◌th
 ghost use Rattle.dft_configure.specs.Found.{AreChosen, AreTables, number, numbers};
 ghost use Rattle.dft_configure.specs.Scanned as spec;
 
-use crate::opening::{Tables, hold_root, is_among, open_clock, port_of_root};
+use crate::opening::{Tables, hold_port, is_among, open_clock};
 use crate::roots::Roots;
+use dft_cells::Role;
 use dft_netlist::{Design, NetId};
 use std::alloc::{AllocError, Global};
 
@@ -14,6 +15,16 @@ fn is_kept_at(resets: &[NetId], port: Option<NetId>) -> bool
     ensures { result ≡ spec.is_kept_at (numbers resets.now) (number port) }
 {
     port.is_none() || is_among(resets, port)
+}
+
+// Whether the reset of an instance and its set are kept at these, as far as it has them.
+fn are_kept_at(design: &Design, tables: &Tables, resets: &[NetId], instance: usize) -> bool
+    requires instance { instance < length design.now.instances }
+    requires tables { AreTables design.now tables.now }
+    ensures { result ≡ spec.are_kept_at design.now (numbers resets.now) instance }
+{
+    is_kept_at(resets, hold_port(design, tables, Role::Reset, instance))
+        && is_kept_at(resets, hold_port(design, tables, Role::Preset, instance))
 }
 
 // Whether an instance is scanned with these clocks and resets.
@@ -28,9 +39,8 @@ fn is_taken(
     requires tables { AreTables design.now tables.now }
     ensures { result ≡ spec.is_taken design.now (numbers domains.now) (numbers resets.now) instance }
 {
-    let clock = open_clock(design, tables, instance);
-    let reset = port_of_root(hold_root(design, tables, instance));
-    is_among(domains, clock) && is_kept_at(resets, reset)
+    is_among(domains, open_clock(design, tables, instance))
+        && are_kept_at(design, tables, resets, instance)
 }
 
 // 1 where it holds, else 0.

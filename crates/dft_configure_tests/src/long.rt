@@ -98,7 +98,7 @@ fn told(alloc: Global, design: &Design, wanted: &Wanted) -> Result<String, Alloc
 fn design_of(alloc: Global, bytes: &[u8]) -> Result<Design, Fail>
     requires { length bytes.now ≤ 67108864 }
 {
-    Ok(dft_verilog::read(alloc, bytes, Library::standard(alloc)?)?)
+    Ok(dft_netlist_reader::read(alloc, bytes, Library::standard(alloc)?)?)
 }
 
 // One chain on one channel.

@@ -1,5 +1,5 @@
 -- No reset of a netlist is one of its clocks: some flip-flop takes it as data.
-use Rattle.std.proofs.Common.{◌≡◌, ℕ, ◌<◌, ◌==◌, Bool, true, false, not, ◌&&◌, ◌||◌, List, [], ◌∷◌, length, Option, None, Some, slice_get, refl, sym, ◌∙◌, ap}
+use Rattle.std.proofs.Common.{◌≡◌, ◌⊎◌, inl, inr, ℕ, ◌<◌, ◌==◌, Bool, true, false, not, ◌&&◌, ◌||◌, List, [], ◌∷◌, length, Option, None, Some, option_map, slice_get, refl, sym, ◌∙◌, ap}
 use Rattle.std.specs.Prelude.{nat_lt, if◌then◌else◌}
 use Rattle.std.specs.List.{All, AllByRecursion, list_any, range_with_len}
 use Rattle.std.specs.Str.{bytes_eq}
@@ -18,15 +18,16 @@ use Rattle.dft_netlist.specs.Drivers.{Connection, Loose, Net, Source, Tied, conn
 use Rattle.dft_behavior.specs.ClockRoots.{ClockRoot}
 use Rattle.dft_netlist.specs.Connections.{pin_of, same_role}
 use Rattle.dft_netlist.specs.Sound.{IsNetlist}
-use Rattle.dft_behavior.specs.Traces.{Root, Port, Constant, Other, root_of, root_of_driver, root_within}
+use Rattle.dft_behavior.specs.NetRoots.{root_of_driver, root_within}
+use Rattle.dft_behavior.specs.Traces.{Root, Port, Constant, Other, straight_root, root_of}
 use Rattle.dft_behavior.proofs.ClockWalks.{traced_clock}
 use Rattle.dft_netlist.proofs.GateDrivers.{driven_live}
 use Rattle.dft_rules.specs.Refusals.{is_data_of, takes, takes_data, uses_data}
 use Rattle.dft_rules.specs.Rules.{may_be_scanned}
 use Rattle.dft_rules.proofs.ReadingLemmas.{joined_net}
-use Rattle.dft_configure.specs.Roots.{can_hold, clean_clock, domains_of, hold_root, is_among, is_clean, is_fit, is_port, is_tapped, open_clock, open_reset, open_resets, port_of_clock, port_of_root, port_shown, resets_of, root_of_either, uses}
+use Rattle.dft_configure.specs.Roots.{can_hold_both, clean_clock, domains_of, hold_root, is_among, is_clean, is_fit, is_port, is_tapped, open_clock, open_reset, open_resets, port_of_clock, port_of_root, port_shown, resets_of, uses}
 use Rattle.dft_configure.proofs.GoodLemmas.{some_passes}
-use Rattle.dft_configure.proofs.ScannedLemmas.{domain_clean, one_counted, used}
+use Rattle.dft_configure.proofs.ScannedLemmas.{domain_clean, reset_counted, used}
 use Rattle.dft_configuring.specs.Rooted.{clock_names, names_of_nets, reset_names}
 use Rattle.dft_configuring.proofs.RootsRange.{among_first, among_later, domains_live, none_has, resets_live}
 
@@ -84,7 +85,7 @@ no_port : (net : ℕ) (r : Root) → r ≡ Other → r ≡ Port net → ⊥
 no_port net r other port = absurd cc
 
 port_live : (n : Netlist) (net port : ℕ) → IsNetlist n → root_of n (Net net) ≡ Port port → net < length n.nets
-port_live n net port sound is = driven_live n net sound (λ free. no_port port (root_of n (Net net)) (ap (root_of_driver (root_within n (length n.nets)) net) free) is)
+port_live n net port sound is = driven_live n net sound (λ free. no_port port (root_of n (Net net)) (ap (λ d. straight_root (root_of_driver (root_within n (length n.nets)) net d)) free) is)
 
 -- ---- so a reset is not clean
 
@@ -111,11 +112,10 @@ port_root port (Port net) at = ap Port (eqb-true net port at)
 port_root port (Constant bit) at = absurd cc
 port_root port Other at = absurd cc
 
-held_unclean : (n : Netlist) (i port : ℕ) (reset preset : Option Source) → IsNetlist n → may_be_scanned (kind_at n i) ≡ true → pin_of role.Reset i (pins_of n i) ≡ reset → pin_of role.Preset i (pins_of n i) ≡ preset →
-    is_port port (port_of_root (root_of_either n reset preset)) ≡ true → is_clean n port ≡ false
-held_unclean n i port (Some source) preset sound may is_reset is_preset at = tapped n role.Reset reset_data i port source (slice_get n.instances i) sound refl may is_reset (port_root port (root_of n source) at)
-held_unclean n i port None (Some source) sound may is_reset is_preset at = tapped n role.Preset preset_data i port source (slice_get n.instances i) sound refl may is_preset (port_root port (root_of n source) at)
-held_unclean n i port None None sound may is_reset is_preset at = absurd cc
+held_unclean : (n : Netlist) (r : Role) (taken : (other : Role) → same_role r other ≡ true → takes_data other ≡ true) (i port : ℕ) (pin : Option Source) → IsNetlist n → may_be_scanned (kind_at n i) ≡ true → pin_of r i (pins_of n i) ≡ pin →
+    is_port port (port_of_root (option_map (root_of n) pin)) ≡ true → is_clean n port ≡ false
+held_unclean n r taken i port (Some source) sound may is at = tapped n r taken i port source (slice_get n.instances i) sound refl may is (port_root port (root_of n source) at)
+held_unclean n r taken i port None sound may is at = absurd cc
 
 then_port : (port : ℕ) (o : Option ℕ) (b : Bool) → is_port port (if b then o else None) ≡ true → (b ≡ true) × (is_port port o ≡ true)
 then_port port o true at = (refl, at)
@@ -127,15 +127,18 @@ then_among domains o false at = absurd cc
 
 open_judged : (n : Netlist) (domains : List ℕ) (i : ℕ) → is_among domains (open_clock n i) ≡ true → may_be_scanned (kind_at n i) ≡ true
 unfolding open_clock
-open_judged n domains i among = and_first _ _ (and_first _ _ (then_among domains (clean_clock n i) (is_fit n i && can_hold (hold_root n i)) among))
+open_judged n domains i among = and_first _ _ (and_first _ _ (then_among domains (clean_clock n i) (is_fit n i && can_hold_both n i) among))
+
+by_hold : (n : Netlist) (r : Role) (taken : (other : Role) → same_role r other ≡ true → takes_data other ≡ true) (i port : ℕ) → IsNetlist n → is_port port (open_reset n (domains_of n) r i) ≡ true → is_clean n port ≡ false
+by_hold n r taken i port sound is =
+    let at = then_port port (port_of_root (hold_root n r i)) (is_among (domains_of n) (open_clock n i)) is in
+    held_unclean n r taken i port (pin_of r i (pins_of n i)) sound (open_judged n (domains_of n) i at.0) refl at.1
 
 reset_unclean : (n : Netlist) (port : ℕ) → IsNetlist n → is_among (resets_of n (domains_of n)) (Some port) ≡ true → is_clean n port ≡ false
 unfolding resets_of
 reset_unclean n port sound among =
-    let some = one_counted (open_reset n (domains_of n)) (is_port port) (range_with_len 0 (length n.instances)) (used (uses (open_resets n (domains_of n))) (length n.nets) port among) in
-    let i = some.0 in
-    let at = then_port port (port_of_root (hold_root n i)) (is_among (domains_of n) (open_clock n i)) some.1 in
-    held_unclean n i port (pin_of role.Reset i (pins_of n i)) (pin_of role.Preset i (pins_of n i)) sound (open_judged n (domains_of n) i at.0) refl refl at.1
+    let some = reset_counted n (domains_of n) (is_port port) (used (uses (open_resets n (domains_of n))) (length n.nets) port among) in
+    elim some.1 [ inl is ↦ by_hold n role.Reset reset_data some.0 port sound is | inr is ↦ by_hold n role.Preset preset_data some.0 port sound is ]
 
 reset_no_clock : (n : Netlist) (port : ℕ) → IsNetlist n → is_among (resets_of n (domains_of n)) (Some port) ≡ true → is_among (domains_of n) (Some port) ≡ false
 reset_no_clock n port sound among = by (is_among (domains_of n) (Some port)) refl

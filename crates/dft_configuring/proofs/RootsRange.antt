@@ -1,5 +1,5 @@
 -- The clocks and resets of a netlist, by name, are in range: few, different, names of input ports, and no reset is a clock.
-use Rattle.std.proofs.Common.{◌≡◌, ℕ, ◌<◌, ◌≤◌, ◌==◌, Bool, true, false, not, ◌&&◌, ◌||◌, List, [], ◌∷◌, length, map, Option, None, Some, IsTrue, option_and_then, slice_get, refl, sym, ◌∙◌, ap, subst, arith}
+use Rattle.std.proofs.Common.{◌≡◌, ◌⊎◌, inl, inr, ℕ, ◌<◌, ◌≤◌, ◌==◌, Bool, true, false, not, ◌&&◌, ◌||◌, List, [], ◌∷◌, length, map, Option, None, Some, IsTrue, option_map, option_and_then, slice_get, refl, sym, ◌∙◌, ap, subst, arith}
 use Rattle.std.specs.Prelude.{if◌then◌else◌}
 use Rattle.std.specs.List.{All, AllByRecursion, list_any, range_with_len}
 use Rattle.std.specs.Str.{bytes_eq}
@@ -10,6 +10,7 @@ use Rattle.std.proofs.lemmas.List.Elements.{All-from_recursion}
 use Rattle.std.proofs.lemmas.Option.{slice_get-get_or}
 use Rattle.dft_base.specs.Name.{IsName}
 use Rattle.dft_base.proofs.TextLemmas.{same_text}
+use Rattle.dft_cells.specs.declared.kind.Role.{Role}
 use Rattle.dft_cells.specs.declared.kind.Role.TheVariants as role
 use Rattle.dft_config.specs.Config.{Config}
 use Rattle.dft_config.specs.Range.{all_differ, has}
@@ -28,8 +29,8 @@ use Rattle.dft_netlist.proofs.FindLemmas.{not_found}
 use Rattle.dft_rules.proofs.NamedPorts.{name_at}
 use Rattle.dft_configure.specs.Found.{numbers}
 use Rattle.dft_configure.specs.Most.{HasRoots}
-use Rattle.dft_configure.specs.Roots.{can_hold, clean_only, domains_of, hold_root, is_among, is_clean, is_fit, is_port, most_used, open_clock, open_reset, open_resets, open_clocks, port_of_clock, port_of_root, port_shown, resets_of, root_of_either, uses}
-use Rattle.dft_configure.proofs.ScannedLemmas.{one_counted, used}
+use Rattle.dft_configure.specs.Roots.{can_hold_both, clean_only, domains_of, hold_root, is_among, is_clean, is_fit, is_port, most_used, open_clock, open_reset, open_resets, open_clocks, port_of_clock, port_of_root, port_shown, resets_of, uses}
+use Rattle.dft_configure.proofs.ScannedLemmas.{one_counted, reset_counted, used}
 use Rattle.dft_configuring.specs.Rooted.{clock_names, name_of, names_of_nets, reset_names}
 use Rattle.dft_configuring.proofs.GroupsRange.{chosen_below, chosen_differ}
 use Rattle.dft_configuring.proofs.Ranks.{most_used_few}
@@ -162,7 +163,7 @@ open_input_by n port o false at = absurd cc
 
 open_input : (n : Netlist) (i port : ℕ) → is_port port (open_clock n i) ≡ true → driver n port ≡ Input
 unfolding open_clock
-open_input n i port at = open_input_by n port (pin_of role.Clock i (pins_of n i)) (is_fit n i && can_hold (hold_root n i)) at
+open_input n i port at = open_input_by n port (pin_of role.Clock i (pins_of n i)) (is_fit n i && can_hold_both n i) at
 
 domain_input : (n : Netlist) (port : ℕ) → is_among (domains_of n) (Some port) ≡ true → driver n port ≡ Input
 unfolding domains_of
@@ -177,20 +178,23 @@ traced_input n port source (Port net) is at =
 traced_input n port source (Constant bit) is at = absurd cc
 traced_input n port source Other is at = absurd cc
 
-held_input : (n : Netlist) (port : ℕ) (reset preset : Option Source) → is_port port (port_of_root (root_of_either n reset preset)) ≡ true → driver n port ≡ Input
-held_input n port (Some source) preset at = traced_input n port source (root_of n source) refl at
-held_input n port None (Some source) at = traced_input n port source (root_of n source) refl at
-held_input n port None None at = absurd cc
+held_input : (n : Netlist) (port : ℕ) (pin : Option Source) → is_port port (port_of_root (option_map (root_of n) pin)) ≡ true → driver n port ≡ Input
+held_input n port (Some source) at = traced_input n port source (root_of n source) refl at
+held_input n port None at = absurd cc
 
 reset_by : (port : ℕ) (o : Option ℕ) (b : Bool) → is_port port (if b then o else None) ≡ true → is_port port o ≡ true
 reset_by port o true at = at
 reset_by port o false at = absurd cc
 
+input_by : (n : Netlist) (hold : Role) (i port : ℕ) → is_port port (open_reset n (domains_of n) hold i) ≡ true → driver n port ≡ Input
+input_by n hold i port is =
+    held_input n port (pin_of hold i (pins_of n i)) (reset_by port (port_of_root (hold_root n hold i)) (is_among (domains_of n) (open_clock n i)) is)
+
 reset_input : (n : Netlist) (port : ℕ) → is_among (resets_of n (domains_of n)) (Some port) ≡ true → driver n port ≡ Input
 unfolding resets_of
 reset_input n port among =
-    let some = one_counted (open_reset n (domains_of n)) (is_port port) (range_with_len 0 (length n.instances)) (used (uses (open_resets n (domains_of n))) (length n.nets) port among) in
-    held_input n port (pin_of role.Reset some.0 (pins_of n some.0)) (pin_of role.Preset some.0 (pins_of n some.0)) (reset_by port (port_of_root (hold_root n some.0)) (is_among (domains_of n) (open_clock n some.0)) some.1)
+    let some = reset_counted n (domains_of n) (is_port port) (used (uses (open_resets n (domains_of n))) (length n.nets) port among) in
+    elim some.1 [ inl is ↦ input_by n role.Reset some.0 port is | inr is ↦ input_by n role.Preset some.0 port is ]
 
 -- ---- the names
 

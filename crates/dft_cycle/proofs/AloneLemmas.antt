@@ -9,11 +9,12 @@ use Rattle.std.proofs.lemmas.Bool.{eq-eqb}
 use Rattle.dft_base.specs.declared.tri.Tri.{Tri}
 use Rattle.dft_base.specs.declared.tri.Tri.TheVariants.{Zero, One, Unknown}
 use Rattle.dft_base.specs.Tri.{AboveTri}
+use Rattle.dft_cells.specs.FlipFlops.{tri_taken_by, tri_forced_by}
 use Rattle.dft_netlist.specs.declared.ids.NetId.{NetId}
 use Rattle.dft_behavior.specs.Logic.{Logic, IsRanked}
 use Rattle.dft_behavior.specs.Settled.{value_from}
 use Rattle.dft_behavior.specs.Runs.{takes}
-use Rattle.dft_abstract.specs.Cycle.{Pulse, tri_forced_by, tri_taken_by, changes, next_value, view_sources, AreViews}
+use Rattle.dft_abstract.specs.Cycle.{Pulse, changes, next_value, view_sources, AreViews}
 use Rattle.dft_cycle.specs.Machine.{value_at}
 use Rattle.dft_logic.specs.Circuit.{Circuit, logic_at, flag_at, IsCircuit}
 use Rattle.dft_cycle.specs.Views.{raised_by, rank_of, Among, PulsesAmong, HasNext, AreNext, IsAlone}
@@ -39,7 +40,7 @@ own_view l rank p d poss other view its ranked alone up views others net =
 own_next : (l : Logic) (rank : ℕ → ℕ) (p : Pulse) (poss other : ℕ → Tri) (view its : ℕ → ℕ → Tri) → IsRanked l rank → IsAlone l p.pulsed → AreViews l p poss view → AreViews l p other its → (c : ℕ) → p.pulsed (l.cell c).domain ≡ true → next_value l p view c ≡ next_value l p its c
 own_next l rank p poss other view its ranked alone views others c up =
     let same : view (l.cell c).domain ≡ its (l.cell c).domain = λ t net. own_view l rank p (l.cell c).domain poss other view its ranked alone up views others net t in
-    ap (λ (w : ℕ → Tri). tri_forced_by (l.cell c).force p.ports (tri_taken_by (l.cell c).scan (value_from w) (value_from w (l.cell c).input))) same
+    ap (λ (w : ℕ → Tri). tri_forced_by (l.cell c).forces p.ports (tri_taken_by (l.cell c).takes (p.old c) (value_from w))) same
 
 -- ---- a turn
 

@@ -1,5 +1,5 @@
 -- What belongs to a domain is written by its lists, and from one domain's view to another's only leaves of the two differ.
-use Rattle.std.proofs.Common.{ℕ, Bool, true, false, List, ◌≡◌, ◌<◌, ◌≤◌, ◌+◌, ◌==◌, ◌⊎◌, inl, inr, Option, None, Some, length, map, drop, refl, sym, ap, ◌∙◌, subst, get_or, slice_set, get_or-set_same, get_or-set_other, arith, []}
+use Rattle.std.proofs.Common.{ℕ, Bool, false, List, ◌∷◌, ◌≡◌, ◌<◌, ◌≤◌, ◌+◌, ◌==◌, ◌⊎◌, inl, inr, Option, None, Some, length, map, drop, refl, sym, ap, ◌∙◌, subst, get_or, slice_set, get_or-set_same, get_or-set_other, arith, []}
 use Rattle.std.specs.Prelude.{not, if◌then◌else◌}
 use Rattle.std.proofs.lemmas.Bool.Decides.{eqb_tells, leb_tells}
 use Rattle.std.proofs.lemmas.List.{get_or_past, drop_all}
@@ -7,8 +7,8 @@ use Rattle.dft_base.specs.declared.tri.Tri.{Tri}
 use Rattle.dft_base.specs.declared.tri.Tri.TheVariants.{Zero, Unknown}
 use Rattle.dft_netlist.specs.Drivers.{Source}
 use Rattle.dft_base.specs.Tri.{known}
-use Rattle.dft_cells.specs.FlipFlops.{tri_forced}
-use Rattle.dft_behavior.specs.Logic.{Cell, Force, Meaning, Input, Clock, Gate, Joined, Flop, Lockup, Free}
+use Rattle.dft_cells.specs.FlipFlops.{Forces, IsForceOf, tri_forced_by}
+use Rattle.dft_behavior.specs.Logic.{Cell, Meaning, Input, Clock, Gate, Joined, Flop, Lockup, Free}
 use Rattle.dft_behavior.specs.Settled.{value_from, value_given, inverse}
 use Rattle.dft_netlist.specs.Orders.{Has}
 use Rattle.dft_netlist.proofs.ListingLemmas.{has_front}
@@ -16,12 +16,13 @@ use Rattle.dft_logic.specs.declared.circuit.Op.{Op}
 use Rattle.dft_logic.specs.declared.circuit.Op.TheVariants as op
 use Rattle.dft_takings.specs.declared.settling.View.{View}
 use Rattle.dft_abstract.specs.Cycle.{Pulse, lockup_shown}
-use Rattle.dft_cycle.specs.Machine.{value_at, acted}
+use Rattle.dft_cycle.specs.Machine.{value_at, only_at, acted}
 use Rattle.dft_logic.specs.Circuit.{Circuit, Supply, source_places, flag_at, meaning, op_at, cell_of, cell_at, latch_at, latch_domains, force_nets, leaf_domains, leaves_from, IsCircuit}
 use Rattle.dft_takings.specs.Views.{base_of, view_base, changed, IsGivenIn, GivenIn, IsReady}
 use Rattle.dft_logic.specs.Tables.{list_at}
 use Rattle.dft_cycle.specs.Views.{next_at, next_by, held_by}
-use Rattle.dft_abstract.proofs.Forces.{forced_twice}
+use Rattle.dft_cells.proofs.TakesLemmas.{left_twice}
+use Rattle.dft_logic.proofs.Writings.{force_listed}
 use Rattle.dft_cycle.proofs.NextLemmas.{by_hit, by_miss}
 use Rattle.dft_cycle.proofs.RoundLemmas.{latch_hits, latch_misses}
 use Rattle.dft_logic.proofs.Compiled.{latch_live}
@@ -75,39 +76,43 @@ next_listed cell d ports values t old own is = elim (eqb_tells cell.domain d) [
 
 -- ---- the flip-flops of a reset or set
 
-acted_misses : (force : Option Force) (net : ℕ) (value bit : Tri) → (Has (force_nets force) net → ⊥) → acted force net value bit ≡ bit
-acted_misses None net value bit none = refl
-acted_misses (Some force) net value bit none = elim (eqb_tells force.port net) [
-  | inl q ↦ absurd (none (inl (sym q.1)))
-  | inr q ↦ ap (λ (b : Bool). if b then tri_forced force.value value bit else bit) q.0
+only_misses : (net : ℕ) (pin : Option ℕ) → ((port : ℕ) → pin ≡ Some port → port ≡ net → ⊥) → only_at net pin ≡ None
+only_misses net None none = refl
+only_misses net (Some port) none = elim (eqb_tells port net) [
+  | inl q ↦ absurd (none port refl q.1)
+  | inr q ↦ ap (λ (b : Bool). if b then Some port else None) q.0
 ]
 
-force_either : (force : Option Force) (net : ℕ) → Has (force_nets force) net ⊎ (Has (force_nets force) net → ⊥)
-force_either None net = inr (λ h. h)
-force_either (Some force) net = elim (eqb_tells force.port net) [
-  | inl q ↦ inl (inl (sym q.1))
-  | inr q ↦ inr (λ h. elim h [ inl e ↦ q.1 (sym e) | inr none ↦ none ])
+acted_misses : (forces : Forces ℕ) (net : ℕ) (value bit : Tri) → (Has (force_nets forces) net → ⊥) → acted forces net value bit ≡ bit
+acted_misses forces net value bit none =
+    let listed : (port : ℕ) → IsForceOf forces port → port ≡ net → ⊥ = λ port is here. none (subst (Has (force_nets forces)) here (force_listed forces port is)) in
+    λ t. tri_forced_by (record { clear = only_misses net forces.clear (λ port is. listed port (inl is)) t; preset = only_misses net forces.preset (λ port is. listed port (inr is)) t }) (λ port. value) bit
+
+listed_either : (nets : List ℕ) (net : ℕ) → Has nets net ⊎ (Has nets net → ⊥)
+listed_either [] net = inr (λ h. h)
+listed_either (first ∷ nets) net = elim (eqb_tells net first) [
+  | inl q ↦ inl (inl q.1)
+  | inr q ↦ elim (listed_either nets net) [
+    | inl here ↦ inl (inr here)
+    | inr none ↦ inr (λ h. elim h [ inl e ↦ q.1 e | inr more ↦ none more ])
+  ]
 ]
 
 -- acting twice is acting once
-acted_twice : (force : Option Force) (net : ℕ) (value bit : Tri) → acted force net value (acted force net value bit) ≡ acted force net value bit
-acted_twice None net value bit = refl
-acted_twice (Some force) net value bit = by (force.port == net) where
-  by : (b : Bool) → (if b then tri_forced force.value value (if b then tri_forced force.value value bit else bit) else (if b then tri_forced force.value value bit else bit)) ≡ (if b then tri_forced force.value value bit else bit)
-  by true = forced_twice force.value value bit
-  by false = refl
+acted_twice : (forces : Forces ℕ) (net : ℕ) (value bit : Tri) → acted forces net value (acted forces net value bit) ≡ acted forces net value bit
+acted_twice forces net value bit = left_twice (record { clear = only_at net forces.clear; preset = only_at net forces.preset }) (λ port. value) bit
 
 pub followers_start : (x : Circuit) (net : ℕ) (value : Tri) (cells : List Tri) (xs : List ℕ) → IsCircuit x → net < length x.ops → xs ≡ list_at x.followers net →
-    Listed (length x.flops) cells cells (λ k old. acted (cell_at (map cell_of x.flops) k).force net value old) xs
-followers_start x net value cells xs is live e k less = elim (force_either (cell_at (map cell_of x.flops) k).force net) [
+    Listed (length x.flops) cells cells (λ k old. acted (cell_at (map cell_of x.flops) k).forces net value old) xs
+followers_start x net value cells xs is live e k less = elim (listed_either (force_nets (cell_at (map cell_of x.flops) k).forces) net) [
   | inl own ↦ (let P : List ℕ → Type 0 = λ l. Has l k in inr (subst P (sym e) (is.tables.followers.each net k less live own), refl))
-  | inr other ↦ inl (sym (acted_misses (cell_at (map cell_of x.flops) k).force net value (value_at cells k) other))
+  | inr other ↦ inl (sym (acted_misses (cell_at (map cell_of x.flops) k).forces net value (value_at cells k) other))
 ]
 
 pub follower_listed : (x : Circuit) (net c : ℕ) (xs : List ℕ) → IsCircuit x → xs ≡ list_at x.followers net → Has xs c → c < length x.flops
 follower_listed x net c xs is e h = (let P : List ℕ → Type 0 = λ l. Has l c in (is.tables.followers.only net c (subst P e h)).0)
 
-pub acted_once : (count : ℕ) (start now : List Tri) (force : ℕ → Option Force) (net c : ℕ) (value : Tri) (rest : List ℕ) → c < count → Listed count start now (λ k old. acted (force k) net value old) rest →
+pub acted_once : (count : ℕ) (start now : List Tri) (force : ℕ → Forces ℕ) (net c : ℕ) (value : Tri) (rest : List ℕ) → c < count → Listed count start now (λ k old. acted (force k) net value old) rest →
     acted (force c) net value (value_at now c) ≡ acted (force c) net value (value_at start c)
 acted_once count start now force net c value rest less before = elim (before c less) [
   | inl done ↦ ap (λ (t : Tri). acted (force c) net value t) done ∙ acted_twice (force c) net value (value_at start c)

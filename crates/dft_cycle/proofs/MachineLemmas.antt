@@ -2,21 +2,23 @@
 use Rattle.std.proofs.Common.{ℕ, zero, suc, Bool, not, true, false, List, [], ◌∷◌, ◌++◌, ◌≡◌, ◌<◌, ◌≤◌, ◌+◌, ◌==◌, ◌||◌, ◌&&◌, inl, inr, Option, None, Some, is_none, length, map, drop, drop-cons, add-one, ◌≢◌, refl, sym, ap, ◌∙◌, subst, get_or, slice_set, get_or-set_same, get_or-set_other, arith, ◌⊎◌, slice_get}
 use Rattle.std.specs.Prelude.{if◌then◌else◌, replicate}
 use Rattle.std.proofs.lemmas.Bool.Decides.{leb_tells, eqb_tells}
+use Rattle.std.proofs.lemmas.Bool.{and_parts}
 use Rattle.std.specs.Global.{Vec}
 use Rattle.std.specs.Vec.{with_items}
 use Rattle.std.proofs.lemmas.List.{get_or_past, drop_all}
 use Rattle.dft_base.specs.declared.tri.Tri.{Tri}
 use Rattle.dft_base.specs.declared.tri.Tri.TheVariants.{Unknown}
 use Rattle.dft_base.proofs.BitLemmas.{or_later, or_false}
+use Rattle.dft_cells.specs.FlipFlops.{tri_taken_by, tri_forced_by}
 use Rattle.dft_netlist.specs.declared.ids.NetId.{NetId}
 use Rattle.dft_netlist.specs.Drivers.{Source}
-use Rattle.dft_behavior.specs.Logic.{Logic, Cell, Force}
+use Rattle.dft_behavior.specs.Logic.{Logic, Cell}
 use Rattle.dft_behavior.specs.Settled.{TriSources, value_from, IsTriSettled}
 use Rattle.dft_behavior.specs.Runs.{takes}
 use Rattle.dft_logic.specs.declared.circuit.FlipFlop.{FlipFlop}
-use Rattle.dft_abstract.specs.Cycle.{Pulse, Half, tri_forced_by, tri_taken_by, next_value, falls_after, changes, AreViews, after_pulse, IsLeast}
+use Rattle.dft_abstract.specs.Cycle.{Pulse, Half, next_value, falls_after, changes, AreViews, after_pulse, IsLeast}
 use Rattle.dft_cycle.specs.Machine.{Machine, value_at, is_one_of, ports_of, logic, acted, IsSet, at_strobe, IsStrobed, pulses, phase_from, pulse_from, IsPhase, IsPulsed}
-use Rattle.dft_logic.specs.Circuit.{Circuit, logic_at, cell_of, cell_at, flag_at, leaves_from, IsCircuit}
+use Rattle.dft_logic.specs.Circuit.{Circuit, logic_at, IsOneForce, cell_of, cell_at, flag_at, leaves_from, IsCircuit}
 use Rattle.dft_takings.specs.Views.{IsReady, base_of}
 use Rattle.dft_cycle.specs.Views.{AreFalling, Rises, rank_of, Among, AreNext}
 use Rattle.std.proofs.lemmas.Option.{slice_get-get_or}
@@ -29,7 +31,7 @@ use Rattle.dft_cycle.specs.declared.plans.Plan.{Plan}
 use Rattle.dft_cycle.specs.Plans.{IsPassed, IsFound, IsFoundAt, LooseAreUnknown}
 use Rattle.dft_logic.specs.Compiling.{ports_by}
 use Rattle.dft_takings.specs.Needs.{AreSeen, IsStrobe}
-use Rattle.dft_takings.specs.Takings.{is_loose_input, is_loose}
+use Rattle.dft_takings.specs.Takings.{is_loose_input, is_unforced, is_loose}
 use Rattle.dft_takings.proofs.LookLemmas.{look_of_all}
 use Rattle.dft_abstract.proofs.Halves.{falls_rest}
 use Rattle.dft_abstract.proofs.Least.{none_changes}
@@ -37,7 +39,7 @@ use Rattle.dft_abstract.proofs.Views.{views_exist}
 use Rattle.dft_takings.proofs.CircuitRanks.{circuit_ranked}
 use Rattle.dft_takings.proofs.Strobes.{no_falls, strobe_holds, strobe_leaves}
 use Rattle.dft_cycle.proofs.MachineRounds.{same_logic}
-use Rattle.dft_logic.proofs.Writings.{cell_past}
+use Rattle.dft_logic.proofs.Writings.{cell_past, one_force}
 use Rattle.dft_takings.proofs.TakingLemmas.{next_loose}
 
 -- ---- the elements of a vector that was filled anew
@@ -81,7 +83,7 @@ looked m x ports cells poss held values row d nets is compiled same old settled 
 
 pub set_done : (m after : Machine) (x : Circuit) (net : ℕ) (value : Tri) → logic m ≡ logic_at x → after.netlist ≡ m.netlist → after.clocks ≡ m.clocks → after.shown ≡ m.shown →
     after.inputs ≡ slice_set m.inputs net value → net < length m.inputs → length m.cells ≡ length x.flops → length after.cells ≡ length m.cells →
-    ((c : ℕ) → c < length x.flops → value_at after.cells c ≡ acted (cell_at (map cell_of x.flops) c).force net value (value_at m.cells c)) → IsSet (logic m) m net value after
+    ((c : ℕ) → c < length x.flops → value_at after.cells c ≡ acted (cell_at (map cell_of x.flops) c).forces net value (value_at m.cells c)) → IsSet (logic m) m net value after
 unfolding logic_at
 set_done m after x net value compiled n k s inputs live a b each =
     let V : (List Tri) → ℕ → Tri = value_at in
@@ -90,10 +92,11 @@ set_done m after x net value compiled n k s inputs live a b each =
       clocks = k;
       input = ap (λ (l : List Tri). value_at l net) inputs ∙ get_or-set_same m.inputs net value Unknown live;
       others = λ other ne. ap (λ (l : List Tri). value_at l other) inputs ∙ get_or-set_other m.inputs net other value Unknown ne;
-      cells = λ c. (let P : Logic → Type 0 = λ l. value_at after.cells c ≡ acted (l.cell c).force net value (value_at m.cells c) in
+      one = λ c. subst (λ (l : Logic). IsOneForce (l.cell c).forces) (sym compiled) (one_force x.flops c);
+      cells = λ c. (let P : Logic → Type 0 = λ l. value_at after.cells c ≡ acted (l.cell c).forces net value (value_at m.cells c) in
           subst P (sym compiled) (elim (leb_tells (length x.flops) c) [
             | inl out ↦ (let f : length after.cells ≤ c = omega (arith, out.1) in let g : length m.cells ≤ c = omega (arith, out.1) in
-                get_or_past after.cells c Unknown f ∙ sym (get_or_past m.cells c Unknown g) ∙ sym (ap (λ (q : Cell). acted q.force net value (value_at m.cells c)) (cell_past x.flops c out.1)))
+                get_or_past after.cells c Unknown f ∙ sym (get_or_past m.cells c Unknown g) ∙ sym (ap (λ (q : Cell). acted q.forces net value (value_at m.cells c)) (cell_past x.flops c out.1)))
             | inr live ↦ each c live.1
           ]));
       shown = s;
@@ -101,11 +104,11 @@ set_done m after x net value compiled n k s inputs live a b each =
 
 -- what was read from other lists that are the same
 pub acted_read : (flops : List FlipFlop) (cells os new ws : List Tri) (net : ℕ) (value : Tri) → os ≡ cells → new ≡ ws →
-    ((c : ℕ) → c < length flops → value_at ws c ≡ acted (cell_at (map cell_of flops) c).force net value (value_at os c)) →
-    (c : ℕ) → c < length flops → value_at new c ≡ acted (cell_at (map cell_of flops) c).force net value (value_at cells c)
+    ((c : ℕ) → c < length flops → value_at ws c ≡ acted (cell_at (map cell_of flops) c).forces net value (value_at os c)) →
+    (c : ℕ) → c < length flops → value_at new c ≡ acted (cell_at (map cell_of flops) c).forces net value (value_at cells c)
 acted_read flops cells os new ws net value o n each =
-    let O : List Tri → Type 0 = λ l. (c : ℕ) → c < length flops → value_at new c ≡ acted (cell_at (map cell_of flops) c).force net value (value_at l c) in
-    let N : List Tri → Type 0 = λ l. (c : ℕ) → c < length flops → value_at l c ≡ acted (cell_at (map cell_of flops) c).force net value (value_at os c) in
+    let O : List Tri → Type 0 = λ l. (c : ℕ) → c < length flops → value_at new c ≡ acted (cell_at (map cell_of flops) c).forces net value (value_at l c) in
+    let N : List Tri → Type 0 = λ l. (c : ℕ) → c < length flops → value_at l c ≡ acted (cell_at (map cell_of flops) c).forces net value (value_at os c) in
     subst O o (subst N (sym n) each)
 
 -- whether a cell takes a value in a phase where these clocks are flagged
@@ -387,7 +390,7 @@ lower_all nets flags j e past old = go (flag_at flags e) (λ up. sym (ap (λ (l 
 after_past : (x : Circuit) (p : Pulse) (view : ℕ → ℕ → Tri) (c : ℕ) → length x.flops ≤ c → p.old c ≡ Unknown → after_pulse (logic_at x) p view c ≡ Unknown
 unfolding logic_at
 after_past x p view c out old =
-    let F : Cell → Tri = λ cell. if p.pulsed cell.domain && takes p.rising cell.falling then tri_forced_by cell.force p.ports (tri_taken_by cell.scan (value_from (view cell.domain)) (value_from (view cell.domain) cell.input)) else p.old c in
+    let F : Cell → Tri = λ cell. if p.pulsed cell.domain && takes p.rising cell.falling then tri_forced_by cell.forces p.ports (tri_taken_by cell.takes (p.old c) (value_from (view cell.domain))) else p.old c in
     ap F (cell_past x.flops c out) ∙ go (p.pulsed 0 && takes p.rising false) where
       go : (up : Bool) → (if up then Unknown else p.old c) ≡ Unknown
       go true = refl
@@ -436,17 +439,17 @@ loose_within x new size each c is = elim (leb_tells (length x.flops) c) [
   | inr live ↦ each c live.1 is
 ]
 
-acted_loose : (cell : Cell) (net : ℕ) (value bit : Tri) → is_loose cell ≡ true → acted cell.force net value bit ≡ bit
-acted_loose cell net value bit is = go (is_loose_input cell.input) (is_none cell.scan) cell.force is where
-  go : (a b : Bool) (force : Option Force) → (a && (b && is_none force)) ≡ true → acted force net value bit ≡ bit
-  go a b None is = refl
-  go false b (Some force) is = absurd cc
-  go true false (Some force) is = absurd cc
-  go true true (Some force) is = absurd cc
+acted_loose : (cell : Cell) (net : ℕ) (value bit : Tri) → is_loose cell ≡ true → acted cell.forces net value bit ≡ bit
+acted_loose cell net value bit is =
+    go cell.forces.clear cell.forces.preset (and_parts (is_none cell.takes.scan) (is_unforced cell.forces) (and_parts (is_loose_input cell.takes.input) (is_none cell.takes.scan && is_unforced cell.forces) is).1).1 where
+      go : (clear preset : Option ℕ) → (is_none clear && is_none preset) ≡ true → acted (record { clear = clear; preset = preset }) net value bit ≡ bit
+      go None None is = refl
+      go None (Some port) is = absurd cc
+      go (Some port) preset is = absurd cc
 
 -- an input that gets a value
 pub set_loose : (x : Circuit) (net : ℕ) (value : Tri) (old new : List Tri) → length new ≡ length x.flops → LooseAreUnknown x (value_at old) →
-    ((c : ℕ) → c < length x.flops → value_at new c ≡ acted (cell_at (map cell_of x.flops) c).force net value (value_at old c)) → LooseAreUnknown x (value_at new)
+    ((c : ℕ) → c < length x.flops → value_at new c ≡ acted (cell_at (map cell_of x.flops) c).forces net value (value_at old c)) → LooseAreUnknown x (value_at new)
 set_loose x net value old new size loose each =
     loose_within x new size (λ c live is. each c live ∙ acted_loose (cell_at (map cell_of x.flops) c) net value (value_at old c) is ∙ loose c is)
 

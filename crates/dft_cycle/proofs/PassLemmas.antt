@@ -6,9 +6,10 @@ use Rattle.std.proofs.lemmas.Bool.Decides.{leb_tells}
 use Rattle.std.proofs.lemmas.List.{get_or_past, length-map}
 use Rattle.dft_base.specs.declared.tri.Tri.{Tri}
 use Rattle.dft_base.specs.declared.tri.Tri.TheVariants.{Unknown}
+use Rattle.dft_cells.specs.FlipFlops.{Scan, IsForceOf}
 use Rattle.dft_netlist.specs.declared.ids.NetId.{NetId}
 use Rattle.dft_netlist.specs.Drivers.{Source, Net, Tied, Loose}
-use Rattle.dft_behavior.specs.Logic.{Cell, Force, Scan, Free}
+use Rattle.dft_behavior.specs.Logic.{Cell, Free}
 use Rattle.dft_behavior.specs.Settled.{value_from, value_given}
 use Rattle.dft_netlist.specs.Orders.{Has, numbers_of}
 use Rattle.dft_behavior.specs.Runs.{takes}
@@ -19,13 +20,14 @@ use Rattle.dft_takings.specs.Shows.{Shown, IsShownOn}
 use Rattle.dft_takings.specs.Takes.{AreOrigins}
 use Rattle.dft_takings.specs.Entries.{Entry, entry_value}
 use Rattle.dft_logic.specs.Values.{value_at}
-use Rattle.dft_logic.specs.Circuit.{Circuit, meaning, op_at, logic_at, cell_of, cell_at, force_nets, next_at, IsCircuit}
+use Rattle.dft_logic.specs.Circuit.{Circuit, meaning, op_at, logic_at, cell_of, cell_at, next_at, IsCircuit}
 use Rattle.dft_takings.specs.EntryTables.{scan_needs, entry_for}
 use Rattle.dft_registers.specs.Layout.{Layout}
 use Rattle.dft_registers.specs.declared.moves.Move.{Move}
 use Rattle.dft_registers.specs.Cells.{Course, Rests, Enters, Follows, course, CanMove, IsCarried}
 use Rattle.dft_takings.specs.Takings.{taking_at, taken_by, is_loose, IsLeft, ArePut, AreTakings}
 use Rattle.dft_takings.proofs.EntryLemmas.{entry_stays}
+use Rattle.dft_logic.proofs.Writings.{force_listed}
 use Rattle.dft_takings.proofs.PlanLemmas.{planned}
 use Rattle.dft_takings.proofs.TakingLemmas.{idle_value}
 use Rattle.dft_cycle.specs.declared.plans.Pins.{Pins}
@@ -75,16 +77,12 @@ source_same f g (Net k) same = same k refl
 source_same f g (Tied bit) same = refl
 source_same f g (Loose i pin) same = refl
 
-force_here : (found : Option Force) (force : Force) → found ≡ Some force → Has (force_nets found) force.port
-force_here None force is = absurd cc
-force_here (Some f) force is = let e : f ≡ force = cc in inl (ap (λ (t : Force). t.port) (sym e))
-
-scan_here : (found : Option Scan) (scan : Scan) (k : ℕ) → found ≡ Some scan → scan.enable ≡ Net k → Has (scan_needs true found) k
+scan_here : (found : Option (Scan Source)) (scan : Scan Source) (k : ℕ) → found ≡ Some scan → scan.enable ≡ Net k → Has (scan_needs true found) k
 scan_here None scan k is net = absurd cc
 scan_here (Some s) scan k is net =
     let e : s ≡ scan = cc in
     let P : Source → Type 0 = λ source. Has (scan_needs true (Some (record { enable = source; input = s.input }))) k in
-    subst P (sym (ap (λ (t : Scan). t.enable) e ∙ net)) (inl refl)
+    subst P (sym (ap (λ (t : Scan Source). t.enable) e ∙ net)) (inl refl)
 
 -- ---- the pulse by a plan
 
@@ -127,13 +125,13 @@ passed x clocks l pins plan q values row old new is pinned m among past olds loo
     let S : (ℕ → Bool) → Type 0 = λ f. IsShownOn (logic_at x) (edges_of m.pulse.rising f) (λ net. true) m.shown in
     let R : Bool → Type 0 = λ b. IsShownOn (logic_at x) (edges_of b q.pulsed) (λ net. true) m.shown in
     let beyond : (l : List Tri) → length l ≡ count → (k : ℕ) → count ≤ k → value_at l k ≡ Unknown = λ l e k far. get_or_past l k Unknown (omega arith) in
-    let port : (c : ℕ) (force : Force) → c < length x.flops → (cells c).force ≡ Some force → m.pulse.ports force.port ≡ q.ports force.port =
-    λ c force live at. at_nets m.pulse.ports q.ports pins.ports.items count force.port (sym m.key.ports ∙ ports) m.past past (λ less. pinned.ports c force.port live less (force_here (cells c).force force at)) in
-    let enable : (c : ℕ) (scan : Scan) → c < length x.flops → (cells c).scan ≡ Some scan → value_from w scan.enable ≡ value_from v scan.enable =
+    let port : (c k : ℕ) → c < length x.flops → IsForceOf (cells c).forces k → m.pulse.ports k ≡ q.ports k =
+    λ c k live at. at_nets m.pulse.ports q.ports pins.ports.items count k (sym m.key.ports ∙ ports) m.past past (λ less. pinned.ports c k live less (force_listed (cells c).forces k at)) in
+    let enable : (c : ℕ) (scan : Scan Source) → c < length x.flops → (cells c).takes.scan ≡ Some scan → value_from w scan.enable ≡ value_from v scan.enable =
     λ c scan live at. source_same w v scan.enable
-    (λ k net. at_nets w v pins.enables.items count k (sym m.key.enables ∙ enables) (beyond m.values m.size) (beyond values len) (λ less. pinned.enables c k live less (scan_here (cells c).scan scan k at net))) in
+    (λ k net. at_nets w v pins.enables.items count k (sym m.key.enables ∙ enables) (beyond m.values m.size) (beyond values len) (λ less. pinned.enables c k live less (scan_here (cells c).takes.scan scan k at net))) in
     let entries : (c : ℕ) → c < length x.flops → entry_for (cells c) q m.origin m.shown v ≡ Some (m.table c) =
-    λ c live. sym (entry_stays (record { net = λ net. Free; cell = λ k. cells c }) m.pulse q m.origin m.shown w v 0 (λ t. same (cells c).domain t && takes (alike t) (cells c).falling) (λ force at. port c force live at) (λ scan at. enable c scan live at)) ∙ m.entries c live in
+    λ c live. sym (entry_stays (record { net = λ net. Free; cell = λ k. cells c }) m.pulse q m.origin m.shown w v 0 (λ t. same (cells c).domain t && takes (alike t) (cells c).falling) (λ k at. port c k live at) (λ scan at. enable c scan live at)) ∙ m.entries c live in
     let pass = planned x q m.origin m.shown m.table m.marked values new is len (subst O (λ t e. same e t && not (alike t)) m.origins) (subst R alike (subst S whole m.shows)) m.list.closed (λ k up. settled k (m.list.listed k up)) entries m.needed
     (by_takings cells q v m.table (length x.flops) (course l plan.moves.items) plan.takings.items (value_at row) old new m.takings olds loose found size put) in
     record { poss = pass.0; view = pass.1.0; least = pass.1.1.0; each = pass.1.1.1 }

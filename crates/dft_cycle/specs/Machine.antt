@@ -2,13 +2,14 @@
 use Rattle.std.specs.Prelude.{ℕ, Bool, true, false, not, ◌≡◌, ◌<◌, ◌==◌, ◌&&◌, ◌||◌, List, [], ◌∷◌, Option, None, Some, slice_get, if◌then◌else◌}
 use Rattle.dft_base.specs.declared.tri.Tri.{Tri}
 use Rattle.dft_base.specs.declared.tri.Tri.TheVariants.{Zero, Unknown}
-use Rattle.dft_cells.specs.FlipFlops.{tri_forced}
+use Rattle.dft_cells.specs.FlipFlops.{Forces, tri_forced_by}
 use Rattle.dft_netlist.specs.declared.ids.NetId.{NetId}
 use Rattle.dft_netlist.specs.Netlist.{Netlist}
-use Rattle.dft_behavior.specs.Logic.{Ports, Logic, Force, logic_of}
+use Rattle.dft_behavior.specs.Logic.{Ports, Logic, logic_of}
 use Rattle.dft_behavior.specs.Settled.{TriSources, value_from, IsTriSettled}
 use Rattle.dft_abstract.specs.Cycle.{Pulse, IsLeast, after_pulse, falls_after, Half, Halves}
 pub use Rattle.dft_logic.specs.Values.{value_at}
+use Rattle.dft_logic.specs.Circuit.{IsOneForce}
 
 pub record Machine : Type 0 where
   pub netlist : Netlist
@@ -48,10 +49,14 @@ pub record IsStart (n : Netlist) (named : List NetId) (m : Machine) : Type 0 whe
   pub cells : (cell : ℕ) → value_at m.cells cell ≡ Unknown
   pub shown : (net : ℕ) → value_at m.shown net ≡ Unknown
 
+-- a reset or a set, where it is at this net
+abbrev pub only_at : (net : ℕ) → Option ℕ → Option ℕ
+only_at net None = None
+only_at net (Some port) = if port == net then Some port else None
+
 -- what an input that gets a value leaves in a flip-flop: it acts at once where it is the flip-flop's reset or set
-abbrev pub acted : Option Force → (net : ℕ) → (value : Tri) → Tri → Tri
-acted None net value bit = bit
-acted (Some force) net value bit = if force.port == net then tri_forced force.value value bit else bit
+abbrev pub acted : Forces ℕ → (net : ℕ) → (value : Tri) → Tri → Tri
+acted forces net value bit = tri_forced_by (record { clear = only_at net forces.clear; preset = only_at net forces.preset }) (λ port. value) bit
 
 -- one input has the value, and it acted on the flip-flops
 pub record IsSet (l : Logic) (m : Machine) (net : ℕ) (value : Tri) (after : Machine) : Type 0 where
@@ -59,7 +64,9 @@ pub record IsSet (l : Logic) (m : Machine) (net : ℕ) (value : Tri) (after : Ma
   pub clocks : after.clocks ≡ m.clocks
   pub input : value_at after.inputs net ≡ value
   pub others : (other : ℕ) → (other ≡ net → ⊥) → value_at after.inputs other ≡ value_at m.inputs other
-  pub cells : (c : ℕ) → value_at after.cells c ≡ acted (l.cell c).force net value (value_at m.cells c)
+  -- it has not both
+  pub one : (c : ℕ) → IsOneForce (l.cell c).forces
+  pub cells : (c : ℕ) → value_at after.cells c ≡ acted (l.cell c).forces net value (value_at m.cells c)
   pub shown : after.shown ≡ m.shown
 
 -- for a strobe clocks are 0, inputs and flip-flops have their values, high lock-ups hold and others are wires

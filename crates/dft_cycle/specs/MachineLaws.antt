@@ -1,21 +1,22 @@
 -- What the calls of the machine come to over vectors.
 use Rattle.std.specs.Prelude.{ℕ, Bool, ◌≡◌, List}
 use Rattle.dft_base.specs.declared.tri.Tri.{Tri}
+use Rattle.dft_cells.specs.FlipFlops.{tri_forced_by}
 use Rattle.dft_netlist.specs.declared.ids.NetId.{NetId}
 use Rattle.dft_netlist.specs.Netlist.{Netlist}
 use Rattle.dft_behavior.specs.Runs.{Vector}
-use Rattle.dft_abstract.specs.Cycle.{tri_forced_by, Round, IsRound, after_round}
+use Rattle.dft_abstract.specs.Cycle.{Round, IsRound, after_round}
 use Rattle.dft_cycle.specs.Machine.{Machine, value_at, logic, IsStart, IsSet, IsStrobed, pulses, IsPulsed}
 
 -- every flip-flop has what its reset or set leaves
 abbrev pub IsForced : Machine → Type 0
-IsForced m = (c : ℕ) → value_at m.cells c ≡ tri_forced_by ((logic m).cell c).force (value_at m.inputs) (value_at m.cells c)
+IsForced m = (c : ℕ) → value_at m.cells c ≡ tri_forced_by ((logic m).cell c).forces (value_at m.inputs) (value_at m.cells c)
 
 -- since then only inputs were set: every flip-flop has what its reset or set leaves of its value from then
 pub record StandsSince (start m : Machine) : Type 0 where
   pub netlist : m.netlist ≡ start.netlist
   pub clocks : m.clocks ≡ start.clocks
-  pub cells : (c : ℕ) → value_at m.cells c ≡ tri_forced_by ((logic start).cell c).force (value_at m.inputs) (value_at start.cells c)
+  pub cells : (c : ℕ) → value_at m.cells c ≡ tri_forced_by ((logic start).cell c).forces (value_at m.inputs) (value_at start.cells c)
 
 abbrev pub StartIsForced : Type 0
 StartIsForced = (n : Netlist) (clocks : List NetId) (m : Machine) → IsStart n clocks m → IsForced m × StandsSince m m

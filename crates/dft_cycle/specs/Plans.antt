@@ -42,8 +42,8 @@ pub record IsNeedList (x : Circuit) (marked : List Bool) (nets : List NetId) : T
 
 -- the ports of all resets and sets, and the nets of all scan enables, so far as there are such nets
 pub record IsPins (x : Circuit) (pins : Pins) : Type 0 where
-  pub ports : (c k : ℕ) → c < length x.flops → k < length x.ops → Has (force_nets (cell_at (map cell_of x.flops) c).force) k → Has (numbers_of pins.ports.items) k
-  pub enables : (c k : ℕ) → c < length x.flops → k < length x.ops → Has (scan_needs true (cell_at (map cell_of x.flops) c).scan) k → Has (numbers_of pins.enables.items) k
+  pub ports : (c k : ℕ) → c < length x.flops → k < length x.ops → Has (force_nets (cell_at (map cell_of x.flops) c).forces) k → Has (numbers_of pins.ports.items) k
+  pub enables : (c k : ℕ) → c < length x.flops → k < length x.ops → Has (scan_needs true (cell_at (map cell_of x.flops) c).takes.scan) k → Has (numbers_of pins.enables.items) k
   pub count : pins.count ≤ length pins.list.items
   pub ordered : AreOrdered x.ops [] (numbers_of (take pins.count pins.list.items))
 

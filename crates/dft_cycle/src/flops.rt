@@ -4,7 +4,6 @@ ghost use Rattle.std.specs.Prelude.{◌≡◌, ℕ, ◌<◌, ◌==◌, length, m
 ghost use Rattle.dft_base.specs.Tri.{join};
 ghost use Rattle.dft_cells.specs.FlipFlops.{tri_forced, tri_chosen};
 ghost use Rattle.dft_behavior.specs.Settled.{value_from};
-ghost use Rattle.dft_abstract.specs.Cycle.{tri_forced_by};
 ghost use Rattle.dft_cycle.specs.Machine as spec;
 ghost use Rattle.dft_logic.specs.Circuit as circuits;
 ghost use Rattle.dft_logic.specs.Circuit.{cell_of, cell_at, latch_at};

@@ -288,8 +288,13 @@ fn acted_on(force: Option<Acting>, net: NetId, value: Tri, bit: Tri) -> Tri
     ensures { result ≡ acted (force_at force) net.0 value bit }
 {
     match force {
-        Some(acting) => if acting.port.0 == net.0 {
-            forced(acting.value, value, bit)
+        Some(Acting::Clear(port)) => if port.0 == net.0 {
+            forced(false, value, bit)
+        } else {
+            bit
+        },
+        Some(Acting::Preset(port)) => if port.0 == net.0 {
+            forced(true, value, bit)
         } else {
             bit
         },
@@ -303,7 +308,7 @@ fn act(circuit: &Circuit, net: NetId, value: Tri, cells: &mut Cells)
     requires cells { length cells.old.values ≡ length circuit.now.flops }
     ensures layout { cells.new.layout ≡ cells.old.layout }
     ensures count { length cells.new.values ≡ length cells.old.values }
-    ensures each { (c : ℕ) → c < length circuit.now.flops → spec.value_at cells.new.values c ≡ acted (cell_at (map cell_of circuit.now.flops) c).force net.0 value (spec.value_at cells.old.values c) }
+    ensures each { (c : ℕ) → c < length circuit.now.flops → spec.value_at cells.new.values c ≡ acted (cell_at (map cell_of circuit.now.flops) c).forces net.0 value (spec.value_at cells.old.values c) }
 {
     for cell in list_of(&circuit.followers, net) {
         let place = *cell as usize;

@@ -31,7 +31,7 @@ fn list_forces(circuit: &Circuit, marked: &mut [bool], list: &mut [NetId]) -> us
     requires marked { length marked.old ≡ length circuit.now.ops }
     requires list { length list.old ≡ length circuit.now.ops }
     ensures room { result ≤ length list.new }
-    ensures all { (c k : ℕ) → c < length circuit.now.flops → k < length circuit.now.ops → Has (force_nets (cell_at (map cell_of circuit.now.flops) c).force) k → Has (numbers_of (take result list.new)) k }
+    ensures all { (c k : ℕ) → c < length circuit.now.flops → k < length circuit.now.ops → Has (force_nets (cell_at (map cell_of circuit.now.flops) c).forces) k → Has (numbers_of (take result list.new)) k }
     ensures clear { (k : ℕ) → is_up marked.new k ≡ false }
 {
     mark_forces(&circuit.flops, marked);
@@ -52,7 +52,7 @@ fn list_enables(
     requires marked { length marked.old ≡ length circuit.now.ops }
     requires list { length list.old ≡ length circuit.now.ops }
     ensures room { result ≤ length list.new }
-    ensures all { (c k : ℕ) → c < length circuit.now.flops → k < length circuit.now.ops → Has (scan_needs true (cell_at (map cell_of circuit.now.flops) c).scan) k → Has (numbers_of (take result list.new)) k }
+    ensures all { (c k : ℕ) → c < length circuit.now.flops → k < length circuit.now.ops → Has (scan_needs true (cell_at (map cell_of circuit.now.flops) c).takes.scan) k → Has (numbers_of (take result list.new)) k }
 {
     mark_entries(&circuit.flops, entries, marked);
     list_marked(circuit, marked, list)

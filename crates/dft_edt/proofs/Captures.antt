@@ -1,26 +1,24 @@
 -- The capture, by rank of the original's nets, in the rises and then in the falls.
-use Rattle.std.proofs.Common.{ℕ, zero, suc, Bool, true, false, ◌&&◌, List, [], ◌∷◌, ◌≡◌, ◌==◌, ◌<◌, inl, inr, refl, sym, subst, ap, arith, map, ◌∙◌, Option, None, Some}
+use Rattle.std.proofs.Common.{ℕ, zero, suc, Bool, true, false, ◌&&◌, List, [], ◌∷◌, ◌≡◌, ◌==◌, ◌<◌, inl, inr, option_map, refl, sym, subst, ap, arith, map, ◌∙◌, Option, None, Some}
 use Rattle.std.specs.Prelude.{if◌then◌else◌}
 use Rattle.std.proofs.lemmas.Bool.{eq-eqb, eqb-true, and_parts}
 use Rattle.dft_base.specs.declared.tri.Tri.{Tri}
 use Rattle.dft_base.specs.declared.tri.Tri.TheVariants.{Zero, Unknown}
 use Rattle.dft_base.specs.Tri.{known, AboveTri}
 use Rattle.dft_cells.specs.Gates.{bit_of}
-use Rattle.dft_cells.specs.FlipFlops.{tri_chosen}
+use Rattle.dft_cells.specs.FlipFlops.{Forces, moved_forces, taken_from, tri_taken_by, tri_forced_where, tri_forced_by}
 use Rattle.dft_cells.proofs.Completions.{above_self, trans, AllOver, shared_monotone, forced_monotone}
-use Rattle.dft_cells.proofs.TriLemmas.{chosen_zero}
+use Rattle.dft_cells.proofs.TakesLemmas.{left_twice, left_monotone}
 use Rattle.dft_netlist.specs.Drivers.{Source, Net, Tied, Loose, nets_of, AreBelow}
-use Rattle.dft_behavior.specs.Logic.{Logic, Meaning, Input, Clock, Gate, Joined, Flop, Lockup, Free, Force, Scan, reads, IsRanked}
+use Rattle.dft_behavior.specs.Logic.{Logic, Meaning, Input, Clock, Gate, Joined, Flop, Lockup, Free, reads, IsRanked}
 use Rattle.dft_behavior.specs.Settled.{TriSources, value_from, value_given, IsTriSettled}
 use Rattle.dft_behavior.specs.Runs.{Vector, takes}
 use Rattle.dft_behavior.proofs.SettledLemmas.{value_at}
 use Rattle.dft_behavior.proofs.Meanings.{pin_monotone}
-use Rattle.dft_abstract.specs.Cycle.{Pulse, tri_forced_by, tri_taken_by, changes, clock_value, view_sources, AreViews, next_value, after_pulse, rise_of, fall_of, strobe_sources}
+use Rattle.dft_abstract.specs.Cycle.{Pulse, changes, clock_value, view_sources, AreViews, next_value, after_pulse, rise_of, fall_of, strobe_sources}
 use Rattle.dft_abstract.specs.Laws.{next_from}
-use Rattle.dft_abstract.proofs.Forces.{by_twice}
 use Rattle.dft_abstract.proofs.OneDomain.{flop_old}
-use Rattle.dft_abstract.proofs.Least.{forced_by_monotone}
-use Rattle.dft_chains.specs.ScanOff.{moved_source, moved_force, moved_meaning, Places, IsWithin, IsForceWithin, IsEnabledBy, KeepsFlop}
+use Rattle.dft_chains.specs.ScanOff.{moved_source, moved_meaning, Places, IsWithin, AreForcesWithin, AllOf, KeepsFlop}
 use Rattle.dft_edt.specs.Captures.{Covers, ContainingCovers, WideningCovers, StandsOver, StrobeLaw, AllIn, IsClockFree, IsCapture, after_edge, CaptureLaw}
 use Rattle.dft_chains.proofs.Staying.{net_stays}
 
@@ -118,17 +116,22 @@ clear_open l free net Free clear among is = tt
 
 -- ---- flip-flops
 
-forced_over : (p : Places) (f : Option Force) (a b : ℕ → Tri) (t u : Tri) → IsForceWithin p.size f → ((net : ℕ) → net < p.size → AboveTri (a net) (b (p.moved net))) → AboveTri t u → AboveTri (tri_forced_by f a t) (tri_forced_by (moved_force p.moved f) b u)
-forced_over p None a b t u inside over h = h
-forced_over p (Some force) a b t u inside over h = forced_monotone force.value (a force.port) (b (p.moved force.port)) t u (over force.port inside) h
+forced_where_over : (p : Places) (value : Bool) (pin : Option ℕ) (a b : ℕ → Tri) (t u : Tri) → ((port : ℕ) → pin ≡ Some port → AboveTri (a port) (b (p.moved port))) → AboveTri t u →
+    AboveTri (tri_forced_where value pin a t) (tri_forced_where value (option_map p.moved pin) b u)
+forced_where_over p value None a b t u over h = h
+forced_where_over p value (Some port) a b t u over h = forced_monotone value (a port) (b (p.moved port)) t u (over port refl) h
+
+forced_over : (p : Places) (forces : Forces ℕ) (a b : ℕ → Tri) (t u : Tri) → AreForcesWithin p.size forces → ((net : ℕ) → net < p.size → AboveTri (a net) (b (p.moved net))) → AboveTri t u → AboveTri (tri_forced_by forces a t) (tri_forced_by (moved_forces p.moved forces) b u)
+forced_over p forces a b t u inside over h =
+    forced_where_over p false forces.clear a b _ _ (λ port is. over port (inside port (inl is))) (forced_where_over p true forces.preset a b t u (λ port is. over port (inside port (inr is))) h)
 
 -- what stands before a pulse
 old_over : (original written : Logic) (p : Places) (y x : Vector) (its old : ℕ → Tri) → Covers original written p → StandsOver p y x its old → (cell : ℕ) → p.is_flop cell ≡ true →
     AboveTri ((rise_of original y its).old cell) ((rise_of written x old).old cell)
 old_over original written p y x its old has over cell is =
     let kept : KeepsFlop p (original.cell cell) (written.cell cell) = has.flops cell is in
-    subst (λ t. AboveTri ((rise_of original y its).old cell) t) (sym (ap (λ (f : Option Force). tri_forced_by f x.ports (old cell)) kept.force))
-    (forced_over p (original.cell cell).force y.ports x.ports (its cell) (old cell) kept.force_within over.ports (over.flops cell is))
+    subst (λ t. AboveTri ((rise_of original y its).old cell) t) (sym (ap (λ (f : Forces ℕ). tri_forced_by f x.ports (old cell)) kept.forces))
+    (forced_over p (original.cell cell).forces y.ports x.ports (its cell) (old cell) kept.forces_within over.ports (over.flops cell is))
 
 pub strobe_law : StrobeLaw
 strobe_law original written rank p y x its old values shows ranked has over settled its_settled net inside =
@@ -146,22 +149,25 @@ view_clock true true h = tt
 view_clock true false h = absurd (let q : false ≡ true = h refl in cc)
 view_clock false is h = tt
 
--- a scan enable that is 0 leaves D
-taken_off : (port : ℕ) (scan : Option Scan) (at : Source → Tri) (t : Tri) → IsEnabledBy port scan → at (Net port) ≡ Zero → tri_taken_by scan at t ≡ t
-taken_off port None at t enabled off = refl
-taken_off port (Some scan) at t enabled off = ap (λ e. tri_chosen (at e) (at scan.input) t) enabled ∙ ap (λ e. tri_chosen e (at scan.input) t) off ∙ chosen_zero (at scan.input) t
-
 -- a flip-flop that takes its bit in a phase of its domain
 cell_after : (l : Logic) (q : Pulse) (view : ℕ → ℕ → Tri) (c d : ℕ) → (l.cell c).domain ≡ d → changes l q c ≡ true →
-    after_pulse l q view c ≡ tri_forced_by (l.cell c).force q.ports (tri_taken_by (l.cell c).scan (value_from (view d)) (value_from (view d) (l.cell c).input))
+    after_pulse l q view c ≡ tri_forced_by (l.cell c).forces q.ports (tri_taken_by (l.cell c).takes (q.old c) (value_from (view d)))
 cell_after l q view c d here turn =
     ap (λ (b : Bool). if b then next_value l q view c else q.old c) turn
-    ∙ ap (λ (e : ℕ). tri_forced_by (l.cell c).force q.ports (tri_taken_by (l.cell c).scan (value_from (view e)) (value_from (view e) (l.cell c).input))) here
+    ∙ ap (λ (e : ℕ). tri_forced_by (l.cell c).forces q.ports (tri_taken_by (l.cell c).takes (q.old c) (value_from (view e)))) here
 
-within_source : (p : Places) (free : ℕ → Bool) (a b : ℕ → Tri) → ((net : ℕ) → net < p.size → free net ≡ true → AboveTri (a net) (b (p.moved net))) → (source : Source) → IsWithin p.size source → AllIn free (nets_of (source ∷ [])) → AboveTri (value_from a source) (value_from b (moved_source p.moved source))
-within_source p free a b over (Net net) inside among = over net inside among.0
-within_source p free a b over (Tied bit) inside among = above_self (known bit)
-within_source p free a b over (Loose i pin) inside among = tt
+within_source : (p : Places) (free : ℕ → Bool) (a b : ℕ → Tri) → ((net : ℕ) → net < p.size → free net ≡ true → AboveTri (a net) (b (p.moved net))) → (source : Source) (rest : List Source) → IsWithin p.size source → AllIn free (nets_of (source ∷ rest)) →
+    AboveTri (value_from a source) (value_from b (moved_source p.moved source)) × AllIn free (nets_of rest)
+within_source p free a b over (Net net) rest inside among = (over net inside among.0, among.1)
+within_source p free a b over (Tied bit) rest inside among = (above_self (known bit), among)
+within_source p free a b over (Loose i pin) rest inside among = (tt, among)
+
+within_sources : (p : Places) (free : ℕ → Bool) (a b : ℕ → Tri) → ((net : ℕ) → net < p.size → free net ≡ true → AboveTri (a net) (b (p.moved net))) → (sources : List Source) → AllOf (IsWithin p.size) sources → AllIn free (nets_of sources) →
+    AllOf (λ source. AboveTri (value_from a source) (value_from b (moved_source p.moved source))) sources
+within_sources p free a b over [] inside among = tt
+within_sources p free a b over (source ∷ sources) inside among =
+    let first = within_source p free a b over source sources inside.0 among in
+    (first.0, within_sources p free a b over sources inside.1 first.1)
 
 -- a phase of a vector
 abbrev phase : Vector → (rising : Bool) → (before : ℕ → Tri) → Pulse
@@ -207,26 +213,25 @@ module _ (original written : Logic) (rank : ℕ → ℕ) (p : Places) (d : ℕ) 
   low = value_at written (view_sources written q poss view e) (view e) p.enable Input (views e) has.enable ∙ capture.off
 
   -- a flip-flop that takes its bit
-  taken : (cell : ℕ) → p.is_flop cell ≡ true → (original.cell cell).domain ≡ d → takes rising (original.cell cell).falling ≡ true → AllIn free (nets_of ((original.cell cell).input ∷ [])) → AboveTri (next_from original y values cell) (after_pulse written q view cell)
-  taken cell is own edge among =
+  taken : (cell : ℕ) (had : Tri) → p.is_flop cell ≡ true → AboveTri had (before cell) → (original.cell cell).domain ≡ d → takes rising (original.cell cell).falling ≡ true → AllIn free (nets_of (taken_from (original.cell cell).takes)) →
+      AboveTri (next_from original y values had cell) (after_pulse written q view cell)
+  taken cell had is above own edge among =
       let kept : KeepsFlop p (original.cell cell) (written.cell cell) = has.flops cell is in
       let domain : (written.cell cell).domain ≡ e = kept.domain ∙ ap p.moved own in
       let turn : changes written q cell ≡ true = (λ i. x.pulsed (domain i) && takes rising (kept.falling i)) ∙ (λ i. capture.pulsed i && edge i) in
-      let new : after_pulse written q view cell ≡ tri_forced_by (moved_force p.moved (original.cell cell).force) x.ports (at (moved_source p.moved (original.cell cell).input)) =
-      cell_after written q view cell e domain turn ∙ ap (λ (f : Option Force). tri_forced_by f x.ports (tri_taken_by (written.cell cell).scan at (at (written.cell cell).input))) kept.force
-      ∙ ap (tri_forced_by (moved_force p.moved (original.cell cell).force) x.ports) (taken_off p.enable (written.cell cell).scan at (at (written.cell cell).input) kept.scan low ∙ ap at kept.input) in
-      same_over (next_from original y values cell) (tri_forced_by (original.cell cell).force y.ports (value_from values (original.cell cell).input)) (after_pulse written q view cell)
-      (tri_forced_by (moved_force p.moved (original.cell cell).force) x.ports (at (moved_source p.moved (original.cell cell).input)))
-      (ap (λ (s : Option Scan). tri_forced_by (original.cell cell).force y.ports (tri_taken_by s (value_from values) (value_from values (original.cell cell).input))) kept.plain) new
-      (forced_over p (original.cell cell).force y.ports x.ports (value_from values (original.cell cell).input) (at (moved_source p.moved (original.cell cell).input)) kept.force_within ports
-      (within_source p free values (view e) seen (original.cell cell).input kept.input_within among))
+      let next : Tri = tri_taken_by (written.cell cell).takes (before cell) at in
+      let new : after_pulse written q view cell ≡ tri_forced_by (moved_forces p.moved (original.cell cell).forces) x.ports next =
+      cell_after written q view cell e domain turn ∙ ap (λ (f : Forces ℕ). tri_forced_by f x.ports next) kept.forces in
+      subst (AboveTri (next_from original y values had cell)) (sym new)
+      (forced_over p (original.cell cell).forces y.ports x.ports (tri_taken_by (original.cell cell).takes had (value_from values)) next kept.forces_within ports
+      (kept.below (before cell) had at (value_from values) above low (within_sources p free values (view e) seen (taken_from (original.cell cell).takes) kept.within among)))
 
   -- each flip-flop after the phase, from what it had before
   edge_by : (cell : ℕ) (b : Bool) (had : Tri) → p.is_flop cell ≡ true → (((original.cell cell).domain == d) && takes rising (original.cell cell).falling) ≡ b → AboveTri had (before cell)
-      → (takes rising (original.cell cell).falling ≡ true → AllIn free (nets_of ((original.cell cell).input ∷ []))) → AboveTri (if b then next_from original y values cell else had) (after_pulse written q view cell)
+      → (takes rising (original.cell cell).falling ≡ true → AllIn free (nets_of (taken_from (original.cell cell).takes))) → AboveTri (if b then next_from original y values had cell else had) (after_pulse written q view cell)
   edge_by cell true had is test above among =
       let both = and_parts ((original.cell cell).domain == d) (takes rising (original.cell cell).falling) test in
-      taken cell is (eqb-true (original.cell cell).domain d both.0) both.1 (among both.1)
+      taken cell had is above (eqb-true (original.cell cell).domain d both.0) both.1 (among both.1)
   edge_by cell false had is test above among =
       subst (λ t. AboveTri had t) (sym (pick_false (changes written q cell) (next_value written q view cell) (before cell) (λ ch. (
       let both = and_parts (x.pulsed (written.cell cell).domain) (takes rising (written.cell cell).falling) ch in
@@ -235,13 +240,13 @@ module _ (original written : Logic) (rank : ℕ → ℕ) (p : Places) (d : ℕ) 
       let never : true ≡ false = sym (λ i. own i && edge i) ∙ test in
       cc)))) above
 
-  edge_over : (cell : ℕ) (had : ℕ → Tri) → p.is_flop cell ≡ true → AboveTri (had cell) (before cell) → (takes rising (original.cell cell).falling ≡ true → AllIn free (nets_of ((original.cell cell).input ∷ []))) → AboveTri (after_edge original y d rising values had cell) (after_pulse written q view cell)
+  edge_over : (cell : ℕ) (had : ℕ → Tri) → p.is_flop cell ≡ true → AboveTri (had cell) (before cell) → (takes rising (original.cell cell).falling ≡ true → AllIn free (nets_of (taken_from (original.cell cell).takes))) → AboveTri (after_edge original y d rising values had cell) (after_pulse written q view cell)
   edge_over cell had is above among = edge_by cell (((original.cell cell).domain == d) && takes rising (original.cell cell).falling) (had cell) is refl above among
 
 -- ---- the rise and the fall
 
-forced_edge : (b : Bool) (f : Option Force) (ports : ℕ → Tri) (t old : Tri) → tri_forced_by f ports (if b then tri_forced_by f ports t else old) ≡ (if b then tri_forced_by f ports t else tri_forced_by f ports old)
-forced_edge true f ports t old = by_twice f ports t
+forced_edge : (b : Bool) (f : Forces ℕ) (ports : ℕ → Tri) (t old : Tri) → tri_forced_by f ports (if b then tri_forced_by f ports t else old) ≡ (if b then tri_forced_by f ports t else tri_forced_by f ports old)
+forced_edge true f ports t old = left_twice f ports t
 forced_edge false f ports t old = refl
 
 pub capture_law : CaptureLaw
@@ -251,14 +256,14 @@ capture_law original written rank p d y x its risen old h values later free rank
     let own : (c : ℕ) → p.is_flop c ≡ true → AboveTri ((rise_of original y its).old c) (before c) = old_over original written p y x its old has over in
     let up : (c : ℕ) → p.is_flop c ≡ true → AboveTri (after_edge original y d true values (rise_of original y its).old c) (between c) = λ c flop.
     edge_over original written rank p d y x ranked has capture over.ports true before h.rise.poss h.rise.view halves.rise its values caught.first own all (λ k o. all_open (original.net k))
-    (λ k o is_clock. view_clock (x.pulsed (p.moved k)) (p.moved k == p.moved d) (λ on. eq-eqb (p.moved k) (p.moved d) (ap p.moved (capture.alone k on)))) c (rise_of original y its).old flop (own c flop) (λ t. all_in (nets_of ((original.cell c).input ∷ []))) in
+    (λ k o is_clock. view_clock (x.pulsed (p.moved k)) (p.moved k == p.moved d) (λ on. eq-eqb (p.moved k) (p.moved d) (ap p.moved (capture.alone k on)))) c (rise_of original y its).old flop (own c flop) (λ t. all_in (nets_of (taken_from (original.cell c).takes))) in
     let moved : (c : ℕ) → p.is_flop c ≡ true → AboveTri ((rise_of original y risen).old c) (between c) = λ c flop. (
-    let f : Option Force = (original.cell c).force in
-    let next : Tri = tri_taken_by (original.cell c).scan (value_from values) (value_from values (original.cell c).input) in
+    let f : Forces ℕ = (original.cell c).forces in
+    let next : Tri = tri_taken_by (original.cell c).takes (its c) (value_from values) in
     let same : tri_forced_by f y.ports (after_edge original y d true values its c) ≡ after_edge original y d true values (rise_of original y its).old c =
     forced_edge (((original.cell c).domain == d) && takes true (original.cell c).falling) f y.ports next (its c) in
     trans (tri_forced_by f y.ports (risen c)) (after_edge original y d true values (rise_of original y its).old c) (between c)
-    (subst (λ t. AboveTri (tri_forced_by f y.ports (risen c)) t) same (forced_by_monotone f y.ports (risen c) (after_edge original y d true values its c) (caught.above c))) (up c flop)) in
+    (subst (λ t. AboveTri (tri_forced_by f y.ports (risen c)) t) same (left_monotone f y.ports y.ports (risen c) (after_edge original y d true values its c) (λ k. above_self (y.ports k)) (caught.above c))) (up c flop)) in
     edge_over original written rank p d y x ranked has capture over.ports false between h.fall.poss h.fall.view halves.fall risen later caught.second moved free (λ k o. clear_open original free k (original.net k) clear o refl)
     (λ k o is_clock. absurd (clear.clocks k o is_clock)) cell (after_edge original y d true values (rise_of original y its).old) is (up cell is) among
 

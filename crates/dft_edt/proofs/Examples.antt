@@ -1,5 +1,5 @@
 -- The small design has the hardware.
-use Rattle.std.proofs.Common.{ℕ, zero, suc, ◌≡◌, ◌<◌, Some, [], ◌∷◌, refl, subst, arith, sym, ap, ◌∙◌, Bool, false}
+use Rattle.std.proofs.Common.{ℕ, zero, suc, ◌≡◌, ◌<◌, Some, inl, inr, [], ◌∷◌, refl, subst, arith, sym, ap, ◌∙◌, Bool, false}
 use Rattle.std.proofs.lemmas.Option.{none-some, same_Some}
 use Rattle.dft_netlist.specs.declared.ids.InstanceId.{InstanceId}
 use Rattle.std.specs.Prelude.{◌&&◌, not, IsTrue, List}
@@ -7,10 +7,12 @@ use Rattle.std.specs.List.{All, list_any}
 use Rattle.dft_base.specs.Words.{is_simple_name, is_later_reserved, reserved_words, later_reserved_words}
 use Rattle.dft_config.specs.declared.config.Injector.{Injector}
 use Rattle.dft_config.specs.Range.{has, same_number, names_of, IsSet, IsInRange}
-use Rattle.dft_behavior.specs.Logic.{IsRanked, Meaning, Lockup, lockup_cell, reads}
+use Rattle.dft_cells.specs.FlipFlops.{no_forces}
+use Rattle.dft_cells.proofs.TakesLemmas.{taken_on}
+use Rattle.dft_behavior.specs.Logic.{Ports, Cell, IsRanked, Meaning, Lockup, lockup_cell, reads}
 use Rattle.dft_netlist.specs.Drivers.{Source, Net, AreBelow}
 use Rattle.dft_stitch.specs.Plans.{cell_at}
-use Rattle.dft_chains.specs.Hardware.{IsScanCell, Leads, ByLockup}
+use Rattle.dft_chains.specs.Hardware.{ActByPorts, IsScanCell, Leads, ByLockup}
 use Rattle.dft_edt.specs.Hardware.{HasStage, HasPhase, HasRing, HasEnd, HasOutput, HasCompactor, before_in}
 use Rattle.dft_config.specs.Segments.{segment_length}
 use Rattle.dft_parts.specs.SumTrees.{Term, Joined}
@@ -96,9 +98,29 @@ stored_at (suc (suc (suc (suc (suc (suc (suc (suc (suc (suc (suc (suc (suc (suc 
 ranked : IsRanked small (λ net. net)
 ranked = record { order = order; lockups = stored_at }
 
+unforced : (ports : Ports) → ActByPorts ports no_forces
+unforced ports port (inl is) = absurd cc
+unforced ports port (inr is) = absurd cc
+
+first_cell : IsScanCell small small_ports 0 (Net 14) 3
+first_cell = record {
+  takes = λ own values on. taken_on (small.cell 3).takes (record { enable = Net 0; input = Net 14 }) own values refl on;
+  modelled = λ none. (let off : 4 ≡ 0 = ap (λ (c : Cell). c.domain) none in absurd cc);
+  domain = refl;
+  forces = unforced small_ports;
+}
+
+second_cell : IsScanCell small small_ports 0 (Net 16) 5
+second_cell = record {
+  takes = λ own values on. taken_on (small.cell 5).takes (record { enable = Net 0; input = Net 16 }) own values refl on;
+  modelled = λ none. (let off : 5 ≡ 0 = ap (λ (c : Cell). c.domain) none in absurd cc);
+  domain = refl;
+  forces = unforced small_ports;
+}
+
 scan_cell : (chain place : ℕ) (cell : InstanceId) → cell_at small_chains chain place ≡ Some cell → IsScanCell small small_ports 0 (small_scan.into chain place) cell.0
-scan_cell zero zero cell is = subst (λ (c : InstanceId). IsScanCell small small_ports 0 (small_scan.into 0 0) c.0) (same_Some (record { 0 = 3 }) cell is) (record { scan = refl; domain = refl; force = tt })
-scan_cell zero (suc zero) cell is = subst (λ (c : InstanceId). IsScanCell small small_ports 0 (small_scan.into 0 1) c.0) (same_Some (record { 0 = 5 }) cell is) (record { scan = refl; domain = refl; force = tt })
+scan_cell zero zero cell is = subst (λ (c : InstanceId). IsScanCell small small_ports 0 (small_scan.into 0 0) c.0) (same_Some (record { 0 = 3 }) cell is) first_cell
+scan_cell zero (suc zero) cell is = subst (λ (c : InstanceId). IsScanCell small small_ports 0 (small_scan.into 0 1) c.0) (same_Some (record { 0 = 5 }) cell is) second_cell
 scan_cell zero (suc (suc place)) cell is = absurd (none-some cell is)
 scan_cell (suc chain) place cell is = absurd (none-some cell is)
 

@@ -61,7 +61,7 @@ stage_in_falls : (l : Logic) (rank : ℕ → ℕ) (ports : Ports) (config : Conf
 stage_in_falls l rank ports config chains w hw x now t ranked has low turn i less =
     known_after_falls l rank x now t ranked low turn (hw.stage i) ((after_rises l x now t).state.flops (hw.stage i))
     (λ old h own are. rests l (falls_from x old) h.view (hw.stage i) (stage_falls l ports config chains w hw x old has i less)
-    ∙ own (hw.stage i) (ap (λ (c : Cell). c.force) (has.stages i less).flop.cell))
+    ∙ own (hw.stage i) (ap (λ (c : Cell). c.forces) (has.stages i less).flop.cell))
 
 -- a first cell has its chain's phase sum, of the stages before the vector or of those after it
 first_in_runs : (l : Logic) (rank : ℕ → ℕ) (ports : Ports) (config : Config) (chains : List (List InstanceId)) (w : ChainNets) (hw : EdtNets) (x : Vector) (now : Now) (t : Turn) (chain : ℕ) (cell : InstanceId) (falling : Bool) → IsRanked l rank →
@@ -77,7 +77,7 @@ first_in_runs l rank ports config chains w hw x now t chain cell true ranked has
     known_after_falls l rank x now t ranked low turn cell.0 (phase_sum config.ring chain s)
     (λ old half own are. first_falls l ports config chains w hw x old half chain cell has range shift are stands falls h
     ∙ phase_known config chain (λ k. old (hw.stage k)) s range
-    (λ k inside. own (hw.stage k) (ap (λ (c : Cell). c.force) (has.stages k inside).flop.cell)
+    (λ k inside. own (hw.stage k) (ap (λ (c : Cell). c.forces) (has.stages k inside).flop.cell)
     ∙ ap known (sym (stage_in_falls l rank ports config chains w hw x now t ranked has low turn k inside))))
 
 pub shift_in_runs : ShiftInRuns

@@ -49,7 +49,7 @@ pub stage_values : StageValues
 stage_values l ports config chains w hw s values has settled i less =
     let h : HasStage l config.ring hw i = has.stages i less in
     let run = run_value l ports config chains w hw s values has settled in
-    let input = ap (λ (c : Cell). value_from values c.input) h.flop.cell ∙ value_at l s values h.kept (Gate And (Net h.sum ∷ Net hw.run ∷ [])) settled h.gate in (
+    let input = ap (λ (c : Cell). value_from values c.takes.input) h.flop.cell ∙ value_at l s values h.kept (Gate And (Net h.sum ∷ Net hw.run ∷ [])) settled h.gate in (
       λ zero_there. input ∙ ap (λ t. tri_of And (values h.sum ∷ t ∷ [])) (run ∙ ap (λ t. tri_of Inv (t ∷ [])) zero_there) ∙ and_one (values h.sum)
           ∙ sum_value l s values h.sum (map (at_feed hw.stage_net hw.channel) (feeds config.ring i)) settled h.sums
           ∙ ap tri_sum (at_feeds values hw.stage_net hw.channel (feeds config.ring i)),
@@ -95,14 +95,14 @@ hold_taken Unknown Unknown = refl
 
 hold_value : (l : Logic) (ports : Ports) (config : Config) (chains : List (List InstanceId)) (w : ChainNets) (hw : EdtNets) (s : TriSources) (values : ℕ → Tri) →
     HasRing l ports config chains w hw → HasCompactor l config chains hw → IsTriSettled l s values → (chain : ℕ) → chain < config.chains →
-    value_from values (l.cell (hw.hold chain)).input ≡ next_hold (values hw.update) (values (hw.mask_net chain)) (values (hw.hold_net chain))
+    value_from values (l.cell (hw.hold chain)).takes.input ≡ next_hold (values hw.update) (values (hw.mask_net chain)) (values (hw.hold_net chain))
 unfolding next_hold
 hold_value l ports config chains w hw s values has compactor settled chain less =
     let h : HasHold l hw chain = compactor.holds chain less in
     let run = run_value l ports config chains w hw s values has settled in
     let taken = value_at l s values h.taken (Gate And (Net hw.update ∷ Net (hw.mask_net chain) ∷ [])) settled h.take in
     let kept = value_at l s values h.kept (Gate And (Net hw.run ∷ Net (hw.hold_net chain) ∷ [])) settled h.keep ∙ ap (λ t. tri_of And (t ∷ values (hw.hold_net chain) ∷ [])) run in
-    ap (λ (c : Cell). value_from values c.input) h.flop.cell
+    ap (λ (c : Cell). value_from values c.takes.input) h.flop.cell
     ∙ value_at l s values h.next (Gate Or (Net h.taken ∷ Net h.kept ∷ [])) settled h.either
     ∙ (λ i. tri_of Or (taken i ∷ kept i ∷ []))
 
@@ -161,7 +161,7 @@ and_bit false false = refl
 pub stage_bits : StageBits
 stage_bits l ports config chains w hw s bits has settled i less =
     let h : HasStage l config.ring hw i = has.stages i less in
-    ap (λ (c : Cell). bit_from s bits c.input) h.flop.cell
+    ap (λ (c : Cell). bit_from s bits c.takes.input) h.flop.cell
     ∙ bit_at l s bits h.kept (Gate And (Net h.sum ∷ Net hw.run ∷ [])) settled h.gate
     ∙ and_bit (bits h.sum) (bits hw.run)
     ∙ (λ t. run_bit l ports config chains w hw s bits has settled t
@@ -188,7 +188,7 @@ hold_bits l ports config chains w hw s bits has compactor settled chain less =
     let taken = bit_at l s bits h.taken (Gate And (Net hw.update ∷ Net (hw.mask_net chain) ∷ [])) settled h.take in
     let kept = bit_at l s bits h.kept (Gate And (Net hw.run ∷ Net (hw.hold_net chain) ∷ [])) settled h.keep
     ∙ ap (λ t. bit_of And (t ∷ bits (hw.hold_net chain) ∷ [])) (run_bit l ports config chains w hw s bits has settled) in
-    ap (λ (c : Cell). bit_from s bits c.input) h.flop.cell
+    ap (λ (c : Cell). bit_from s bits c.takes.input) h.flop.cell
     ∙ bit_at l s bits h.next (Gate Or (Net h.taken ∷ Net h.kept ∷ [])) settled h.either
     ∙ (λ i. bit_of Or (taken i ∷ kept i ∷ []))
     ∙ next_bit (bits hw.update) (bits (hw.mask_net chain)) (bits (hw.hold_net chain))

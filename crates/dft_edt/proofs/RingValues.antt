@@ -21,7 +21,7 @@ pub ring_bits : RingBits
 ring_bits l config hw phase_nets s bits has settled = (
   (λ stage less.
       (let h : HasStage l config.ring hw stage = has.stages stage less in
-      ap (λ (c : Cell). bit_from s bits c.input) h.flop.cell
+      ap (λ (c : Cell). bit_from s bits c.takes.input) h.flop.cell
       ∙ bit_at l s bits h.kept (Gate And (Net h.sum ∷ Net hw.run ∷ [])) settled h.gate
       ∙ and_bit (bits h.sum) (bits hw.run)
       ∙ ap (λ (b : Bool). bits hw.run && b)
@@ -40,7 +40,7 @@ ring_values l config hw phase_nets s values has settled = (
   (λ stage less.
       (let h : HasStage l config.ring hw stage = has.stages stage less in
       let run = value_at l s values hw.run (Gate Inv (Net hw.update ∷ [])) settled has.run in
-      let input = ap (λ (c : Cell). value_from values c.input) h.flop.cell ∙ value_at l s values h.kept (Gate And (Net h.sum ∷ Net hw.run ∷ [])) settled h.gate in (
+      let input = ap (λ (c : Cell). value_from values c.takes.input) h.flop.cell ∙ value_at l s values h.kept (Gate And (Net h.sum ∷ Net hw.run ∷ [])) settled h.gate in (
         (λ zero_there. input ∙ ap (λ t. tri_of And (values h.sum ∷ t ∷ [])) (run ∙ ap (λ t. tri_of Inv (t ∷ [])) zero_there) ∙ and_one (values h.sum)
             ∙ sum_value l s values h.sum (map (at_feed hw.stage_net hw.channel) (feeds config.ring stage)) settled h.sums
             ∙ ap tri_sum (at_feeds values hw.stage_net hw.channel (feeds config.ring stage))),

@@ -26,7 +26,7 @@ is_net _ = ⊥
 flop_stays : (l m : Logic) (clock flop output input : ℕ) → MeansMore l m → IsFlop l clock flop output input → IsFlop m clock flop output input
 flop_stays l m clock flop output input more is = record {
   cell = elim (more.cells flop) [
-    | inl none ↦ absurd (subst is_net (sym (ap (λ (c : Cell). c.input) is.cell) ∙ ap (λ (c : Cell). c.input) none) tt)
+    | inl none ↦ absurd (subst is_net (sym (ap (λ (c : Cell). c.takes.input) is.cell) ∙ ap (λ (c : Cell). c.takes.input) none) tt)
     | inr same ↦ same ∙ is.cell
   ];
   net = net_stays l m output (Flop flop false) more is.net (λ free. free);
@@ -54,7 +54,7 @@ phase_stays l m ring hw into falling chain more h = record {
 
 pub heads_stay : (l m : Logic) (ports : Ports) (config : Config) (chains : List (List InstanceId)) (w : ChainNets) (hw : EdtNets) (falling : ℕ → Bool) → MeansMore l m → HasRing l ports config chains w hw → HeadsAre l chains falling → HeadsAre m chains falling
 heads_stay l m ports config chains w hw falling more h heads chain cell stands =
-    ap (λ (c : Cell). c.falling) (cell_stays l m cell.0 (record { enable = Net w.enable; input = w.into chain zero }) more (h.chained.cells chain zero cell stands).scan) ∙ heads chain cell stands
+    ap (λ (c : Cell). c.falling) (cell_stays l m cell.0 more (h.chained.cells chain zero cell stands).modelled) ∙ heads chain cell stands
 
 ring_stays : (l m : Logic) (ports : Ports) (config : Config) (chains : List (List InstanceId)) (w : ChainNets) (hw : EdtNets) → MeansMore l m → HasRing l ports config chains w hw → HasRing m ports config chains w hw
 ring_stays l m ports config chains w hw more h = record {
@@ -65,7 +65,7 @@ ring_stays l m ports config chains w hw more h = record {
   run = net_stays l m hw.run (Gate Inv (Net hw.update ∷ [])) more h.run (λ free. free);
   stages = λ i less. stage_stays l m config.ring hw i more (h.stages i less);
   phases = λ chain cell stands. (
-      let same = cell_stays l m cell.0 (record { enable = Net w.enable; input = w.into chain zero }) more (h.chained.cells chain zero cell stands).scan in
+      let same = cell_stays l m cell.0 more (h.chained.cells chain zero cell stands).modelled in
       phase_stays l m config.ring hw (w.into chain zero) (m.cell cell.0).falling chain more
       (subst (λ (c : Cell). HasPhase l config.ring hw (w.into chain zero) c.falling chain) (sym same) (h.phases chain cell stands)));
 }

@@ -4,6 +4,7 @@ use Rattle.dft_base.specs.declared.tri.Tri.{Tri}
 use Rattle.dft_base.specs.declared.tri.Tri.TheVariants.{Zero}
 use Rattle.dft_base.specs.Tri.{AboveTri}
 use Rattle.dft_cells.specs.declared.kind.Gate.{Gate as GateKind}
+use Rattle.dft_cells.specs.FlipFlops.{taken_from}
 use Rattle.dft_netlist.specs.Drivers.{Source, nets_of, AreBelow}
 use Rattle.dft_behavior.specs.Logic.{Logic, Input, Clock, Gate, Joined, Flop, Lockup, Free, reads, IsRanked}
 use Rattle.dft_behavior.specs.Settled.{IsTriSettled}
@@ -63,9 +64,9 @@ pub record IsClockFree (l : Logic) (free : ℕ → Bool) : Type 0 where
   pub gates : (net : ℕ) (kind : GateKind) (inputs : List Source) → free net ≡ true → l.net net ≡ Gate kind inputs → AllIn free (nets_of inputs)
   pub joins : (net : ℕ) (source : Source) → free net ≡ true → l.net net ≡ Joined source → AllIn free (nets_of (source ∷ []))
 
--- the flip-flops' values after an edge of a domain's clock: those that take a bit there have their next values, from these values of nets
+-- the flip-flops' values after an edge of a domain's clock: those that take a bit there have their next values, from their own and these of nets
 abbrev pub after_edge : Logic → Vector → (domain : ℕ) → (rising : Bool) → (values old : ℕ → Tri) → (cell : ℕ) → Tri
-after_edge l y d rising values old c = if ((l.cell c).domain == d) && takes rising (l.cell c).falling then next_from l y values c else old c
+after_edge l y d rising values old c = if ((l.cell c).domain == d) && takes rising (l.cell c).falling then next_from l y values (old c) c else old c
 
 -- What a capture of a domain knows of the original: the values that are settled before its clock rises, and those that are settled before it falls,
 -- where no more is known of the flip-flops than what they have once it has risen. Clocks are 0 in both.
@@ -75,10 +76,10 @@ pub record IsCaptured (l : Logic) (d : ℕ) (y : Vector) (its risen values later
   pub second : IsTriSettled l (strobe_sources l y risen later) later
 
 -- After a capture vector, whatever the halves: a rising flip-flop of the domain has no more than its next value from the values before the rise, a
--- falling one whose D no clock reaches no more than its next value from those before the fall, and another one no more than what it had.
+-- falling one that takes nothing which a clock reaches no more than its next value from those before the fall, and another one no more than what it had.
 abbrev pub CaptureLaw : Type 0
 CaptureLaw =
     (original written : Logic) (rank : ℕ → ℕ) (p : Places) (d : ℕ) (y x : Vector) (its risen old : ℕ → Tri) (h : Halves) (values later : ℕ → Tri) (free : ℕ → Bool) →
     IsRanked original rank → Covers original written p → IsClockFree original free → IsCapture p d x → StandsOver p y x its old → IsCaptured original d y its risen values later →
-    AreHalves written x old h → (cell : ℕ) → p.is_flop cell ≡ true → ((original.cell cell).falling ≡ true → AllIn free (nets_of ((original.cell cell).input ∷ []))) →
+    AreHalves written x old h → (cell : ℕ) → p.is_flop cell ≡ true → ((original.cell cell).falling ≡ true → AllIn free (nets_of (taken_from (original.cell cell).takes))) →
     AboveTri (after_edge original y d false later (after_edge original y d true values (rise_of original y its).old) cell) (after_halves written x old h cell)

@@ -83,15 +83,15 @@ CompactorStands =
 abbrev pub CompactorBits : Type 0
 CompactorBits =
     (l : Logic) (config : Config) (hw : EdtNets) (s : Sources) (bits : ℕ → Bool) → HasCompactorParts l config hw → l.net hw.run ≡ Gate Inv (Net hw.update ∷ []) → IsInRange config → IsSettled l s bits →
-    ((m k : ℕ) → m < config.compactor.mask_inputs → k < segment_length config m → bit_from s bits (l.cell (hw.mask (chain_in config m k))).input ≡ bits (before_in config hw.mask_port hw.mask_net m k))
-    × ((chain : ℕ) → chain < config.chains → bit_from s bits (l.cell (hw.hold chain)).input ≡ (if bits hw.update then bits (hw.mask_net chain) else bits (hw.hold_net chain)))
+    ((m k : ℕ) → m < config.compactor.mask_inputs → k < segment_length config m → bit_from s bits (l.cell (hw.mask (chain_in config m k))).takes.input ≡ bits (before_in config hw.mask_port hw.mask_net m k))
+    × ((chain : ℕ) → chain < config.chains → bit_from s bits (l.cell (hw.hold chain)).takes.input ≡ (if bits hw.update then bits (hw.mask_net chain) else bits (hw.hold_net chain)))
     × ((j : ℕ) → j < length config.compactor.groups → bits (hw.output j) ≡ sum_of (λ chain. not (bits (hw.hold_net chain)) && bits (hw.end_net chain)) (group_of config j))
 
 -- So over three values; a chain whose hold bit is 1 counts as 0, whatever its end.
 abbrev pub CompactorValues : Type 0
 CompactorValues =
     (l : Logic) (config : Config) (hw : EdtNets) (s : TriSources) (values : ℕ → Tri) → HasCompactorParts l config hw → l.net hw.run ≡ Gate Inv (Net hw.update ∷ []) → IsInRange config → IsTriSettled l s values →
-    ((m k : ℕ) → m < config.compactor.mask_inputs → k < segment_length config m → value_from values (l.cell (hw.mask (chain_in config m k))).input ≡ values (before_in config hw.mask_port hw.mask_net m k))
+    ((m k : ℕ) → m < config.compactor.mask_inputs → k < segment_length config m → value_from values (l.cell (hw.mask (chain_in config m k))).takes.input ≡ values (before_in config hw.mask_port hw.mask_net m k))
     × ((chain : ℕ) → chain < config.chains →
-    (values hw.update ≡ Zero → value_from values (l.cell (hw.hold chain)).input ≡ values (hw.hold_net chain)) × (values hw.update ≡ One → value_from values (l.cell (hw.hold chain)).input ≡ values (hw.mask_net chain)))
+    (values hw.update ≡ Zero → value_from values (l.cell (hw.hold chain)).takes.input ≡ values (hw.hold_net chain)) × (values hw.update ≡ One → value_from values (l.cell (hw.hold chain)).takes.input ≡ values (hw.mask_net chain)))
     × ((j : ℕ) → j < length config.compactor.groups → values (hw.output j) ≡ tri_sum (map (λ chain. shown_by (values (hw.hold_net chain)) (values (hw.end_net chain))) (group_of config j)))

@@ -1,6 +1,7 @@
 -- A design that has the hardware: a ring of two stages, one channel, and one chain of two cells in two domains.
 use Rattle.std.specs.Prelude.{codes, ◌==◌, ◌||◌, false, List, [], ◌∷◌, get_or, None, Some}
 use Rattle.dft_cells.specs.declared.kind.Gate.TheVariants.{Buf, Inv, And, Or, Xor}
+use Rattle.dft_cells.specs.FlipFlops.{no_forces}
 use Rattle.dft_netlist.specs.declared.ids.InstanceId.{InstanceId}
 use Rattle.dft_netlist.specs.Drivers.{Net}
 use Rattle.dft_behavior.specs.Logic.{Logic, Ports, Cell, Meaning, Input, Clock, Gate, Flop, Lockup, Free, IsRanked, lockup_cell}
@@ -51,8 +52,8 @@ small_nets =
 abbrev pub small_cells : List Cell
 small_cells =
     plain_cell 3 10 ∷ plain_cell 3 12 ∷ lockup_cell 3 false (Net 13)
-    ∷ record { domain = 4; falling = false; input = Net 17; scan = Some (record { enable = Net 0; input = Net 14 }); force = None } ∷ lockup_cell 4 false (Net 15)
-    ∷ record { domain = 5; falling = false; input = Net 15; scan = Some (record { enable = Net 0; input = Net 16 }); force = None }
+    ∷ record { domain = 4; falling = false; takes = record { input = Net 17; scan = Some (record { enable = Net 0; input = Net 14 }) }; forces = no_forces } ∷ lockup_cell 4 false (Net 15)
+    ∷ record { domain = 5; falling = false; takes = record { input = Net 15; scan = Some (record { enable = Net 0; input = Net 16 }) }; forces = no_forces }
     ∷ plain_cell 3 6 ∷ plain_cell 3 22 ∷ []
 
 abbrev pub small : Logic

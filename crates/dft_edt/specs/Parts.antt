@@ -21,7 +21,7 @@ abbrev pub StageBits : Type 0
 StageBits =
     (l : Logic) (ports : Ports) (config : Config) (chains : List (List InstanceId)) (w : ChainNets) (hw : EdtNets) (s : Sources) (bits : ℕ → Bool) →
     HasRing l ports config chains w hw → IsSettled l s bits → (i : ℕ) → i < config.ring.stages →
-    bit_from s bits (l.cell (hw.stage i)).input ≡ (not (bits hw.update) && step config.ring (λ j. bits (hw.channel j)) (λ k. bits (hw.stage_net k)) i)
+    bit_from s bits (l.cell (hw.stage i)).takes.input ≡ (not (bits hw.update) && step config.ring (λ j. bits (hw.channel j)) (λ k. bits (hw.stage_net k)) i)
 
 -- A chain's phase net is its phase sum.
 abbrev pub PhaseBits : Type 0
@@ -35,7 +35,7 @@ abbrev pub HoldBits : Type 0
 HoldBits =
     (l : Logic) (ports : Ports) (config : Config) (chains : List (List InstanceId)) (w : ChainNets) (hw : EdtNets) (s : Sources) (bits : ℕ → Bool) →
     HasRing l ports config chains w hw → HasCompactor l config chains hw → IsSettled l s bits → (chain : ℕ) → chain < config.chains →
-    bit_from s bits (l.cell (hw.hold chain)).input ≡ (if bits hw.update then bits (hw.mask_net chain) else bits (hw.hold_net chain))
+    bit_from s bits (l.cell (hw.hold chain)).takes.input ≡ (if bits hw.update then bits (hw.mask_net chain) else bits (hw.hold_net chain))
 
 -- An output is the sum over its group of the ends whose hold bit is 0.
 abbrev pub OutputBits : Type 0
@@ -50,8 +50,8 @@ abbrev pub StageValues : Type 0
 StageValues =
     (l : Logic) (ports : Ports) (config : Config) (chains : List (List InstanceId)) (w : ChainNets) (hw : EdtNets) (s : TriSources) (values : ℕ → Tri) →
     HasRing l ports config chains w hw → IsTriSettled l s values → (i : ℕ) → i < config.ring.stages →
-    (values hw.update ≡ Zero → value_from values (l.cell (hw.stage i)).input ≡ tri_sum (map (at_feed (λ k. values (hw.stage_net k)) (λ j. values (hw.channel j))) (feeds config.ring i)))
-    × (values hw.update ≡ One → value_from values (l.cell (hw.stage i)).input ≡ Zero)
+    (values hw.update ≡ Zero → value_from values (l.cell (hw.stage i)).takes.input ≡ tri_sum (map (at_feed (λ k. values (hw.stage_net k)) (λ j. values (hw.channel j))) (feeds config.ring i)))
+    × (values hw.update ≡ One → value_from values (l.cell (hw.stage i)).takes.input ≡ Zero)
 
 abbrev pub PhaseValues : Type 0
 PhaseValues =
@@ -63,8 +63,8 @@ abbrev pub HoldValues : Type 0
 HoldValues =
     (l : Logic) (ports : Ports) (config : Config) (chains : List (List InstanceId)) (w : ChainNets) (hw : EdtNets) (s : TriSources) (values : ℕ → Tri) →
     HasRing l ports config chains w hw → HasCompactor l config chains hw → IsTriSettled l s values → (chain : ℕ) → chain < config.chains →
-    (values hw.update ≡ Zero → value_from values (l.cell (hw.hold chain)).input ≡ values (hw.hold_net chain))
-    × (values hw.update ≡ One → value_from values (l.cell (hw.hold chain)).input ≡ values (hw.mask_net chain))
+    (values hw.update ≡ Zero → value_from values (l.cell (hw.hold chain)).takes.input ≡ values (hw.hold_net chain))
+    × (values hw.update ≡ One → value_from values (l.cell (hw.hold chain)).takes.input ≡ values (hw.mask_net chain))
 
 -- what the compactor takes of a chain, by its hold bit
 abbrev pub shown_by : Tri → Tri → Tri

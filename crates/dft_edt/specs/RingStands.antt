@@ -78,7 +78,7 @@ RingStands =
 abbrev pub RingBits : Type 0
 RingBits =
     (l : Logic) (config : Config) (hw : EdtNets) (phase_nets : List NetId) (s : Sources) (bits : ℕ → Bool) → HasRingParts l config hw phase_nets → IsSettled l s bits →
-    ((stage : ℕ) → stage < config.ring.stages → bit_from s bits (l.cell (hw.stage stage)).input ≡ (bits hw.run && step config.ring (λ channel. bits (hw.channel channel)) (λ k. bits (hw.stage_net k)) stage))
+    ((stage : ℕ) → stage < config.ring.stages → bit_from s bits (l.cell (hw.stage stage)).takes.input ≡ (bits hw.run && step config.ring (λ channel. bits (hw.channel channel)) (λ k. bits (hw.stage_net k)) stage))
     × (bits hw.run ≡ not (bits hw.update)) × ((chain : ℕ) → chain < config.chains → bits (net_at phase_nets chain).0 ≡ phase_sum config.ring chain (λ k. bits (hw.stage_net k)))
 
 -- So over three values: a stage takes the sum of what feeds it where edt_update is 0, and 0 where it is 1.
@@ -86,6 +86,6 @@ abbrev pub RingValues : Type 0
 RingValues =
     (l : Logic) (config : Config) (hw : EdtNets) (phase_nets : List NetId) (s : TriSources) (values : ℕ → Tri) → HasRingParts l config hw phase_nets → IsTriSettled l s values →
     ((stage : ℕ) → stage < config.ring.stages →
-    (values hw.update ≡ Zero → value_from values (l.cell (hw.stage stage)).input ≡ tri_sum (map (at_feed (λ k. values (hw.stage_net k)) (λ j. values (hw.channel j))) (feeds config.ring stage)))
-    × (values hw.update ≡ One → value_from values (l.cell (hw.stage stage)).input ≡ Zero))
+    (values hw.update ≡ Zero → value_from values (l.cell (hw.stage stage)).takes.input ≡ tri_sum (map (at_feed (λ k. values (hw.stage_net k)) (λ j. values (hw.channel j))) (feeds config.ring stage)))
+    × (values hw.update ≡ One → value_from values (l.cell (hw.stage stage)).takes.input ≡ Zero))
     × ((chain : ℕ) → chain < config.chains → values (net_at phase_nets chain).0 ≡ tri_sum (map (λ k. values (hw.stage_net k)) (phase_of config.ring chain)))

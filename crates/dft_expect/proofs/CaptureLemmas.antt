@@ -121,8 +121,8 @@ some_capture n rank config chains merged loaded ordered =
 -- then nothing moves at the falls
 still : (l : Logic) (chains : List (List InstanceId)) (x : Vector) (values state : ℕ → Tri) (c : ℕ) → (l.cell c).falling ≡ false → after_edges l chains x false values state c ≡ state c
 still l chains x values state c rises =
-    ap (λ (f : Bool). if is_chained chains c && (x.pulsed (l.cell c).domain && f) then next_from l x values c else state c) rises
-    ∙ never (is_chained chains c) (x.pulsed (l.cell c).domain) (next_from l x values c) (state c)
+    ap (λ (f : Bool). if is_chained chains c && (x.pulsed (l.cell c).domain && f) then next_from l x values (state c) c else state c) rises
+    ∙ never (is_chained chains c) (x.pulsed (l.cell c).domain) (next_from l x values (state c) c) (state c)
   where
     never : (a b : Bool) (t u : Tri) → (if a && (b && false) then t else u) ≡ u
     never true true t u = refl

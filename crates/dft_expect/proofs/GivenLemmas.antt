@@ -3,14 +3,15 @@ use Rattle.std.proofs.Common.{ℕ, Bool, true, false, ◌≡◌, ◌<◌, ◌≤
 use Rattle.std.specs.Prelude.{if◌then◌else◌}
 use Rattle.std.proofs.lemmas.Bool.{cases_lt}
 use Rattle.std.proofs.lemmas.List.{get_or_past}
-use Rattle.std.proofs.lemmas.Option.{none-some}
+use Rattle.std.proofs.lemmas.Option.{none-some, same_Some}
 use Rattle.dft_base.specs.declared.tri.Tri.{Tri}
 use Rattle.dft_base.specs.declared.tri.Tri.TheVariants.{One, Unknown}
 use Rattle.dft_base.specs.Solutions.{bit_at}
 use Rattle.dft_cells.specs.declared.kind.Kind.{Kind}
 use Rattle.dft_cells.specs.declared.kind.Kind.TheVariants as kind
 use Rattle.dft_cells.specs.declared.kind.Role.TheVariants as role
-use Rattle.dft_cells.specs.FlipFlops.{is_flip_flop, tri_forced}
+use Rattle.dft_cells.specs.FlipFlops.{is_flip_flop, Takes, Forces, IsForceOf, tri_forced_by}
+use Rattle.dft_cells.proofs.TakesLemmas.{left_rests}
 use Rattle.dft_cells.proofs.TriLemmas.{forced_one}
 use Rattle.dft_netlist.proofs.LiveLemmas.{past_free}
 use Rattle.dft_netlist.specs.declared.instance.Join.{Join}
@@ -22,10 +23,10 @@ use Rattle.dft_netlist.specs.NetDrivers.{driver_at, is_inverted, joined_by, role
 use Rattle.dft_behavior.specs.Traces.{Root, Port, Constant, Other, root_of}
 use Rattle.dft_behavior.specs.ClockRoots.{ClockRoot}
 use Rattle.dft_netlist.specs.Connections.{pin_of}
-use Rattle.dft_behavior.specs.Logic.{Cell, Force, Ports, Scan, Input, Clock, cell_or_none, flip_flop, flop_meaning, force_of, forcing, meaning_of, modelled, modelled_of}
+use Rattle.dft_behavior.specs.Logic.{Cell, Ports, Input, Clock, cell_or_none, domain_at, flip_flop, flop_meaning, force_of, force_at, both_forces, takes_of, meaning_of, modelled, modelled_of}
 use Rattle.dft_behavior.specs.Settled.{TriSources, inverse}
 use Rattle.dft_behavior.proofs.StoredLemmas.{stored_force}
-use Rattle.dft_abstract.specs.Cycle.{strobe_sources, tri_forced_by}
+use Rattle.dft_abstract.specs.Cycle.{strobe_sources}
 use Rattle.dft_config.specs.Config.{Config}
 use Rattle.dft_rules.specs.Rules.{may_be_scanned}
 use Rattle.dft_expect.specs.Captures.{config_ports}
@@ -43,48 +44,47 @@ use Rattle.dft_expect.proofs.ScannedCells.{IsModelled, cell_modelled, no_lockup}
 
 -- ---- resets do not act
 
--- a reset or set is by a reset port
-abbrev ByReset : (ℕ → Bool) → Option Force → Type 0
-ByReset is_reset None = Unit {0}
-ByReset is_reset (Some force) = is_reset force.port ≡ true
+-- resets and sets are by reset ports
+abbrev pub ByResets : (ℕ → Bool) → Forces ℕ → Type 0
+ByResets is_reset forces = (port : ℕ) → IsForceOf forces port → is_reset port ≡ true
 
-abbrev MayForce : (ℕ → Bool) → Option (Option Force) → Type 0
-MayForce is_reset None = Unit {0}
-MayForce is_reset (Some force) = ByReset is_reset force
+port_by : (is_reset : ℕ → Bool) (net port : ℕ) (b : Bool) → is_reset net ≡ b → ◌≡◌ {A = Option (Option ℕ)} (if b then Some (Some net) else None) (Some (Some port)) → is_reset port ≡ true
+port_by is_reset net port true is e = subst (λ (k : ℕ). is_reset k ≡ true) (same_Some net port (same_Some (Some net) (Some port) e)) is
+port_by is_reset net port false is e = absurd (none-some (Some port) e)
 
-port_forces : (ports : Ports) (value : Bool) (net : ℕ) (b : Bool) → ports.is_reset net ≡ b → MayForce ports.is_reset (if b then Some (Some (record { port = net; value = value })) else None)
-port_forces ports value net true is = is
-port_forces ports value net false is = tt
+root_by : (ports : Ports) (r : Root) (port : ℕ) → force_of ports r ≡ Some (Some port) → ports.is_reset port ≡ true
+root_by ports (Port net) port e = port_by ports.is_reset net port (ports.is_reset net) refl e
+root_by ports (Constant true) port e = absurd (none-some port (same_Some None (Some port) e))
+root_by ports (Constant false) port e = absurd (none-some (Some port) e)
+root_by ports Other port e = absurd (none-some (Some port) e)
 
-root_forces : (ports : Ports) (value : Bool) (r : Root) → MayForce ports.is_reset (force_of ports value r)
-root_forces ports value (Port net) = port_forces ports value net (ports.is_reset net) refl
-root_forces ports value (Constant true) = tt
-root_forces ports value (Constant false) = tt
-root_forces ports value Other = tt
+pin_by : (n : Netlist) (ports : Ports) (pin : Option Source) (port : ℕ) → force_at n ports pin ≡ Some (Some port) → ports.is_reset port ≡ true
+pin_by n ports None port e = absurd (none-some port (same_Some None (Some port) e))
+pin_by n ports (Some source) port e = root_by ports (root_of n source) port e
 
-pins_force : (n : Netlist) (ports : Ports) (reset preset : Option Source) → MayForce ports.is_reset (forcing n ports reset preset)
-pins_force n ports (Some reset) preset = root_forces ports false (root_of n reset)
-pins_force n ports None (Some preset) = root_forces ports true (root_of n preset)
-pins_force n ports None None = tt
+modelled_by : (is_reset : ℕ → Bool) (i : ℕ) (domain : Option ClockRoot) (clear preset : Option (Option ℕ)) (takes : Takes Source) → ((port : ℕ) → clear ≡ Some (Some port) → is_reset port ≡ true) → ((port : ℕ) → preset ≡ Some (Some port) → is_reset port ≡ true) →
+    ByResets is_reset (cell_or_none i (modelled domain (both_forces clear preset) takes)).forces
+modelled_by is_reset i None clear preset takes a b port (inl is) = absurd (none-some port is)
+modelled_by is_reset i None clear preset takes a b port (inr is) = absurd (none-some port is)
+modelled_by is_reset i (Some d) None preset takes a b port (inl is) = absurd (none-some port is)
+modelled_by is_reset i (Some d) None preset takes a b port (inr is) = absurd (none-some port is)
+modelled_by is_reset i (Some d) (Some c) None takes a b port (inl is) = absurd (none-some port is)
+modelled_by is_reset i (Some d) (Some c) None takes a b port (inr is) = absurd (none-some port is)
+modelled_by is_reset i (Some d) (Some c) (Some p) takes a b port (inl is) = a port (ap Some is)
+modelled_by is_reset i (Some d) (Some c) (Some p) takes a b port (inr is) = b port (ap Some is)
 
-modelled_forces : (is_reset : ℕ → Bool) (i : ℕ) (domain : Option ClockRoot) (force : Option (Option Force)) (input : Source) (scan : Option Scan) → MayForce is_reset force → ByReset is_reset (cell_or_none i (modelled domain force input scan)).force
-modelled_forces is_reset i None force input scan may = tt
-modelled_forces is_reset i (Some d) None input scan may = tt
-modelled_forces is_reset i (Some d) (Some f) input scan may = may
-
-flop_forces : (n : Netlist) (ports : Ports) (i : ℕ) (b : Bool) → ByReset ports.is_reset (cell_or_none i (if b then modelled_of n ports i (pins_of n i) else None)).force
-flop_forces n ports i true = modelled_forces ports.is_reset i _ _ _ _ (pins_force n ports (pin_of role.Reset i (pins_of n i)) (pin_of role.Preset i (pins_of n i)))
-flop_forces n ports i false = tt
-
-not_forced : (is_reset : ℕ → Bool) (x : ℕ → Tri) (force : Option Force) (t : Tri) → ((net : ℕ) → is_reset net ≡ true → x net ≡ One) → ByReset is_reset force → tri_forced_by force x t ≡ t
-not_forced is_reset x None t one may = refl
-not_forced is_reset x (Some force) t one may = ap (λ (p : Tri). tri_forced force.value p t) (one force.port may) ∙ forced_one force.value t
+pub flop_by : (n : Netlist) (ports : Ports) (i : ℕ) (b : Bool) → ByResets ports.is_reset (cell_or_none i (if b then modelled_of n ports i (pins_of n i) else None)).forces
+flop_by n ports i true port has = modelled_by ports.is_reset i (domain_at n ports (pin_of role.Clock i (pins_of n i))) (force_at n ports (pin_of role.Reset i (pins_of n i))) (force_at n ports (pin_of role.Preset i (pins_of n i))) (takes_of i (pins_of n i))
+    (pin_by n ports (pin_of role.Reset i (pins_of n i))) (pin_by n ports (pin_of role.Preset i (pins_of n i))) port has
+flop_by n ports i false port (inl is) = absurd (none-some port is)
+flop_by n ports i false port (inr is) = absurd (none-some port is)
 
 -- in a capture no reset or set acts
-pub stays : (n : Netlist) (config : Config) (merged : Merged) (i : ℕ) (t : Tri) → tri_forced_by ((original n config).cell i).force (capture_vector n config merged).ports t ≡ t
+pub stays : (n : Netlist) (config : Config) (merged : Merged) (i : ℕ) (t : Tri) → tri_forced_by ((original n config).cell i).forces (capture_vector n config merged).ports t ≡ t
 stays n config merged i t =
-    not_forced (config_ports n config).is_reset (capture_vector n config merged).ports ((original n config).cell i).force t
-    (λ net is. ap (λ (b : Bool). port_value b (bit_of_port merged.ports net)) is) (subst (ByReset (config_ports n config).is_reset) (sym (stored_force n (config_ports n config) i)) (flop_forces n (config_ports n config) i (is_flip_flop (kind_at n i))))
+    let by : ByResets (config_ports n config).is_reset ((original n config).cell i).forces =
+    subst (ByResets (config_ports n config).is_reset) (sym (stored_force n (config_ports n config) i)) (flop_by n (config_ports n config) i (is_flip_flop (kind_at n i))) in
+    left_rests ((original n config).cell i).forces (capture_vector n config merged).ports t (λ port has. ap (λ (b : Bool). port_value b (bit_of_port merged.ports port)) (by port has))
 
 -- ---- a port
 

@@ -22,7 +22,8 @@ use Rattle.dft_behavior.specs.Logic.{Logic, Meaning, Cell, Input, Clock, Gate, J
 use Rattle.dft_behavior.specs.Logic as logic
 use Rattle.dft_behavior.specs.Runs.{Vector}
 use Rattle.dft_behavior.specs.Settled.{TriSources, inverse, value_given}
-use Rattle.dft_abstract.specs.Cycle.{strobe_sources, tri_forced_by}
+use Rattle.dft_cells.specs.FlipFlops.{tri_forced_by}
+use Rattle.dft_abstract.specs.Cycle.{strobe_sources}
 use Rattle.dft_config.specs.Config.{Config}
 use Rattle.dft_rules.specs.Rules.{may_be_scanned}
 use Rattle.dft_stitch.specs.Chains.{plan_of}
@@ -141,7 +142,7 @@ flop_again : (l : Logic) (x : Vector) (one two before values : ℕ → Tri) (net
     → IsGiven (strobe_sources l x two values) before net (flop_meaning i inverted o)
 flop_again l x one two before values net i inverted None same is = is
 flop_again l x one two before values net i inverted (Some cell) same is =
-    is ∙ ap (λ (t : Tri). if inverted then inverse (tri_forced_by (l.cell i).force x.ports t) else tri_forced_by (l.cell i).force x.ports t) same
+    is ∙ ap (λ (t : Tri). if inverted then inverse (tri_forced_by (l.cell i).forces x.ports t) else tri_forced_by (l.cell i).forces x.ports t) same
 
 -- ---- nets by what drives them
 
@@ -190,7 +191,7 @@ module _ (n : Netlist) (config : Config) (pattern : Pattern) (r : Response) (can
       let m : IsModelled n config i = number_modelled n config number i can at in
       let drives : meaning net (driver_of_kind (kind_at n i) i inverted inputs) ≡ logic.Flop i inverted = ap (meaning net) (chain_driver (kind_at n i) i inverted inputs m.kind) ∙ ap (flop_meaning i inverted) m.flop in
       subst (λ (t : Meaning). IsGiven second given net t) (sym drives)
-      (value ∙ turned_is inverted (slice_index_or r.cells number Unknown) (tri_forced_by (l.cell i).force x.ports (two i))
+      (value ∙ turned_is inverted (slice_index_or r.cells number Unknown) (tri_forced_by (l.cell i).forces x.ports (two i))
       (there (λ (cell : InstanceId). two cell.0) r.cells (cells_in n config) number (record { 0 = i }) is.cells at ∙ sym (stays n config pattern.merged.now i (two i))))
 
   set_again : (given : ℕ → Tri) (net i : ℕ) (inverted : Bool) (s : Setting) (inputs : List Source) → IsCellSetting (cells_in n config) i inverted s → given net ≡ moved_by s r.cells (before net)

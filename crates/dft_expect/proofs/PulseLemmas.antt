@@ -33,7 +33,7 @@ pulsed_over n config pattern count r values is = record { behind = is.behind; st
 
 -- a flip-flop that is no cell of the chains stays at an edge
 pub stays_apart : (l : Logic) (chains : List (List InstanceId)) (x : Vector) (rising : Bool) (values state : ℕ → Tri) (cell : ℕ) → is_chained chains cell ≡ false → after_edges l chains x rising values state cell ≡ state cell
-stays_apart l chains x rising values state cell apart = ap (λ (b : Bool). if b && (x.pulsed (l.cell cell).domain && takes rising (l.cell cell).falling) then next_from l x values cell else state cell) apart
+stays_apart l chains x rising values state cell apart = ap (λ (b : Bool). if b && (x.pulsed (l.cell cell).domain && takes rising (l.cell cell).falling) then next_from l x values (state cell) cell else state cell) apart
 
 -- a state follows itself, where a response has its cells
 pub rests : (n : Netlist) (config : Config) (state : ℕ → Tri) (r : Response) → r.cells ≡ map (λ cell. state cell.0) (cells_in n config) → HasMoved n config state state r

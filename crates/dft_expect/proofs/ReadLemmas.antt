@@ -19,16 +19,16 @@ use Rattle.dft_netlist.specs.declared.instance.Signal.{Signal}
 use Rattle.dft_netlist.specs.declared.instance.Signal.TheVariants as signal
 use Rattle.dft_netlist.specs.Netlist.{Netlist}
 use Rattle.dft_netlist.specs.Connections.{joined_to, signal_of, pin_of, same_role}
-use Rattle.dft_behavior.specs.declared.clock_roots.ClockRoot as declared
+use Rattle.dft_behavior.specs.declared.root.ClockRoot as declared
 use Rattle.dft_behavior.specs.ClockRoots.{ClockRoot, clock_root_of}
-use Rattle.dft_behavior.specs.ClockSteps.{shown_clock}
+use Rattle.dft_behavior.specs.Roots.{shown_clock}
 use Rattle.dft_netlist.specs.Drivers.{Source, Connection, pins_of, source_of}
-use Rattle.dft_behavior.specs.Logic.{Cell, or_loose}
+use Rattle.dft_behavior.specs.Logic.{Cell, or_loose, plain}
 use Rattle.dft_behavior.specs.Runs.{takes}
 use Rattle.dft_behavior.specs.Settled.{value_from}
 use Rattle.dft_netlist.proofs.DriveLemmas.{get_set_other, get_set_same}
 use Rattle.dft_behavior.proofs.StoredLemmas.{flop_cell}
-use Rattle.dft_abstract.specs.Cycle.{tri_forced_by, tri_taken_by}
+use Rattle.dft_cells.specs.FlipFlops.{tri_taken_by, tri_forced_by}
 use Rattle.dft_config.specs.Config.{Config}
 use Rattle.dft_rules.specs.Rules.{is_net}
 use Rattle.dft_stitch.specs.Chains.{plan_of}
@@ -141,15 +141,15 @@ read_is n config merged domain rising values state number cell before read can a
     let captures : Option NetId = capture_clock n config domain in
     let m : IsModelled n config i = number_modelled n config number i can at in
     let input : Source = or_loose i (pin_of role.Din i (pins_of n i)) in
-    let q : Cell = record { domain = m.clock.port; falling = m.clock.inverted; input = input; scan = None; force = m.force } in
+    let q : Cell = record { domain = m.clock.port; falling = m.clock.inverted; takes = plain input; forces = m.forces } in
     let e : (original n config).cell i ≡ q = flop_cell n (config_ports n config) i q m.flop in
-    let idle : tri_forced_by m.force x.ports (value_from values input) ≡ value_from values input =
-    ap (λ (c : Cell). tri_forced_by c.force x.ports (value_from values input)) (sym e) ∙ stays n config merged i (value_from values input) in
+    let idle : tri_forced_by m.forces x.ports (value_from values input) ≡ value_from values input =
+    ap (λ (c : Cell). tri_forced_by c.forces x.ports (value_from values input)) (sym e) ∙ stays n config merged i (value_from values input) in
     let edge : is_at read.clock captures rising ≡ (is_net m.clock.port captures && takes rising m.clock.inverted) = edge_same read.clock captures rising m.clock (is.clock ∙ ap (clock_of n) m.pin ∙ m.root) in
     let here : is_chained chains i ≡ true = chained (all_cells chains) number i at in
     let test : is_at read.clock captures rising ≡ (is_chained chains i && (is_net m.clock.port captures && takes rising m.clock.inverted)) = edge ∙ ap (λ (b : Bool). b && (is_net m.clock.port captures && takes rising m.clock.inverted)) (sym here) in
     (λ j. if test j then (is.input values ∙ sym idle) j else had j)
-    ∙ ap (λ (c : Cell). if is_chained chains i && (is_net c.domain captures && takes rising c.falling) then tri_forced_by c.force x.ports (tri_taken_by c.scan (value_from values) (value_from values c.input)) else state i) (sym e)
+    ∙ ap (λ (c : Cell). if is_chained chains i && (is_net c.domain captures && takes rising c.falling) then tri_forced_by c.forces x.ports (tri_taken_by c.takes (state i) (value_from values)) else state i) (sym e)
 
 -- ---- all cells
 

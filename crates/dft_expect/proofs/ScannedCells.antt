@@ -22,7 +22,8 @@ use Rattle.dft_netlist.specs.Netlist.{Netlist}
 use Rattle.dft_netlist.specs.Drivers.{Source, connections_from, gate_roles, kind_of, kind_at, pins_at, pins_of, shape_of, shape_of_cell, source_of}
 use Rattle.dft_netlist.specs.Sound.{IsCellOf}
 use Rattle.dft_behavior.specs.ClockRoots.{ClockRoot, clock_root_of}
-use Rattle.dft_behavior.specs.Logic.{Ports, Force, Scan, Cell, or_loose, domain_at, forcing, scan_of, modelled, modelled_of, flip_flop}
+use Rattle.dft_cells.specs.FlipFlops.{Forces}
+use Rattle.dft_behavior.specs.Logic.{Ports, Cell, or_loose, domain_at, forcing, scan_of, takes_of, forces_of, plain, modelled, modelled_of, flip_flop}
 use Rattle.dft_behavior.specs.Logic as logic
 use Rattle.dft_config.specs.Config.{Config}
 use Rattle.dft_config.specs.Range.{IsInRange}
@@ -149,8 +150,8 @@ pub record IsModelled (n : Netlist) (config : Config) (i : ℕ) : Type 0 where
   pub pin : pin_of role.Clock i (pins_of n i) ≡ Some source
   pub clock : ClockRoot
   pub root : clock_root_of n source ≡ Some clock
-  pub force : Option Force
-  pub flop : flip_flop n (config_ports n config) i ≡ Some (record { domain = clock.port; falling = clock.inverted; input = or_loose i (pin_of role.Din i (pins_of n i)); scan = None; force = force })
+  pub forces : Forces ℕ
+  pub flop : flip_flop n (config_ports n config) i ≡ Some (record { domain = clock.port; falling = clock.inverted; takes = plain (or_loose i (pin_of role.Din i (pins_of n i))); forces = forces })
 
 pub cell_modelled : (n : Netlist) (config : Config) (chain place : ℕ) (cell : InstanceId) → CanCapture n config → cell_at (plan_of n config).chains chain place ≡ Some cell → IsModelled n config cell.0
 cell_modelled n config chain place cell can stands =
@@ -160,19 +161,18 @@ cell_modelled n config chain place cell can stands =
     let clock : IsClocked n config i = clocked n config i it.clock it.is_clock in
     let force = force_pins n config (pin_of role.Reset i (pins_of n i)) (pin_of role.Preset i (pins_of n i)) it.is_held in
     let input : Source = or_loose i (pin_of role.Din i (pins_of n i)) in
-    let scan : Option Scan = scan_of (pin_of role.ScanEnable i (pins_of n i)) (pin_of role.ScanIn i (pins_of n i)) in
     record {
       kind = it.kind;
       source = clock.source;
       pin = clock.pin;
       clock = clock.clock;
       root = clock.root;
-      force = force.0;
+      forces = force.0;
       flop =
           ap (λ b. if b then modelled_of n ports i (pins_of n i) else None) (scannable_flop (kind_at n i) it.kind)
-          ∙ ap (λ d. modelled d (forcing n ports (pin_of role.Reset i (pins_of n i)) (pin_of role.Preset i (pins_of n i))) input scan) (domain_is n config i clock)
-          ∙ ap (λ f. modelled (Some clock.clock) f input scan) force.1
-          ∙ ap (λ o. modelled (Some clock.clock) (Some force.0) input (scan_of o (pin_of role.ScanIn i (pins_of n i)))) (pins_none n.library i (slice_get n.instances i) can.library it.kind);
+          ∙ ap (λ d. modelled d (forcing n ports (forces_of i (pins_of n i))) (takes_of i (pins_of n i))) (domain_is n config i clock)
+          ∙ ap (λ f. modelled (Some clock.clock) f (takes_of i (pins_of n i))) force.1
+          ∙ ap (λ o. modelled (Some clock.clock) (Some force.0) (record { input = input; scan = scan_of o (pin_of role.ScanIn i (pins_of n i)) })) (pins_none n.library i (slice_get n.instances i) can.library it.kind);
     }
 
 -- ---- no lock-up

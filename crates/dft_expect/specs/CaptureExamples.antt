@@ -4,7 +4,8 @@ use Rattle.dft_base.specs.declared.tri.Tri.{Tri}
 use Rattle.dft_base.specs.declared.tri.Tri.TheVariants.{Zero, One, Unknown}
 use Rattle.dft_netlist.specs.declared.ids.InstanceId.{InstanceId}
 use Rattle.dft_netlist.specs.Drivers.{Net}
-use Rattle.dft_behavior.specs.Logic.{Logic, Cell, Input, Clock, Flop, Free, no_cell}
+use Rattle.dft_cells.specs.FlipFlops.{no_forces}
+use Rattle.dft_behavior.specs.Logic.{Logic, Cell, Input, Clock, Flop, Free, no_cell, plain}
 use Rattle.dft_behavior.specs.Runs.{Vector}
 use Rattle.dft_expect.specs.Captures.{AreSettled, Settled, next_state}
 use Rattle.dft_expect.specs.Examples.{cell}
@@ -12,7 +13,7 @@ use Rattle.dft_expect.specs.Loaded.{loaded_values}
 
 -- a flip-flop on the clock, which takes a net
 abbrev pub on_clock : (falling : Bool) → (input : ℕ) → Cell
-on_clock falling input = record { domain = 0; falling = falling; input = Net input; scan = None; force = None }
+on_clock falling input = record { domain = 0; falling = falling; takes = plain (Net input); forces = no_forces }
 
 -- the clock, the input d, and two flip-flops: the first one takes d, and the second one what the first one shows
 abbrev pub two_flops : (first_falls second_falls : Bool) → Logic

@@ -78,7 +78,7 @@ moves l chains x rising c = is_chained chains c && (x.pulsed (l.cell c).domain &
 
 -- the flip-flops' values after these edges: what moves has its next value from these settled values, and all others stay
 abbrev pub after_edges : Logic → List (List InstanceId) → Vector → (rising : Bool) → (values state : ℕ → Tri) → (cell : ℕ) → Tri
-after_edges l chains x rising values state c = if moves l chains x rising c then next_from l x values c else state c
+after_edges l chains x rising values state c = if moves l chains x rising c then next_from l x values (state c) c else state c
 
 -- the settled values of a vector: before its clock rises, and before it falls
 pub record Settled : Type 0 where

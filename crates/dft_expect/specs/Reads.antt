@@ -14,9 +14,9 @@ use Rattle.dft_netlist.specs.Drivers.{Source, pins_of, source_of}
 use Rattle.dft_netlist.specs.Connections.{pin_of}
 use Rattle.dft_behavior.specs.Logic.{or_loose}
 use Rattle.dft_behavior.specs.Settled.{value_from}
-use Rattle.dft_behavior.specs.declared.clock_roots.ClockRoot as declared
+use Rattle.dft_behavior.specs.declared.root.ClockRoot as declared
 use Rattle.dft_behavior.specs.ClockRoots.{ClockRoot, clock_root_of}
-use Rattle.dft_behavior.specs.ClockSteps.{shown_clock}
+use Rattle.dft_behavior.specs.Roots.{shown_clock}
 use Rattle.dft_behavior.specs.Runs.{takes}
 use Rattle.dft_rules.specs.Rules.{is_net}
 use Rattle.dft_expect.specs.declared.reads.Read.{Read}

@@ -1,15 +1,15 @@
 //! Where a capture is read.
 
 ghost use Rattle.std.specs.Prelude.{◌≡◌, ◌++◌, List, map, IfOk, OnOk};
-ghost use Rattle.dft_behavior.specs.ClockSteps.{shown_clock};
-ghost use Rattle.dft_behavior.specs.ClockTables.{AreClocks};
+ghost use Rattle.dft_behavior.specs.Roots.{shown_clock};
+ghost use Rattle.dft_behavior.specs.RootTables.{AreRoots};
 ghost use Rattle.dft_netlist.specs.Netlist.{Netlist};
 ghost use Rattle.dft_expect.specs.Captures.{bits_out, output_bits};
 ghost use Rattle.dft_expect.specs.Loaded.{all_cells};
 ghost use Rattle.dft_expect.specs.Reads.{AreReads, IsReadOf};
 ghost use Rattle.dft_expect.specs.Reads as spec;
 
-use dft_behavior::{ClockRoot, clock_in, find_clocks};
+use dft_behavior::{ClockRoot, NetRoot, clock_in, find_roots};
 use dft_cells::Role;
 use dft_netlist::{Design, Dir, InstanceId, NetId, Port, Signal};
 use dft_stitch::Chains;
@@ -23,21 +23,21 @@ pub(crate) struct Read {
 }
 
 // The clock that a pin shows.
-fn clock_of(clocks: &[Option<ClockRoot>], pin: Option<Signal>) -> Option<ClockRoot>
-    ensures { (n : Netlist) → AreClocks n clocks.now → shown_clock result ≡ spec.clock_at n pin }
+fn clock_of(roots: &[NetRoot], pin: Option<Signal>) -> Option<ClockRoot>
+    ensures { (n : Netlist) → AreRoots n roots.now → shown_clock result ≡ spec.clock_at n pin }
 {
     match pin {
-        Some(signal) => clock_in(clocks, signal),
+        Some(signal) => clock_in(roots, signal),
         None => None,
     }
 }
 
-// Where the next value of a cell is read, by the clocks that the nets show.
-fn read_of(design: &Design, clocks: &[Option<ClockRoot>], cell: InstanceId) -> Read
-    requires { AreClocks design.now clocks.now }
+// Where the next value of a cell is read, by the roots of the nets.
+fn read_of(design: &Design, roots: &[NetRoot], cell: InstanceId) -> Read
+    requires { AreRoots design.now roots.now }
     ensures { IsReadOf design.now cell.0 result }
 {
-    let clock = clock_of(clocks, design.signal(cell, Role::Clock));
+    let clock = clock_of(roots, design.signal(cell, Role::Clock));
     let input = or_unconnected(design.signal(cell, Role::Din));
     Read { clock, input }
 }
@@ -56,14 +56,14 @@ fn or_unconnected(pin: Option<Signal>) -> Signal
 fn add_reads(
     reads: &mut Vec<Read>,
     design: &Design,
-    clocks: &[Option<ClockRoot>],
+    roots: &[NetRoot],
     cells: &[InstanceId],
 ) -> Result<(), AllocError>
-    requires { AreClocks design.now clocks.now }
+    requires { AreRoots design.now roots.now }
     ensures { (before : List InstanceId) → AreReads design.now before reads.old.items → OnOk result (AreReads design.now (before ++ cells.now) reads.new.items) }
 {
     for cell in cells {
-        reads.push(read_of(design, clocks, *cell))?;
+        reads.push(read_of(design, roots, *cell))?;
     }
     Ok(())
 }
@@ -76,10 +76,10 @@ pub(crate) fn reads(
 ) -> Result<Vec<Read>, AllocError>
     ensures { IfOk result (λ reads. AreReads design.now (all_cells chains.now.chains) reads.items) }
 {
-    let clocks = find_clocks(alloc, design)?;
+    let roots = find_roots(alloc, design)?;
     let mut reads = Vec::new(alloc);
     for chain in 0..chains.count() {
-        add_reads(&mut reads, design, &clocks, chains.chain(chain))?;
+        add_reads(&mut reads, design, &roots, chains.chain(chain))?;
     }
     Ok(reads)
 }

@@ -12,7 +12,7 @@ pub struct Said {
 }
 
 // Of netlists, libraries and patterns.
-static OF_TEXTS: [Said; 38] = [
+static OF_TEXTS: [Said; 36] = [
     Said {
         code: "F1",
         sentence: "the option's file has more bytes than its limit: 67,108,864, of patterns and reports 268,435,456",
@@ -34,11 +34,6 @@ static OF_TEXTS: [Said; 38] = [
         advice: "synthesize; drop directives but `timescale and the like",
     },
     Said {
-        code: "V4",
-        sentence: "a cell that the library has not",
-        advice: "add the cell to the library, or map to its cells",
-    },
-    Said {
         code: "V5",
         sentence: "a pin that the cell has not",
         advice: "name the pins as the library does",
@@ -52,11 +47,6 @@ static OF_TEXTS: [Said; 38] = [
         code: "V7",
         sentence: "an inout port",
         advice: "split the port, or leave pads out",
-    },
-    Said {
-        code: "V8",
-        sentence: "a second module",
-        advice: "read the text by the call that takes several",
     },
     Said {
         code: "V9",

@@ -1,5 +1,5 @@
 -- What cells take in each lane, one place after another.
-use Rattle.std.proofs.Common.{ℕ, zero, Bool, true, false, ◌≡◌, ◌<◌, ◌≤◌, ◌+◌, ◌⊎◌, List, [], ◌∷◌, length, drop, drop-cons, add-one, inl, inr, refl, sym, ap, subst, arith, ◌∙◌, get_or, slice_set, get_or-set_same, get_or-set_other, Some}
+use Rattle.std.proofs.Common.{ℕ, zero, Bool, true, false, ◌≡◌, ◌<◌, ◌≤◌, ◌+◌, ◌⊎◌, List, [], ◌∷◌, length, drop, drop-cons, add-one, inl, inr, refl, sym, ap, subst, arith, ◌∙◌, get_or, slice_set, get_or-set_same, get_or-set_other}
 use Rattle.std.specs.Prelude.{if◌then◌else◌}
 use Rattle.std.proofs.lemmas.List.{get_or_past, drop_all, length-set}
 use Rattle.std.proofs.lemmas.Bool.{cases_Bool, cases_eq}
@@ -7,7 +7,7 @@ use Rattle.std.proofs.lemmas.Bool.Decides.{leb_tells}
 use Rattle.dft_base.specs.declared.tri.Tri.{Tri}
 use Rattle.dft_base.specs.declared.tri.Tri.TheVariants.{Zero, One, Unknown}
 use Rattle.dft_base.specs.Tri.{known, join}
-use Rattle.dft_cells.specs.FlipFlops.{tri_forced, tri_chosen}
+use Rattle.dft_cells.specs.FlipFlops.{tri_forced, tri_chosen, tri_forced_by}
 use Rattle.dft_cells.specs.Tables.{mux_tri}
 use Rattle.dft_cells.proofs.TriLemmas.{chosen_one, chosen_zero}
 use Rattle.dft_lanes.specs.declared.wide.Wide.{Wide}
@@ -15,10 +15,8 @@ use Rattle.dft_lanes.specs.Choices.{can, some_choice_of_three}
 use Rattle.dft_behavior.specs.Logic.{Cell, no_cell}
 use Rattle.dft_netlist.specs.Orders.{Has}
 use Rattle.dft_netlist.proofs.ListingLemmas.{has_item}
-use Rattle.dft_abstract.specs.Cycle.{tri_forced_by}
-use Rattle.dft_logic.specs.declared.circuit.Acting.{Acting}
 use Rattle.dft_logic.specs.declared.circuit.FlipFlop.{FlipFlop}
-use Rattle.dft_logic.specs.Circuit.{cell_of, force_at, next_at}
+use Rattle.dft_logic.specs.Circuit.{cell_of, next_at}
 use Rattle.dft_logic.proofs.Writings.{cell_read, cell_past}
 use Rattle.dft_logic.specs.Values.{value_at}
 use Rattle.dft_evaluator.specs.Wides.{value_in, values_in, wide_at, unknown_wide, IsWide, AreWides}
@@ -61,12 +59,12 @@ wide_forced wide a b e value t is_a is_b is_e made =
     wide_same wide (λ lane. mux_tri (known value) (t lane) Unknown) (λ lane. tri_forced value Unknown (t lane))
     (wide_muxes wide a b e (λ lane. known value) t (λ lane. Unknown) is_a is_b (subst (λ (w : Wide). IsWide w (λ lane. Unknown)) (sym is_e) all_unknown) made) (λ lane less. forced_unknown value (t lane))
 
-pub forced_by_unknown : (acting : Acting) (ports : List Tri) (port : Tri) (wide a b e : Wide) (bit : Tri) (t : ℕ → Tri) → port ≡ value_at ports acting.port.0 → port ≡ Unknown → bit ≡ known acting.value → IsWide a (λ lane. bit) → IsWide b t → e ≡ unknown_wide →
+pub pressed_unknown : (value : Bool) (pin : Tri) (wide a b e : Wide) (bit : Tri) (t : ℕ → Tri) → pin ≡ Unknown → bit ≡ known value → IsWide a (λ lane. bit) → IsWide b t → e ≡ unknown_wide →
     ((lane : ℕ) (v : Bool) → can wide lane v ≡ some_choice_of_three (λ x y c. if c then y else x) (can a lane) (can b lane) (can e lane) v) →
-    IsWide wide (λ lane. tri_forced_by (force_at (Some acting)) (value_at ports) (t lane))
-forced_by_unknown acting ports port wide a b e bit t named is_unknown is_bit is_a is_b is_e made =
-    subst (λ (p : Tri). IsWide wide (λ lane. tri_forced acting.value p (t lane))) (sym is_unknown ∙ named)
-    (wide_forced wide a b e acting.value t (subst (λ (v : Tri). IsWide a (λ lane. v)) is_bit is_a) is_b is_e made)
+    IsWide wide (λ lane. tri_forced value pin (t lane))
+pressed_unknown value pin wide a b e bit t is_unknown is_bit is_a is_b is_e made =
+    subst (λ (p : Tri). IsWide wide (λ lane. tri_forced value p (t lane))) (sym is_unknown)
+    (wide_forced wide a b e value t (subst (λ (v : Tri). IsWide a (λ lane. v)) is_bit is_a) is_b is_e made)
 
 -- ---- one place after another
 
@@ -121,14 +119,14 @@ all_written start now new count place size size_now all written past lane c with
 
 -- what each cell has once it was acted on
 abbrev pub acted_by : List FlipFlop → (ports : List Tri) → (lane c : ℕ) → Tri → Tri
-acted_by flops ports lane c t = tri_forced_by (flop_at flops c).force (value_at ports) t
+acted_by flops ports lane c t = tri_forced_by (flop_at flops c).forces (value_at ports) t
 
 -- what each cell has once it took its value
 abbrev pub taken_by : List FlipFlop → (rising : Bool) → (pulsed : List Bool) → (ports : List Tri) → (wides : List Wide) → (lane c : ℕ) → Tri → Tri
 taken_by flops rising pulsed ports wides lane c t = if is_changed (flop_at flops c) rising pulsed then next_at (flop_at flops c) (value_at ports) (values_in wides lane) else t
 
 pub acted_past : (flops : List FlipFlop) (ports : List Tri) (lane c : ℕ) → length flops ≤ c → acted_by flops ports lane c Unknown ≡ Unknown
-acted_past flops ports lane c far = ap (λ (cell : Cell). tri_forced_by cell.force (value_at ports) Unknown) (cell_past flops c far)
+acted_past flops ports lane c far = ap (λ (cell : Cell). tri_forced_by cell.forces (value_at ports) Unknown) (cell_past flops c far)
 
 pub taken_past : (flops : List FlipFlop) (rising : Bool) (pulsed : List Bool) (ports : List Tri) (wides : List Wide) (lane c : ℕ) → length flops ≤ c → taken_by flops rising pulsed ports wides lane c Unknown ≡ Unknown
 taken_past flops rising pulsed ports wides lane c far =
@@ -221,18 +219,18 @@ places_taken flops rising pulsed left places ports wides old new size size_new a
 
 -- a cell that is acted on
 pub act_one : (flops : List FlipFlop) (ports : List Tri) (start now : List Wide) (place : ℕ) (flop : FlipFlop) (w : Wide) → place < length flops → length now ≡ length flops → flop ≡ get_or flops place flop →
-    ((values : ℕ → Tri) → IsWide (wide_at now place) values → IsWide w (λ lane. tri_forced_by (cell_of flop).force (value_at ports) (values lane))) →
+    ((values : ℕ → Tri) → IsWide (wide_at now place) values → IsWide w (λ lane. tri_forced_by (cell_of flop).forces (value_at ports) (values lane))) →
     Written start now (acted_by flops ports) place → Written start (slice_set now place w) (acted_by flops ports) (place + 1)
 act_one flops ports start now place flop w less len read is written =
     let cell : cell_of flop ≡ flop_at flops place = ap cell_of read ∙ cell_read flops place flop less in
-    let P : Cell → Type 0 = λ k. IsWide w (λ lane. tri_forced_by k.force (value_at ports) (values_in now lane place)) in
+    let P : Cell → Type 0 = λ k. IsWide w (λ lane. tri_forced_by k.forces (value_at ports) (values_in now lane place)) in
     write_more start now (acted_by flops ports) place w (omega (arith, len, less)) written (subst P cell (is (λ lane. values_in now lane place) (written.whole place)))
 
 pub act_none : (flops : List FlipFlop) (ports : List Tri) (start now : List Wide) (place : ℕ) (flop : FlipFlop) → place < length flops → flop ≡ get_or flops place flop →
-    ((t : Tri) → tri_forced_by (cell_of flop).force (value_at ports) t ≡ t) → Written start now (acted_by flops ports) place → Written start now (acted_by flops ports) (place + 1)
+    ((t : Tri) → tri_forced_by (cell_of flop).forces (value_at ports) t ≡ t) → Written start now (acted_by flops ports) place → Written start now (acted_by flops ports) (place + 1)
 act_none flops ports start now place flop less read stays written =
     let cell : cell_of flop ≡ flop_at flops place = ap cell_of read ∙ cell_read flops place flop less in
-    write_none start now (acted_by flops ports) place written (λ lane t. ap (λ (k : Cell). tri_forced_by k.force (value_at ports) t) (sym cell) ∙ stays t)
+    write_none start now (acted_by flops ports) place written (λ lane t. ap (λ (k : Cell). tri_forced_by k.forces (value_at ports) t) (sym cell) ∙ stays t)
 
 -- where no reset or set acts every cell stays as it is
 pub none_acted : (flops : List FlipFlop) (ports : List Tri) (cells : List Wide) → length cells ≡ length flops → NoneActs flops ports → AreActedOn flops ports cells cells

@@ -1,15 +1,15 @@
 -- Cells that read nothing can be anything, whatever they take.
-use Rattle.std.proofs.Common.{ℕ, Bool, true, false, ◌≡◌, ◌<◌, List, [], length, get_or, inl, inr, refl, sym, ap, subst, ◌∙◌, true≢false, Option, None, Some}
+use Rattle.std.proofs.Common.{ℕ, Bool, true, false, ◌≡◌, ◌<◌, List, [], length, get_or, inl, inr, refl, sym, ap, subst, ◌∙◌, true≢false, Option, None, Some, is_none}
 use Rattle.std.specs.Prelude.{◌==◌, ◌&&◌, ◌||◌, nat_lt, if◌then◌else◌}
 use Rattle.std.proofs.lemmas.Bool.{and_parts}
 use Rattle.dft_base.specs.declared.tri.Tri.{Tri}
 use Rattle.dft_base.specs.declared.tri.Tri.TheVariants.{Unknown}
 use Rattle.dft_lanes.specs.declared.wide.Wide.{Wide}
+use Rattle.dft_cells.specs.FlipFlops.{Scan, Forces, tri_forced_by, tri_scanned, tri_forced_where}
 use Rattle.dft_netlist.specs.Drivers.{Source, Net, Tied, Loose}
-use Rattle.dft_behavior.specs.Logic.{Cell, Force, Scan}
+use Rattle.dft_behavior.specs.Logic.{Cell}
 use Rattle.dft_behavior.specs.Runs.{takes}
 use Rattle.dft_behavior.specs.Settled.{value_from}
-use Rattle.dft_abstract.specs.Cycle.{tri_forced_by, tri_taken_by}
 use Rattle.dft_registers.specs.declared.layout.Place.{Place}
 use Rattle.dft_registers.specs.Layout.{Layout, place_at}
 use Rattle.dft_evaluator.specs.Wides.{values_in}
@@ -20,16 +20,20 @@ use Rattle.dft_logic.proofs.Writings.{cell_read}
 use Rattle.dft_fault_lanes.specs.declared.clamps.Clamp.{Clamp}
 use Rattle.dft_fault_lanes.specs.Lanes.{AreActedOn, AreTaken, flop_at, is_changed}
 use Rattle.dft_fault_lanes.specs.Moves.{is_carried}
-use Rattle.dft_fault_lanes.specs.Idle.{is_loose, is_unscanned, is_unforced, is_idle, is_left, AreIdleUnknown}
+use Rattle.dft_takings.specs.Takings.{is_unforced}
+use Rattle.dft_fault_lanes.specs.Idle.{is_loose, is_unscanned, is_idle, is_left, AreIdleUnknown}
 use Rattle.dft_fault_lanes.specs.Pulses.{IsPhase, IsFall}
 
 -- ---- what an idle cell takes
 
-no_force : (force : Option Force) (ports : ℕ → Tri) (t : Tri) → is_unforced force ≡ true → tri_forced_by force ports t ≡ t
-no_force None ports t is = refl
-no_force (Some force) ports t is = absurd (true≢false (sym is))
+no_force : (forces : Forces ℕ) (ports : ℕ → Tri) (t : Tri) → is_unforced forces ≡ true → tri_forced_by forces ports t ≡ t
+no_force forces ports t is = go forces.clear forces.preset is where
+  go : (clear preset : Option ℕ) → (is_none clear && is_none preset) ≡ true → tri_forced_where false clear ports (tri_forced_where true preset ports t) ≡ t
+  go None None is = refl
+  go None (Some port) is = absurd (true≢false (sym is))
+  go (Some port) preset is = absurd (true≢false (sym is))
 
-no_scan : (scan : Option Scan) (at : Source → Tri) (data_in : Tri) → is_unscanned scan ≡ true → tri_taken_by scan at data_in ≡ data_in
+no_scan : (scan : Option (Scan Source)) (at : Source → Tri) (data_in : Tri) → is_unscanned scan ≡ true → tri_scanned scan at data_in ≡ data_in
 no_scan None at data_in is = refl
 no_scan (Some scan) at data_in is = absurd (true≢false (sym is))
 
@@ -41,14 +45,14 @@ nothing_read false (Loose i pin) values is = refl
 
 pub idle_next : (cell : Cell) (ports values : ℕ → Tri) → is_idle cell ≡ true → next_at cell ports values ≡ Unknown
 idle_next cell ports values is =
-    let parts = and_parts (if cell.falling then false else is_loose cell.input) (is_unscanned cell.scan && is_unforced cell.force) is in
-    let pins = and_parts (is_unscanned cell.scan) (is_unforced cell.force) parts.1 in
-    no_force cell.force ports (taken_at cell values) pins.1 ∙ no_scan cell.scan (value_from values) (value_from values cell.input) pins.0 ∙ nothing_read cell.falling cell.input values parts.0
+    let parts = and_parts (if cell.falling then false else is_loose cell.takes.input) (is_unscanned cell.takes.scan && is_unforced cell.forces) is in
+    let pins = and_parts (is_unscanned cell.takes.scan) (is_unforced cell.forces) parts.1 in
+    no_force cell.forces ports (taken_at cell values) pins.1 ∙ no_scan cell.takes.scan (value_from values) (value_from values cell.takes.input) pins.0 ∙ nothing_read cell.falling cell.takes.input values parts.0
 
-idle_forced : (cell : Cell) (ports : ℕ → Tri) (t : Tri) → is_idle cell ≡ true → tri_forced_by cell.force ports t ≡ t
+idle_forced : (cell : Cell) (ports : ℕ → Tri) (t : Tri) → is_idle cell ≡ true → tri_forced_by cell.forces ports t ≡ t
 idle_forced cell ports t is =
-    let parts = and_parts (if cell.falling then false else is_loose cell.input) (is_unscanned cell.scan && is_unforced cell.force) is in
-    no_force cell.force ports t (and_parts (is_unscanned cell.scan) (is_unforced cell.force) parts.1).1
+    let parts = and_parts (if cell.falling then false else is_loose cell.takes.input) (is_unscanned cell.takes.scan && is_unforced cell.forces) is in
+    no_force cell.forces ports t (and_parts (is_unscanned cell.takes.scan) (is_unforced cell.forces) parts.1).1
 
 -- ---- idle cells stay as they are
 
@@ -95,5 +99,5 @@ down_idle false loose rest is = absurd (true≢false (sym is))
 pub left_falls : (l : Layout) (flops : List FlipFlop) (pulsed : List Bool) (c : ℕ) → is_carried l [] c ≡ false → is_changed (flop_at flops c) false pulsed ≡ true → is_left l [] flops c ≡ false
 left_falls l flops pulsed c stays up =
     let cell : Cell = flop_at flops c in
-    let down : is_idle cell ≡ false = down_idle cell.falling (is_loose cell.input) (is_unscanned cell.scan && is_unforced cell.force) (and_parts (flag_at pulsed cell.domain) (takes false cell.falling) up).1 in
+    let down : is_idle cell ≡ false = down_idle cell.falling (is_loose cell.takes.input) (is_unscanned cell.takes.scan && is_unforced cell.forces) (and_parts (flag_at pulsed cell.domain) (takes false cell.falling) up).1 in
     ap (λ (b : Bool). b || (is_idle cell && ((place_at l.places c).register == 0))) stays ∙ ap (λ (b : Bool). b && ((place_at l.places c).register == 0)) down

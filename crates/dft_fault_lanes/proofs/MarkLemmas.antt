@@ -7,9 +7,10 @@ use Rattle.std.proofs.lemmas.Bool.Decides.{eqb_tells, leb_tells}
 use Rattle.dft_base.proofs.BitLemmas.{or_later}
 use Rattle.dft_base.specs.declared.tri.Tri.{Tri}
 use Rattle.dft_base.specs.declared.tri.Tri.TheVariants.{Zero, One, Unknown}
+use Rattle.dft_cells.specs.FlipFlops.{Scan}
 use Rattle.dft_netlist.specs.declared.ids.NetId.{NetId}
 use Rattle.dft_netlist.specs.Drivers.{Source, Net, Tied, Loose, nets_of}
-use Rattle.dft_behavior.specs.Logic.{Cell, Scan}
+use Rattle.dft_behavior.specs.Logic.{Cell}
 use Rattle.dft_netlist.specs.Orders.{Has}
 use Rattle.dft_behavior.specs.Settled.{value_from}
 use Rattle.dft_netlist.proofs.StandLemmas.{has_push, has_push_cases}
@@ -49,7 +50,7 @@ chosen_more : (needs : ℕ → Bool) (known v : Tri) (scan_in data_in : Source) 
 chosen_more needs known v scan_in data_in (inl none) has = of_both needs v scan_in data_in (subst (λ (t : Tri). HasAll needs (nets_of (chosen_reads t scan_in data_in))) none has)
 chosen_more needs known v scan_in data_in (inr is) has = subst (λ (t : Tri). HasAll needs (nets_of (chosen_reads t scan_in data_in))) (sym is) has
 
-taken_has : (needs : ℕ → Bool) (s : Steer) (scan : Option Scan) (values : ℕ → Tri) (data_in : Source) → Steers s values → HasAll needs (taken_needs s scan data_in) → HasAll needs (nets_of (taken_reads scan (value_from values) data_in))
+taken_has : (needs : ℕ → Bool) (s : Steer) (scan : Option (Scan Source)) (values : ℕ → Tri) (data_in : Source) → Steers s values → HasAll needs (taken_needs s scan data_in) → HasAll needs (nets_of (taken_reads scan (value_from values) data_in))
 taken_has needs s None values data_in steers has = has
 taken_has needs s (Some scan) values data_in steers has =
     let known : Tri = enable_at s scan.enable in
@@ -60,7 +61,7 @@ taken_has needs s (Some scan) values data_in steers has =
 -- a set that has what may be read has what is read
 pub reads_of_needs : (needs : ℕ → Bool) (s : Steer) (cell : Cell) → HasAll needs (cell_needs s cell) → HasReadsOf needs s cell
 reads_of_needs needs s cell has ports values steers =
-    force_has needs cell.force ports (taken_reads cell.scan (value_from values) cell.input) (taken_has needs s cell.scan values cell.input steers has)
+    force_has needs cell.forces ports (taken_reads cell.takes.scan (value_from values) cell.takes.input) (taken_has needs s cell.takes.scan values cell.takes.input steers has)
 
 -- what is marked for a cell
 pub reads_marked : (flops : List FlipFlop) (s : Steer) (count : ℕ) (marked : List Bool) (c : ℕ) → ((k : ℕ) → c < length flops → k < count → Has (cell_needs s (flop_at flops c)) k → flag_at marked k ≡ true) → HasReadsOf (needs_of count marked) s (flop_at flops c)

@@ -8,16 +8,15 @@ use Rattle.dft_base.proofs.BitLemmas.{neither}
 use Rattle.dft_base.specs.declared.tri.Tri.{Tri}
 use Rattle.dft_base.specs.declared.tri.Tri.TheVariants.{One, Unknown}
 use Rattle.dft_base.proofs.SumLemmas.{and_false}
-use Rattle.dft_cells.specs.FlipFlops.{tri_chosen}
+use Rattle.dft_cells.specs.FlipFlops.{tri_chosen, Scan, Forces, no_forces, tri_forced_by, tri_scanned}
 use Rattle.dft_cells.proofs.TriLemmas.{chosen_one}
 use Rattle.dft_lanes.specs.declared.wide.Wide.{Wide}
 use Rattle.dft_netlist.specs.declared.ids.NetId.{NetId}
 use Rattle.dft_netlist.specs.Drivers.{Source, Net, Tied, Loose, nets_of}
-use Rattle.dft_behavior.specs.Logic.{Cell, Force, Scan}
+use Rattle.dft_behavior.specs.Logic.{Cell}
 use Rattle.dft_netlist.specs.Orders.{Has}
 use Rattle.dft_behavior.specs.Runs.{takes}
 use Rattle.dft_behavior.specs.Settled.{value_from}
-use Rattle.dft_abstract.specs.Cycle.{tri_forced_by, tri_taken_by}
 use Rattle.dft_registers.specs.Layout.{Layout, place_at, cells_at}
 use Rattle.dft_lane_registers.specs.Cells.{Contents, Course, Rests, Follows, course_in, course, IsCarried, IsShifted}
 use Rattle.dft_evaluator.specs.Wides.{value_in, values_in, wide_at, unknown_wide, IsWide, AreWides}
@@ -141,28 +140,28 @@ steer_one s values one (inr is) = is ∙ one
 takes_reads : (needs : ℕ → Bool) (ops : List Op) (clamps : List (Option Clamp)) (s : Steer) (cell : Cell) (other : ℕ) → TakesFrom ops clamps s cell other → HasAll needs (enable_needs cell) →
     ((net : ℕ) → cell_shown ops clamps net ≡ Some other → needs net ≡ true) → HasReadsOf needs s cell
 takes_reads needs ops clamps s cell other t enable shows ports values steers =
-    let E : Option Scan → Type 0 = λ o. HasAll needs (enable_of o) in
+    let E : Option (Scan Source) → Type 0 = λ o. HasAll needs (enable_of o) in
     let first : HasAll needs (nets_of (t.scan.enable ∷ [])) = subst E t.pins enable in
     let last : HasAll needs (nets_of (t.scan.input ∷ [])) = shows_has needs ops clamps t.scan.input other t.input shows in
     let one : value_from values t.scan.enable ≡ One = ap (value_from values) t.enable ∙ steer_one s values t.steered steers in
-    let R : Tri → Type 0 = λ v. HasAll needs (nets_of (t.scan.enable ∷ chosen_reads v t.scan.input cell.input)) in
+    let R : Tri → Type 0 = λ v. HasAll needs (nets_of (t.scan.enable ∷ chosen_reads v t.scan.input cell.takes.input)) in
     let both : R (value_from values t.scan.enable) = subst R (sym one) (more_all needs t.scan.enable (t.scan.input ∷ []) first last) in
-    let T : Option Scan → Type 0 = λ o. HasAll needs (nets_of (taken_reads o (value_from values) cell.input)) in
-    force_has needs cell.force ports (taken_reads cell.scan (value_from values) cell.input) (subst T (sym t.pins) both)
+    let T : Option (Scan Source) → Type 0 = λ o. HasAll needs (nets_of (taken_reads o (value_from values) cell.takes.input)) in
+    force_has needs cell.forces ports (taken_reads cell.takes.scan (value_from values) cell.takes.input) (subst T (sym t.pins) both)
 
 -- no reset or set acts on it
-stays_so : (s : Steer) (cell : Cell) (ports : ℕ → Tri) → (cell.force ≡ None) ⊎ (s.free ≡ true) → (s.free ≡ true → (t : Tri) → tri_forced_by cell.force ports t ≡ t) → (t : Tri) → tri_forced_by cell.force ports t ≡ t
-stays_so s cell ports (inl none) free t = ap (λ (f : Option Force). tri_forced_by f ports t) none
+stays_so : (s : Steer) (cell : Cell) (ports : ℕ → Tri) → (cell.forces ≡ no_forces) ⊎ (s.free ≡ true) → (s.free ≡ true → (t : Tri) → tri_forced_by cell.forces ports t ≡ t) → (t : Tri) → tri_forced_by cell.forces ports t ≡ t
+stays_so s cell ports (inl none) free t = ap (λ (f : Forces ℕ). tri_forced_by f ports t) none
 stays_so s cell ports (inr is) free t = free is t
 
-takes_value : (ops : List Op) (clamps : List (Option Clamp)) (s : Steer) (cell : Cell) (other : ℕ) (ports values : ℕ → Tri) (v : Tri) → TakesFrom ops clamps s cell other → (s.free ≡ true → (t : Tri) → tri_forced_by cell.force ports t ≡ t) → Steers s values → ((net : ℕ) → cell_shown ops clamps net ≡ Some other → values net ≡ v) →
+takes_value : (ops : List Op) (clamps : List (Option Clamp)) (s : Steer) (cell : Cell) (other : ℕ) (ports values : ℕ → Tri) (v : Tri) → TakesFrom ops clamps s cell other → (s.free ≡ true → (t : Tri) → tri_forced_by cell.forces ports t ≡ t) → Steers s values → ((net : ℕ) → cell_shown ops clamps net ≡ Some other → values net ≡ v) →
     next_at cell ports values ≡ v
 takes_value ops clamps s cell other ports values v t free steers shows =
     let at : Source → Tri = value_from values in
     let forced : next_at cell ports values ≡ taken_at cell values = stays_so s cell ports t.loose free (taken_at cell values) in
-    let scanned : taken_at cell values ≡ tri_chosen (at t.scan.enable) (at t.scan.input) (at cell.input) = ap (λ (o : Option Scan). tri_taken_by o at (at cell.input)) t.pins in
+    let scanned : taken_at cell values ≡ tri_chosen (at t.scan.enable) (at t.scan.input) (at cell.takes.input) = ap (λ (o : Option (Scan Source)). tri_scanned o at (at cell.takes.input)) t.pins in
     let one : at t.scan.enable ≡ One = ap at t.enable ∙ steer_one s values t.steered steers in
-    forced ∙ scanned ∙ ap (λ (e : Tri). tri_chosen e (at t.scan.input) (at cell.input)) one ∙ chosen_one (at t.scan.input) (at cell.input) ∙ shows_value ops clamps t.scan.input other values v t.input shows
+    forced ∙ scanned ∙ ap (λ (e : Tri). tri_chosen e (at t.scan.input) (at cell.takes.input)) one ∙ chosen_one (at t.scan.input) (at cell.takes.input) ∙ shows_value ops clamps t.scan.input other values v t.input shows
 
 -- ---- a cell that is carried
 
@@ -231,13 +230,13 @@ pub steers_seen : (x : Circuit) (clamps : List (Option Clamp)) (l : Layout) (sig
 steers_seen x clamps l signals p held wides lane is size (inl none) = inl none
 steers_seen x clamps l signals p held wides lane is size (inr at) = inr (ap (λ (w : Wide). value_in w lane) (marked_seen x.ops clamps p.marked.items held wides p.steer.net.0 size is.steered) ∙ at)
 
-taken_by_enable : (scan : Option Scan) (v w : ℕ → Tri) (data_in : Source) → Agree v w (enable_of scan) → taken_reads scan (value_from v) data_in ≡ taken_reads scan (value_from w) data_in
+taken_by_enable : (scan : Option (Scan Source)) (v w : ℕ → Tri) (data_in : Source) → Agree v w (enable_of scan) → taken_reads scan (value_from v) data_in ≡ taken_reads scan (value_from w) data_in
 taken_by_enable None v w d same = refl
 taken_by_enable (Some scan) v w d same = ap (λ (e : Tri). scan.enable ∷ chosen_reads e scan.input d) (source_agrees v w scan.enable same)
 
 -- what a cell reads is told by its scan enable
 reads_by_enable : (cell : Cell) (ports v w : ℕ → Tri) → Agree v w (enable_needs cell) → next_reads cell ports (value_from v) ≡ next_reads cell ports (value_from w)
-reads_by_enable cell ports v w same = ap (forced_reads cell.force ports) (taken_by_enable cell.scan v w cell.input same)
+reads_by_enable cell ports v w same = ap (forced_reads cell.forces ports) (taken_by_enable cell.takes.scan v w cell.takes.input same)
 
 -- ---- which lanes stay live
 

@@ -1,5 +1,5 @@
 -- From what a plan is to what it gives.
-use Rattle.std.proofs.Common.{ℕ, zero, suc, Bool, true, false, ◌≡◌, ◌<◌, ◌≤◌, ◌+◌, ◌++◌, ◌⊎◌, inl, inr, List, [], ◌∷◌, length, map, drop, get_or, refl, sym, ap, subst, arith, ◌∙◌, true≢false, Option, None, Some}
+use Rattle.std.proofs.Common.{ℕ, zero, suc, Bool, true, false, ◌≡◌, ◌<◌, ◌≤◌, ◌+◌, ◌++◌, ◌⊎◌, inl, inr, List, [], ◌∷◌, length, map, drop, get_or, refl, sym, ap, subst, arith, ◌∙◌, true≢false, Option, None}
 use Rattle.std.specs.Prelude.{◌==◌, ◌&&◌, nat_le, nat_lt, if◌then◌else◌}
 use Rattle.std.proofs.lemmas.List.{get_or_past, drop_all}
 use Rattle.std.proofs.lemmas.Bool.{cases_Bool, cases_eq, or_left}
@@ -7,13 +7,12 @@ use Rattle.std.proofs.lemmas.Bool.Decides.{eqb_tells, leb_tells}
 use Rattle.dft_base.specs.declared.tri.Tri.{Tri}
 use Rattle.dft_base.specs.declared.tri.Tri.TheVariants.{One, Unknown}
 use Rattle.dft_base.proofs.SumLemmas.{and_false}
-use Rattle.dft_cells.specs.FlipFlops.{tri_forced}
-use Rattle.dft_cells.proofs.TriLemmas.{forced_one}
+use Rattle.dft_cells.specs.FlipFlops.{Forces, tri_forced_by}
 use Rattle.dft_lanes.specs.declared.wide.Wide.{Wide}
 use Rattle.dft_registers.specs.Layout.{Layout, place_at}
 use Rattle.dft_netlist.specs.declared.ids.NetId.{NetId}
 use Rattle.dft_netlist.specs.Drivers.{nets_of}
-use Rattle.dft_behavior.specs.Logic.{Cell, Force}
+use Rattle.dft_behavior.specs.Logic.{Cell}
 use Rattle.dft_netlist.specs.Orders.{Has, numbers_of}
 use Rattle.dft_behavior.specs.Settled.{value_from}
 use Rattle.dft_patterns.specs.declared.act.Act.{Act}
@@ -28,7 +27,8 @@ use Rattle.dft_logic.specs.declared.circuit.FlipFlop.{FlipFlop}
 use Rattle.dft_logic.specs.declared.circuit.Op.{Op}
 use Rattle.dft_logic.specs.declared.circuit.Op.TheVariants as op
 use Rattle.dft_takings.specs.declared.shown.Shown.{Shown}
-use Rattle.dft_abstract.specs.Cycle.{tri_forced_by}
+use Rattle.dft_cells.proofs.TakesLemmas.{left_rests}
+use Rattle.dft_logic.proofs.Writings.{force_listed}
 use Rattle.dft_logic.specs.Circuit.{Circuit, cell_of, force_at, force_nets, meaning, op_at, flag_at}
 use Rattle.dft_logic.specs.Values.{value_at}
 use Rattle.dft_takings.specs.Needs.{HasAll, next_reads}
@@ -141,7 +141,7 @@ numbers_read (first ∷ nets) (suc j) d less = inr (numbers_read nets j d (omega
 -- the ports of the cells before one
 pub record Forcing (flops : List FlipFlop) (list : List NetId) (place : ℕ) : Type 0 where
   pub count : length list ≤ place
-  pub has : (c port : ℕ) → c < place → Has (force_nets (flop_at flops c).force) port → Has (numbers_of list) port
+  pub has : (c port : ℕ) → c < place → Has (force_nets (flop_at flops c).forces) port → Has (numbers_of list) port
 
 pub forcing_starts : (flops : List FlipFlop) (list : List NetId) → list ≡ [] → Forcing flops list 0
 forcing_starts flops list none = let size : length list ≡ 0 = ap length none in record { count = omega (arith, size); has = λ c port less. absurd (omega arith) }
@@ -154,7 +154,7 @@ forcing_more flops list now place flop less read size kept here old =
     record {
       count = omega (arith, size, before);
       has = λ c port within h. elim (cases_eq c place) [
-        | inl e ↦ here port (let F : Cell → Type 0 = λ k. Has (force_nets k.force) port in subst F (sym cell) (subst (λ (i : ℕ). Has (force_nets (flop_at flops i).force) port) e h))
+        | inl e ↦ here port (let F : Cell → Type 0 = λ k. Has (force_nets k.forces) port in subst F (sym cell) (subst (λ (i : ℕ). Has (force_nets (flop_at flops i).forces) port) e h))
         | inr ne ↦ kept port (old.has c port (omega (arith, within, ne)) h)
       ];
     }
@@ -175,13 +175,12 @@ ones_all nets ports j past old net h = elim (old net h) [
   | inr later ↦ (let F : List NetId → Type 0 = λ l. Has (numbers_of l) net in absurd (subst F (drop_all j nets past) later))
 ]
 
-unforced : (force : Option Force) (ports : List Tri) (t : Tri) → ((port : ℕ) → Has (force_nets force) port → value_at ports port ≡ One) → tri_forced_by force (value_at ports) t ≡ t
-unforced None ports t ones = refl
-unforced (Some force) ports t ones = ap (λ (p : Tri). tri_forced force.value p t) (ones force.port (inl refl)) ∙ forced_one force.value t
+unforced : (forces : Forces ℕ) (ports : List Tri) (t : Tri) → ((port : ℕ) → Has (force_nets forces) port → value_at ports port ≡ One) → tri_forced_by forces (value_at ports) t ≡ t
+unforced forces ports t ones = left_rests forces (value_at ports) t (λ port is. ones port (force_listed forces port is))
 
 -- where all ports of resets and sets are 1 none acts
 pub none_acts : (flops : List FlipFlop) (ports : List Tri) (forces : List NetId) → HasForces flops (numbers_of forces) → ((net : ℕ) → Has (numbers_of forces) net → value_at ports net ≡ One) → NoneActs flops ports
-none_acts flops ports forces has ones c near t = unforced (flop_at flops c).force ports t (λ port h. ones port (has c port near h))
+none_acts flops ports forces has ones c near t = unforced (flop_at flops c).forces ports t (λ port h. ones port (has c port near h))
 
 -- ---- acts
 

@@ -9,10 +9,11 @@ use Rattle.dft_base.proofs.SumLemmas.{and_false}
 use Rattle.dft_cells.specs.Tables.{and_tri, not_tri}
 use Rattle.dft_lanes.specs.declared.wide.Wide.{Wide}
 use Rattle.dft_lanes.specs.Choices.{can, some_choice_of_two}
+use Rattle.dft_cells.specs.FlipFlops.{Forces}
 use Rattle.dft_netlist.specs.Drivers.{Source, nets_of}
-use Rattle.dft_behavior.specs.Logic.{Cell, Force}
+use Rattle.dft_behavior.specs.Logic.{Cell}
 use Rattle.dft_behavior.specs.Settled.{value_from}
-use Rattle.dft_takings.specs.Needs.{HasAll, chosen_reads, reads_at, forced_reads, next_reads}
+use Rattle.dft_takings.specs.Needs.{HasAll, chosen_reads, reads_at, reads_where, forced_reads, next_reads}
 use Rattle.dft_takings.specs.Shows.{still_needs}
 use Rattle.dft_takings.specs.ShownTables.{shown_at}
 use Rattle.dft_logic.specs.declared.circuit.FlipFlop.{FlipFlop}
@@ -70,9 +71,12 @@ port_has needs Zero sources has = tt
 port_has needs One sources has = has
 port_has needs Unknown sources has = has
 
-pub force_has : (needs : ℕ → Bool) (force : Option Force) (ports : ℕ → Tri) (sources : List Source) → HasAll needs (nets_of sources) → HasAll needs (nets_of (forced_reads force ports sources))
-force_has needs None ports sources has = has
-force_has needs (Some force) ports sources has = port_has needs (ports force.port) sources has
+where_has : (needs : ℕ → Bool) (pin : Option ℕ) (ports : ℕ → Tri) (sources : List Source) → HasAll needs (nets_of sources) → HasAll needs (nets_of (reads_where pin ports sources))
+where_has needs None ports sources has = has
+where_has needs (Some port) ports sources has = port_has needs (ports port) sources has
+
+pub force_has : (needs : ℕ → Bool) (forces : Forces ℕ) (ports : ℕ → Tri) (sources : List Source) → HasAll needs (nets_of sources) → HasAll needs (nets_of (forced_reads forces ports sources))
+force_has needs forces ports sources has = where_has needs forces.clear ports (reads_where forces.preset ports sources) (where_has needs forces.preset ports sources has)
 
 -- a cell without scan pins
 pub plain_has : (needs : ℕ → Bool) (flop : FlipFlop) (ports : ℕ → Tri) (at : Source → Tri) → flop.scan ≡ None → HasAll needs (nets_of (source_at flop.input ∷ [])) → HasAll needs (nets_of (next_reads (cell_of flop) ports at))

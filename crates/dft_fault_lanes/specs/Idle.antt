@@ -2,11 +2,13 @@
 use Rattle.std.specs.Prelude.{ℕ, Bool, true, false, ◌≡◌, ◌<◌, ◌==◌, ◌&&◌, ◌||◌, List, Option, None, Some, if◌then◌else◌}
 use Rattle.dft_base.specs.declared.tri.Tri.TheVariants.{Unknown}
 use Rattle.dft_lanes.specs.declared.wide.Wide.{Wide}
+use Rattle.dft_cells.specs.FlipFlops.{Scan}
 use Rattle.dft_netlist.specs.Drivers.{Source, Net, Tied, Loose}
-use Rattle.dft_behavior.specs.Logic.{Cell, Scan, Force}
+use Rattle.dft_behavior.specs.Logic.{Cell}
 use Rattle.dft_registers.specs.Layout.{Layout, place_at}
 use Rattle.dft_logic.specs.declared.circuit.FlipFlop.{FlipFlop}
 use Rattle.dft_evaluator.specs.Wides.{values_in}
+use Rattle.dft_takings.specs.Takings.{is_unforced}
 use Rattle.dft_fault_lanes.specs.Lanes.{flop_at}
 use Rattle.dft_fault_lanes.specs.Moves.{is_carried}
 
@@ -16,17 +18,13 @@ is_loose (Net net) = false
 is_loose (Tied bit) = false
 is_loose (Loose i pin) = true
 
-abbrev pub is_unscanned : Option Scan → Bool
+abbrev pub is_unscanned : Option (Scan Source) → Bool
 is_unscanned None = true
 is_unscanned (Some scan) = false
 
-abbrev pub is_unforced : Option Force → Bool
-is_unforced None = true
-is_unforced (Some force) = false
-
 -- a cell that takes nothing at a fall, has no reset, set or scan pins, and whose data input is joined to nothing
 abbrev pub is_idle : Cell → Bool
-is_idle cell = (if cell.falling then false else is_loose cell.input) && (is_unscanned cell.scan && is_unforced cell.force)
+is_idle cell = (if cell.falling then false else is_loose cell.takes.input) && (is_unscanned cell.takes.scan && is_unforced cell.forces)
 
 -- whether a cell need not be looked at as clocks rise or fall: it is carried, or it is idle and lies in no register
 abbrev pub is_left : Layout → (moves : List Bool) → List FlipFlop → (cell : ℕ) → Bool

@@ -4,6 +4,7 @@ use Rattle.dft_base.specs.declared.tri.Tri.{Tri}
 use Rattle.dft_base.specs.declared.tri.Tri.TheVariants.{One}
 use Rattle.dft_base.specs.Tri.{known}
 use Rattle.dft_cells.specs.Tables.{and_tri, or_tri}
+use Rattle.dft_cells.specs.FlipFlops.{tri_forced_by}
 use Rattle.dft_behavior.specs.Logic.{Meaning}
 use Rattle.dft_netlist.specs.Drivers.{nets_of}
 use Rattle.dft_behavior.specs.Settled.{value_from, value_given}
@@ -12,7 +13,7 @@ use Rattle.dft_evaluator.specs.Wides.{value_in, values_in, IsWide}
 use Rattle.dft_logic.specs.declared.circuit.Op.{Op}
 use Rattle.dft_behavior.specs.Logic.{Cell}
 use Rattle.dft_behavior.specs.Runs.{takes, Vector}
-use Rattle.dft_abstract.specs.Cycle.{tri_forced_by, Round, IsRound, after_round}
+use Rattle.dft_abstract.specs.Cycle.{Round, IsRound, after_round}
 use Rattle.dft_logic.specs.declared.circuit.FlipFlop.{FlipFlop}
 use Rattle.dft_logic.specs.Circuit.{Circuit, op_at, meaning, flag_at, cell_of, cell_at, next_at, logic_at}
 use Rattle.dft_logic.specs.Values.{value_at}
@@ -80,7 +81,7 @@ flop_at flops c = cell_at (map cell_of flops) c
 
 -- resets and sets acted on each cell in each lane
 abbrev pub AreActedOn : List FlipFlop → (ports : List Tri) → (old new : List Wide) → Type 0
-AreActedOn flops ports old new = (lane c : ℕ) → lane < 512 → values_in new lane c ≡ tri_forced_by (flop_at flops c).force (value_at ports) (values_in old lane c)
+AreActedOn flops ports old new = (lane c : ℕ) → lane < 512 → values_in new lane c ≡ tri_forced_by (flop_at flops c).forces (value_at ports) (values_in old lane c)
 
 -- whether a cell takes a value where these clocks rise, or fall
 abbrev pub is_changed : Cell → (rising : Bool) → (pulsed : List Bool) → Bool

@@ -2,14 +2,14 @@
 use Rattle.std.specs.Prelude.{ℕ, Bool, true, ◌≡◌, ◌<◌, ◌⊎◌, ◌&&◌, nat_lt, List, [], ◌∷◌, Option, None, Some, length}
 use Rattle.dft_base.specs.declared.tri.Tri.{Tri}
 use Rattle.dft_base.specs.declared.tri.Tri.TheVariants.{One}
+use Rattle.dft_cells.specs.FlipFlops.{Scan, no_forces, tri_forced_by}
 use Rattle.dft_netlist.specs.Drivers.{Source, Net, Tied, Loose, nets_of}
-use Rattle.dft_behavior.specs.Logic.{Cell, Scan}
+use Rattle.dft_behavior.specs.Logic.{Cell}
 use Rattle.dft_registers.specs.Layout.{Layout, place_at, cells_at}
 use Rattle.dft_lane_registers.specs.Cells.{Course, Rests, Enters, Follows, course_in}
 use Rattle.dft_logic.specs.declared.circuit.FlipFlop.{FlipFlop}
 use Rattle.dft_logic.specs.declared.circuit.Op.{Op}
 use Rattle.dft_netlist.specs.Orders.{Has}
-use Rattle.dft_abstract.specs.Cycle.{tri_forced_by}
 use Rattle.dft_logic.specs.Values.{value_at}
 use Rattle.dft_logic.specs.Circuit.{flag_at, force_nets}
 use Rattle.dft_fault_lanes.specs.declared.clamps.Clamp.{Clamp}
@@ -30,9 +30,9 @@ ShowsCell ops clamps (Loose i pin) cell = ⊥
 -- A cell takes the value of another one: its scan enable is the steer's net, which is 1, its scan input is the bit of the other cell, and no reset or set acts on it.
 pub record TakesFrom (ops : List Op) (clamps : List (Option Clamp)) (s : Steer) (cell : Cell) (other : ℕ) : Type 0 where
   pub steered : s.value ≡ One
-  pub loose : (cell.force ≡ None) ⊎ (s.free ≡ true)
-  pub scan : Scan
-  pub pins : cell.scan ≡ Some scan
+  pub loose : (cell.forces ≡ no_forces) ⊎ (s.free ≡ true)
+  pub scan : Scan Source
+  pub pins : cell.takes.scan ≡ Some scan
   pub enable : scan.enable ≡ Net s.net.0
   pub input : ShowsCell ops clamps scan.input other
 
@@ -51,17 +51,17 @@ AreMoves ops clamps flops s pulsed l moves =
     (c : ℕ) → c < length flops → flag_at moves (place_at l.places c).register ≡ true → MovesAt ops clamps s pulsed l (flop_at flops c) c
 
 -- the net of a cell's scan enable
-abbrev pub enable_of : Option Scan → List ℕ
+abbrev pub enable_of : Option (Scan Source) → List ℕ
 enable_of None = []
 enable_of (Some scan) = nets_of (scan.enable ∷ [])
 
 abbrev pub enable_needs : Cell → List ℕ
-enable_needs cell = enable_of cell.scan
+enable_needs cell = enable_of cell.takes.scan
 
 -- no reset or set acts where ports have these values
 abbrev pub NoneActs : List FlipFlop → (ports : List Tri) → Type 0
-NoneActs flops ports = (c : ℕ) → c < length flops → (t : Tri) → tri_forced_by (flop_at flops c).force (value_at ports) t ≡ t
+NoneActs flops ports = (c : ℕ) → c < length flops → (t : Tri) → tri_forced_by (flop_at flops c).forces (value_at ports) t ≡ t
 
 -- a list has the ports of all resets and sets
 abbrev pub HasForces : List FlipFlop → (forces : List ℕ) → Type 0
-HasForces flops forces = (c port : ℕ) → c < length flops → Has (force_nets (flop_at flops c).force) port → Has forces port
+HasForces flops forces = (c port : ℕ) → c < length flops → Has (force_nets (flop_at flops c).forces) port → Has forces port

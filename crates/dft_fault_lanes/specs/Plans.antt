@@ -3,9 +3,10 @@ use Rattle.std.specs.Prelude.{ℕ, Bool, true, false, ◌≡◌, ◌<◌, ◌⊎
 use Rattle.dft_base.specs.declared.tri.Tri.{Tri}
 use Rattle.dft_base.specs.declared.tri.Tri.TheVariants.{Unknown}
 use Rattle.dft_lanes.specs.declared.wide.Wide.{Wide}
+use Rattle.dft_cells.specs.FlipFlops.{Scan}
 use Rattle.dft_netlist.specs.declared.ids.NetId.{NetId}
 use Rattle.dft_netlist.specs.Drivers.{Source, Net, Tied, Loose, nets_of}
-use Rattle.dft_behavior.specs.Logic.{Cell, Scan}
+use Rattle.dft_behavior.specs.Logic.{Cell}
 use Rattle.dft_netlist.specs.Orders.{Has}
 use Rattle.dft_behavior.specs.Settled.{value_from}
 use Rattle.dft_patterns.specs.declared.act.Act.{Act}
@@ -50,12 +51,12 @@ enable_at s (Tied bit) = Unknown
 enable_at s (Loose i pin) = Unknown
 
 -- the nets that a cell's next value may be read from
-abbrev pub taken_needs : Steer → Option Scan → (data_in : Source) → List ℕ
+abbrev pub taken_needs : Steer → Option (Scan Source) → (data_in : Source) → List ℕ
 taken_needs s None data_in = nets_of (data_in ∷ [])
 taken_needs s (Some scan) data_in = nets_of (scan.enable ∷ chosen_reads (enable_at s scan.enable) scan.input data_in)
 
 abbrev pub cell_needs : Steer → Cell → List ℕ
-cell_needs s cell = taken_needs s cell.scan cell.input
+cell_needs s cell = taken_needs s cell.takes.scan cell.takes.input
 
 -- whether a clock pulses, by signals
 abbrev pub pulse_on : (nets : List ℕ) → (pulses : List Bool) → (net : ℕ) → Bool

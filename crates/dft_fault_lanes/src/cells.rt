@@ -2,7 +2,7 @@
 
 ghost use Rattle.std.specs.Prelude.{◌≡◌, ◌<◌, ℕ, false, length, true};
 ghost use Rattle.dft_base.specs.declared.tri.Tri.{Tri as ATri};
-ghost use Rattle.dft_abstract.specs.Cycle.{tri_forced_by};
+ghost use Rattle.dft_cells.specs.FlipFlops.{tri_forced, tri_forced_by};
 ghost use Rattle.dft_netlist.specs.Orders.{Has};
 ghost use Rattle.dft_logic.specs.Circuit.{cell_of, force_at, next_at, taken_at};
 ghost use Rattle.dft_logic.specs.Values as spec;
@@ -32,16 +32,24 @@ fn taken_wide(flop: &FlipFlop, wides: &[Wide]) -> Wide
     }
 }
 
+// What a reset (value 0) or a set (value 1) whose pin has this value leaves of what was taken.
+fn pressed_wide(value: bool, pin: Tri, wide: &Wide) -> Wide
+    ensures { (values : ℕ → ATri) → IsWide wide.now values → IsWide result (λ lane. tri_forced value pin (values lane)) }
+{
+    match pin {
+        Tri::One => *wide,
+        Tri::Zero => all(known_bit(value)),
+        Tri::Unknown => wide_mux(&all(known_bit(value)), wide, &unknown()),
+    }
+}
+
 // What a reset or set leaves of what was taken.
 fn forced_wide(force: Option<Acting>, ports: &[Tri], wide: &Wide) -> Wide
     ensures { (values : ℕ → ATri) → IsWide wide.now values → IsWide result (λ lane. tri_forced_by (force_at force) (spec.value_at ports.now) (values lane)) }
 {
     match force {
-        Some(acting) => match value_at(ports, acting.port.0) {
-            Tri::One => *wide,
-            Tri::Zero => all(known_bit(acting.value)),
-            Tri::Unknown => wide_mux(&all(known_bit(acting.value)), wide, &unknown()),
-        },
+        Some(Acting::Clear(port)) => pressed_wide(false, value_at(ports, port.0), wide),
+        Some(Acting::Preset(port)) => pressed_wide(true, value_at(ports, port.0), wide),
         None => *wide,
     }
 }
@@ -60,7 +68,7 @@ fn may_act(force: Option<Acting>, ports: &[Tri]) -> bool
     ensures { result ≡ false → (value : ATri) → tri_forced_by (force_at force) (spec.value_at ports.now) value ≡ value }
 {
     match force {
-        Some(acting) => match value_at(ports, acting.port.0) {
+        Some(Acting::Clear(port)) | Some(Acting::Preset(port)) => match value_at(ports, port.0) {
             Tri::One => false,
             Tri::Zero | Tri::Unknown => true,
         },

@@ -10,7 +10,7 @@ ghost use Rattle.dft_fault_lanes.specs.Moves.{HasForces};
 
 use crate::comparing::is_one;
 use dft_base::Tri;
-use dft_logic::{Acting, FlipFlop, value_at};
+use dft_logic::{Acting, FlipFlop, force_net, value_at};
 use dft_netlist::NetId;
 
 // Whether two nets are the same.
@@ -53,8 +53,8 @@ fn add_force(force: Option<Acting>, list: &mut Vec<NetId>)
     ensures kept { (k : ℕ) → Has (numbers_of list.old.items) k → Has (numbers_of list.new.items) k }
     ensures here { (k : ℕ) → Has (force_nets (force_at force)) k → Has (numbers_of list.new.items) k }
 {
-    match force {
-        Some(acting) => add_net(acting.port, list),
+    match force_net(force) {
+        Some(port) => add_net(port, list),
         None => (),
     }
 }

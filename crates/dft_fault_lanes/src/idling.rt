@@ -1,12 +1,13 @@
 //! Cells that read nothing.
 
 ghost use Rattle.std.specs.Prelude.{◌≡◌, ◌==◌, ◌&&◌, ◌||◌, nat_lt, false, if◌then◌else◌};
-ghost use Rattle.dft_logic.specs.Circuit.{cell_of, flag_at as is_up, force_at, scan_at, source_at};
+ghost use Rattle.dft_logic.specs.Circuit.{cell_of, flag_at as is_up, scan_at, source_at};
 ghost use Rattle.dft_fault_lanes.specs.Idle as spec;
 
 use crate::moves::is_carried;
-use dft_logic::{Acting, FlipFlop, Operand, ScanPins};
+use dft_logic::{FlipFlop, Operand, ScanPins};
 use dft_registers::Place;
+use dft_takings::is_unforced;
 
 // Whether nothing is joined to a pin.
 fn is_loose(operand: &Operand) -> bool
@@ -24,16 +25,6 @@ fn is_unscanned(scan: Option<ScanPins>) -> bool
     ensures { result ≡ spec.is_unscanned (scan_at scan) }
 {
     match scan {
-        None => true,
-        Some(_) => false,
-    }
-}
-
-// Whether there is no reset or set.
-fn is_unforced(force: Option<Acting>) -> bool
-    ensures { result ≡ spec.is_unforced (force_at force) }
-{
-    match force {
         None => true,
         Some(_) => false,
     }

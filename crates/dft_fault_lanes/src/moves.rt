@@ -3,6 +3,7 @@
 ghost use Rattle.std.specs.Prelude.{◌≡◌, ◌<◌, ◌⊎◌, ◌&&◌, nat_lt, ℕ, length, slice_index_or, true, false, None, Some, if◌then◌else◌};
 ghost use Rattle.dft_netlist.specs.Drivers.{Net};
 ghost use Rattle.dft_lane_registers.specs.Cells.{course_in};
+ghost use Rattle.dft_cells.specs.FlipFlops.{no_forces};
 ghost use Rattle.dft_logic.specs.Circuit.{cell_of, flag_at as is_up, force_at, op_at, source_at};
 ghost use Rattle.dft_base.specs.declared.tri.Tri.{Tri as ATri};
 ghost use Rattle.dft_fault_lanes.specs.Lanes.{clamp_at};
@@ -121,7 +122,7 @@ fn pins_take(wiring: Wiring<'_>, scan: ScanPins, cell: usize) -> bool
 
 // Whether there is no reset or set, or none acts.
 fn is_loose(steer: Steer, force: Option<Acting>) -> bool
-    ensures { result ≡ true → (force_at force ≡ None) ⊎ (steer.free ≡ true) }
+    ensures { result ≡ true → (force_at force ≡ no_forces) ⊎ (steer.free ≡ true) }
 {
     match force {
         None => true,

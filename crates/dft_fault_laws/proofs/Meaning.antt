@@ -6,7 +6,7 @@ use Rattle.std.proofs.lemmas.Bool.Decides.{eqb_tells}
 use Rattle.std.proofs.lemmas.Option.{slice_get-map}
 use Rattle.dft_cells.specs.declared.cell.Cell as library
 use Rattle.dft_cells.specs.declared.kind.Gate.{Gate as GateKind}
-use Rattle.dft_cells.specs.declared.kind.Gate.TheVariants.{Buf}
+use Rattle.dft_cells.specs.declared.kind.Gate.TheVariants.{Buf, Inv}
 use Rattle.dft_cells.specs.declared.kind.Role.{Role}
 use Rattle.dft_cells.specs.declared.kind.Role.TheVariants as role
 use Rattle.dft_cells.specs.FlipFlops.{is_flip_flop}
@@ -16,10 +16,11 @@ use Rattle.dft_netlist.specs.declared.instance.Signal.{Signal}
 use Rattle.dft_netlist.specs.Netlist.{Netlist}
 use Rattle.dft_netlist.specs.Drivers.{Source, Net, Tied, Loose, Driver, Input, Gate, Flop, Free, driver, nets_of, pins_at, pins_of, kind_of, kind_at, shape_of, source_of, connections_from}
 use Rattle.dft_netlist.specs.Drivers as drivers
-use Rattle.dft_behavior.specs.Traces.{Root, root_of_passed, root_of_driver, root_within, passed_by_gate}
-use Rattle.dft_behavior.specs.ClockRoots.{ClockRoot, turn_of, turned_by, clock_of_gate, clock_of_driver, clock_within}
+use Rattle.dft_behavior.specs.NetRoots.{NetRoot, turned_root, passed_by_one, passed_by_gate, root_of_passed, root_of_driver, root_within}
+use Rattle.dft_behavior.specs.Traces.{straight_root}
+use Rattle.dft_behavior.specs.ClockRoots.{turn_of, clock_of}
 use Rattle.dft_netlist.specs.Connections.{same_role, pin_of}
-use Rattle.dft_behavior.specs.Logic.{Ports, Joined, or_loose, domain_of, domain_at, force_of, forcing, scan_of, modelled, flip_flop, is_lockup, locked, lock_up, cell_or_none, flop_meaning, lockup_meaning, meaning_of, logic_of}
+use Rattle.dft_behavior.specs.Logic.{Ports, Joined, or_loose, domain_of, domain_at, force_of, force_at, both_forces, forcing, forces_of, scan_of, modelled, flip_flop, is_lockup, locked, lock_up, cell_or_none, flop_meaning, lockup_meaning, meaning_of, logic_of}
 use Rattle.dft_takings.specs.Needs.{HasAll}
 use Rattle.dft_faults.specs.declared.fault.Fault.{Fault}
 use Rattle.dft_faults.specs.Faulty.{loosened_pin, loosened_pins, loosened, faulty, IsFault}
@@ -84,30 +85,19 @@ kind_kept n f i =
 
 -- ---- walks in the set of nets by which clocks, resets and sets come
 
-gate_clock : (control : ℕ → Bool) (a b : Source → Option ClockRoot) (turns : Option Bool) (inputs : List Source) → HasAll control (behind_gate turns inputs) →
-    ((source : Source) → HasAll control (nets_of (source ∷ [])) → a source ≡ b source) → clock_of_gate a turns inputs ≡ clock_of_gate b turns inputs
-gate_clock control a b None inputs has same = refl
-gate_clock control a b (Some turns) [] has same = refl
-gate_clock control a b (Some turns) (source ∷ []) has same = ap (turned_by turns) (same source has)
-gate_clock control a b (Some turns) (source ∷ more ∷ inputs) has same = refl
+one_root : (control : ℕ → Bool) (turns : Bool) (a b : Source → NetRoot) (inputs : List Source) → HasAll control (nets_of inputs) →
+    ((source : Source) → HasAll control (nets_of (source ∷ [])) → a source ≡ b source) → root_of_passed a (passed_by_one turns inputs) ≡ root_of_passed b (passed_by_one turns inputs)
+one_root control turns a b [] has same = refl
+one_root control turns a b (source ∷ []) has same = ap (turned_root turns) (same source has)
+one_root control turns a b (source ∷ more ∷ inputs) has same = refl
 
-driver_clock : (control : ℕ → Bool) (a b : Source → Option ClockRoot) (net : ℕ) (d : Driver) → HasAll control (behind d) →
-    ((source : Source) → HasAll control (nets_of (source ∷ [])) → a source ≡ b source) → clock_of_driver a net d ≡ clock_of_driver b net d
-driver_clock control a b net Input has same = refl
-driver_clock control a b net (Gate kind inputs) has same = gate_clock control a b (turn_of kind) inputs has same
-driver_clock control a b net (drivers.Joined source) has same = same source has
-driver_clock control a b net (Flop i inverted) has same = refl
-driver_clock control a b net (drivers.Lockup i) has same = refl
-driver_clock control a b net Free has same = refl
-
-gate_root : (control : ℕ → Bool) (a b : Source → Root) (kind : GateKind) (inputs : List Source) → HasAll control (behind_gate (turn_of kind) inputs) →
+gate_root : (control : ℕ → Bool) (a b : Source → NetRoot) (kind : GateKind) (inputs : List Source) → HasAll control (behind_gate (turn_of kind) inputs) →
     ((source : Source) → HasAll control (nets_of (source ∷ [])) → a source ≡ b source) → root_of_passed a (passed_by_gate kind inputs) ≡ root_of_passed b (passed_by_gate kind inputs)
-gate_root control a b Buf [] has same = refl
-gate_root control a b Buf (source ∷ []) has same = same source has
-gate_root control a b Buf (source ∷ more ∷ inputs) has same = refl
+gate_root control a b Buf inputs has same = one_root control false a b inputs has same
+gate_root control a b Inv inputs has same = one_root control true a b inputs has same
 gate_root control a b _ inputs has same = refl
 
-driver_root : (control : ℕ → Bool) (a b : Source → Root) (net : ℕ) (d : Driver) → HasAll control (behind d) →
+driver_root : (control : ℕ → Bool) (a b : Source → NetRoot) (net : ℕ) (d : Driver) → HasAll control (behind d) →
     ((source : Source) → HasAll control (nets_of (source ∷ [])) → a source ≡ b source) → root_of_driver a net d ≡ root_of_driver b net d
 driver_root control a b net Input has same = refl
 driver_root control a b net (Gate kind inputs) has same = gate_root control a b kind inputs has same
@@ -122,15 +112,6 @@ driver_kept n f control net fault out has = elim (eqb_tells net f.net.0) [
   | inl is ↦ absurd (let q : true ≡ false = sym has ∙ ap control is.1 ∙ out in let e : ⊥ = cc in e)
   | inr other ↦ drivers_stay n f net fault ∙ ap (λ b. if b then drivers.Joined (Tied f.value) else driver n net) other.0
 ]
-
-clocks_stay : (n : Netlist) (f : Fault) (control : ℕ → Bool) → IsFault n f → IsControl n control → control f.net.0 ≡ false → (steps : ℕ) (source : Source) → HasAll control (nets_of (source ∷ [])) →
-    clock_within (faulty n f) steps source ≡ clock_within n steps source
-clocks_stay n f control fault is out steps (Tied bit) has = refl
-clocks_stay n f control fault is out steps (Loose i pin) has = refl
-clocks_stay n f control fault is out zero (Net net) has = refl
-clocks_stay n f control fault is out (suc steps) (Net net) has =
-    ap (clock_of_driver (clock_within (faulty n f) steps) net) (driver_kept n f control net fault out has.0)
-    ∙ driver_clock control (clock_within (faulty n f) steps) (clock_within n steps) net (driver n net) (is.back net has.0) (λ source more. clocks_stay n f control fault is out steps source more)
 
 roots_stay : (n : Netlist) (f : Fault) (control : ℕ → Bool) → IsFault n f → IsControl n control → control f.net.0 ≡ false → (steps : ℕ) (source : Source) → HasAll control (nets_of (source ∷ [])) →
     root_within (faulty n f) steps source ≡ root_within n steps source
@@ -155,13 +136,12 @@ pin_has control (Loose i pin) has = tt
 domain_stays : (n : Netlist) (f : Fault) (control : ℕ → Bool) (ports : Ports) → IsFault n f → IsControl n control → control f.net.0 ≡ false → (pin : Option Source) → HasPin control pin →
     domain_at (faulty n f) ports pin ≡ domain_at n ports pin
 domain_stays n f control ports fault is out None has = refl
-domain_stays n f control ports fault is out (Some source) has = ap (domain_of ports) (clocks_stay n f control fault is out (suc (length n.nets)) source (pin_has control source has))
+domain_stays n f control ports fault is out (Some source) has = ap (λ (r : NetRoot). domain_of ports (clock_of r)) (roots_stay n f control fault is out (suc (length n.nets)) source (pin_has control source has))
 
-forcing_stays : (n : Netlist) (f : Fault) (control : ℕ → Bool) (ports : Ports) → IsFault n f → IsControl n control → control f.net.0 ≡ false → (reset preset : Option Source) → HasPin control reset → HasPin control preset →
-    forcing (faulty n f) ports reset preset ≡ forcing n ports reset preset
-forcing_stays n f control ports fault is out (Some reset) preset first second = ap (force_of ports false) (roots_stay n f control fault is out (suc (length n.nets)) reset (pin_has control reset first))
-forcing_stays n f control ports fault is out None (Some preset) first second = ap (force_of ports true) (roots_stay n f control fault is out (suc (length n.nets)) preset (pin_has control preset second))
-forcing_stays n f control ports fault is out None None first second = refl
+force_stays : (n : Netlist) (f : Fault) (control : ℕ → Bool) (ports : Ports) → IsFault n f → IsControl n control → control f.net.0 ≡ false → (pin : Option Source) → HasPin control pin →
+    force_at (faulty n f) ports pin ≡ force_at n ports pin
+force_stays n f control ports fault is out None has = refl
+force_stays n f control ports fault is out (Some source) has = ap (λ (r : NetRoot). force_of ports (straight_root r)) (roots_stay n f control fault is out (suc (length n.nets)) source (pin_has control source has))
 
 domain_kept : (n : Netlist) (f : Fault) (control : ℕ → Bool) (ports : Ports) (i : ℕ) → IsFault n f → IsControl n control → control f.net.0 ≡ false →
     domain_at (faulty n f) ports (pin_of role.Clock i (pins_of (faulty n f) i)) ≡ domain_at n ports (pin_of role.Clock i (pins_of n i))
@@ -170,10 +150,11 @@ domain_kept n f control ports i fault is out =
     ∙ domain_stays n f control ports fault is out (pin_of role.Clock i (pins_of n i)) (λ net at. is.pins i role.Clock net refl at)
 
 forcing_kept : (n : Netlist) (f : Fault) (control : ℕ → Bool) (ports : Ports) (i : ℕ) → IsFault n f → IsControl n control → control f.net.0 ≡ false →
-    forcing (faulty n f) ports (pin_of role.Reset i (pins_of (faulty n f) i)) (pin_of role.Preset i (pins_of (faulty n f) i)) ≡ forcing n ports (pin_of role.Reset i (pins_of n i)) (pin_of role.Preset i (pins_of n i))
+    forcing (faulty n f) ports (forces_of i (pins_of (faulty n f) i)) ≡ forcing n ports (forces_of i (pins_of n i))
 forcing_kept n f control ports i fault is out =
-    (λ t. forcing (faulty n f) ports (pin_kept n f i role.Reset refl t) (pin_kept n f i role.Preset refl t))
-    ∙ forcing_stays n f control ports fault is out (pin_of role.Reset i (pins_of n i)) (pin_of role.Preset i (pins_of n i)) (λ net at. is.pins i role.Reset net refl at) (λ net at. is.pins i role.Preset net refl at)
+    let clear = ap (force_at (faulty n f) ports) (pin_kept n f i role.Reset refl) ∙ force_stays n f control ports fault is out (pin_of role.Reset i (pins_of n i)) (λ net at. is.pins i role.Reset net refl at) in
+    let preset = ap (force_at (faulty n f) ports) (pin_kept n f i role.Preset refl) ∙ force_stays n f control ports fault is out (pin_of role.Preset i (pins_of n i)) (λ net at. is.pins i role.Preset net refl at) in
+    λ t. both_forces (clear t) (preset t)
 
 -- ---- cells and meanings
 
@@ -185,7 +166,7 @@ flip_flop_kept n f control ports i fault is out =
     let input = pin_kept n f i role.Din refl in
     let enable = pin_kept n f i role.ScanEnable refl in
     let scan = pin_kept n f i role.ScanIn refl in
-    λ t. if is_flip_flop (kind t) then modelled (domain t) (force t) (or_loose i (input t)) (scan_of (enable t) (scan t)) else None
+    λ t. if is_flip_flop (kind t) then modelled (domain t) (force t) (record { input = or_loose i (input t); scan = scan_of (enable t) (scan t) }) else None
 
 lock_up_kept : (n : Netlist) (f : Fault) (control : ℕ → Bool) (ports : Ports) (i : ℕ) → IsFault n f → IsControl n control → control f.net.0 ≡ false → lock_up (faulty n f) ports i ≡ lock_up n ports i
 lock_up_kept n f control ports i fault is out =

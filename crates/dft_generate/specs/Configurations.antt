@@ -4,7 +4,6 @@ use Rattle.std.specs.Prelude.{◌++◌, ◌∷◌, [], codes}
 use Rattle.dft_base.specs.Lexing.{Text}
 use Rattle.dft_config.specs.Config.{Config}
 use Rattle.dft_config.specs.declared.config.FillRule.TheVariants.{Zeros}
-use Rattle.dft_config_text.specs.Refusals.{IsConfig}
 
 unfoldable pub configuration_text : Text
 configuration_text =
@@ -47,7 +46,3 @@ configuration = record {
     scan_out = codes "scan_out";
   };
 }
-
--- The text is read as this configuration.
-abbrev pub ConfigurationIsRead : Type 0
-ConfigurationIsRead = IsConfig configuration_text configuration

@@ -4,9 +4,7 @@
 mod configuration;
 mod cubes;
 mod job;
-mod laws;
 mod netlist;
 mod numbers;
 
 pub use job::{Job, generate, is_size};
-pub use laws::configuration_is_read;

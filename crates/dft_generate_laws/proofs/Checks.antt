@@ -10,7 +10,8 @@ use Rattle.dft_cells.specs.declared.kind.Kind.TheVariants as cell_kind
 use Rattle.dft_cells.specs.declared.cell.Cell.{Cell}
 use Rattle.dft_cells.specs.Standard.{standard_cells}
 use Rattle.dft_netlist.specs.Drivers.{Source, Net, Driver, Input, Joined, Driven, driver, driver_in, shape_of_cell, connections_from}
-use Rattle.dft_behavior.specs.ClockRoots.{ClockRoot, turn_of, clock_of_gate, clock_of_driver, clock_within}
+use Rattle.dft_behavior.specs.NetRoots.{NetRoot, Other, Nothing, passed_by_gate, root_of_passed, root_of_driver, root_within}
+use Rattle.dft_behavior.specs.ClockRoots.{clock_of}
 use Rattle.dft_rules.specs.declared.error.RuleError.{RuleError}
 use Rattle.dft_rules.specs.declared.judged.Judged.{Judged}
 use Rattle.dft_rules.specs.declared.judged.Judged.TheVariants.{Scanned}
@@ -77,35 +78,35 @@ module _ (size : ℕ) (words : List ℕ) (few : size ≤ 20000) (some : 0 < size
       ap (λ (b : Bool). b || (is_data_of standard_cells net (flop_in all from) || list_any (is_data_of standard_cells net) (instances_in all size words (range_with_len (from + 1) count)))) g
       ∙ ap (λ (b : Bool). b || list_any (is_data_of standard_cells net) (instances_in all size words (range_with_len (from + 1) count))) f ∙ rest
 
-  -- another net shows no clock
-  abbrev NoClock : (net : ℕ) → Driver → Type 0
-  NoClock net d = (steps : ℕ) → clock_of_driver (clock_within (design size words) steps) net d ≡ None
+  -- another net has no root
+  abbrev NoRoot : (net : ℕ) → Driver → Type 0
+  NoRoot net d = (steps : ℕ) → root_of_driver (root_within (design size words) steps) net d ≡ Other
 
-  gate_clock : (cell net : ℕ) → NoClock net (gate_drives all size words cell)
+  gate_clock : (cell net : ℕ) → NoRoot net (gate_drives all size words cell)
   gate_clock cell net steps =
       let g = gate_known (word_at words (cell * 3)) in
       let inputs : List Source = Net (number_in all (q_of (first_of size words cell))) ∷ Net (number_in all (q_of (second_of size words cell))) ∷ [] in
-      ap (λ (turns : Option Bool). clock_of_gate (clock_within (design size words) steps) turns inputs) (each_kind (λ kind. turn_of kind ≡ None) refl refl refl refl g.kind g.among)
+      ap (root_of_passed (root_within (design size words) steps)) (each_kind (λ kind. passed_by_gate kind inputs ≡ Nothing) refl refl refl refl g.kind g.among)
 
-  q_clock : (steps : ℕ) → clock_within (design size words) steps (Net (number_in all (q_of 0))) ≡ None
+  q_clock : (steps : ℕ) → root_within (design size words) steps (Net (number_in all (q_of 0))) ≡ Other
   q_clock zero = refl
-  q_clock (suc steps) = ap (clock_of_driver (clock_within (design size words) steps) (number_in all (q_of 0))) (q_driver size words 0 few some)
+  q_clock (suc steps) = ap (root_of_driver (root_within (design size words) steps) (number_in all (q_of 0))) (q_driver size words 0 few some)
 
-  join_clock : (net : ℕ) → NoClock net (Joined (Net (number_in all (q_of 0))))
+  join_clock : (net : ℕ) → NoRoot net (Joined (Net (number_in all (q_of 0))))
   join_clock net steps = q_clock steps
 
-  cells_clock : (net i from count : ℕ) → AllDrive (NoClock net) (cells_drive all size words i from count)
+  cells_clock : (net i from count : ℕ) → AllDrive (NoRoot net) (cells_drive all size words i from count)
   cells_clock net i from zero = tt
   cells_clock net i from (suc count) = (gate_clock from net, (λ steps. refl, cells_clock net (suc (suc i)) (from + 1) count))
 
-  far_clock : (net : ℕ) → 2 ≤ net → NoClock net (driver (design size words) net)
+  far_clock : (net : ℕ) → 2 ≤ net → NoRoot net (driver (design size words) net)
   far_clock net high =
       let cells : List Driven = cells_drive all size words 0 0 size ++ (2, Joined (Net (number_in all (q_of 0)))) ∷ [] in
       let a : eqb 0 net ≡ false = grind (arith, nat_tests) in
       let b : eqb 1 net ≡ false = grind (arith, nat_tests) in
       let is : driver (design size words) net ≡ driver_in cells net =
       ap (λ (ds : List Driven). driver_in ds net) (all-listed size words) ∙ ap (λ t. cond t Input (driver_in ((1, Input) ∷ cells) net)) a ∙ ap (λ t. cond t Input (driver_in cells net)) b in
-      subst (NoClock net) (sym is) (drive_in (NoClock net) cells net (λ steps. refl) (drive_append (NoClock net) (cells_drive all size words 0 0 size) ((2, Joined (Net (number_in all (q_of 0)))) ∷ []) (cells_clock net 0 0 size) (join_clock net, tt)))
+      subst (NoRoot net) (sym is) (drive_in (NoRoot net) cells net (λ steps. refl) (drive_append (NoRoot net) (cells_drive all size words 0 0 size) ((2, Joined (Net (number_in all (q_of 0)))) ∷ []) (cells_clock net 0 0 size) (join_clock net, tt)))
 
   near_or : (net : ℕ) → (net < 3) ⊎ (2 ≤ net)
   near_or zero = inl (omega arith)
@@ -115,7 +116,7 @@ module _ (size : ℕ) (words : List ℕ) (few : size ≤ 20000) (some : 0 < size
   no_clock : (net : ℕ) → is_clock_as_data (design size words) configuration.domains net ≡ false
   no_clock net = elim (near_or net) [
     | inl low ↦ and_right (is_some (clock_of_source (design size words) configuration.domains (Net net))) (list_any (is_data_of standard_cells net) (design size words).instances) (no_data net size 0 low (omega arith))
-    | inr high ↦ ap (λ (o : Option ClockRoot). is_some (place_of_clock (design size words) configuration.domains o) && list_any (is_data_of standard_cells net) (design size words).instances) (far_clock net high (length all))
+    | inr high ↦ ap (λ (r : NetRoot). is_some (place_of_clock (design size words) configuration.domains (clock_of r)) && list_any (is_data_of standard_cells net) (design size words).instances) (far_clock net high (length all))
   ]
 
   none_found : (p : ℕ → Bool) (xs : List ℕ) → ((x : ℕ) → p x ≡ false) → find p xs ≡ None

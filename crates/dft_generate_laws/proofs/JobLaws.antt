@@ -7,7 +7,7 @@ use Rattle.dft_netlist_text.specs.NetlistText.{StandsFor}
 use Rattle.dft_cubes.specs.Cubes.{cubes_of}
 use Rattle.dft_generate.specs.Configurations.{configuration}
 use Rattle.dft_generate.specs.Words.{words_of}
-use Rattle.dft_generate.proofs.ReadConfiguration.{configuration_read}
+use Rattle.dft_generate_laws.proofs.ReadConfiguration.{configuration_read}
 use Rattle.dft_generate_laws.specs.Designs.{design}
 use Rattle.dft_generate_laws.specs.Laws.{JobsAreRead}
 use Rattle.dft_generate_laws.proofs.CubeTexts.{cubes_are_read}

@@ -20,6 +20,7 @@ pub mod NetNames
 pub mod NetlistLaws
 pub mod Nets
 pub mod Places
+pub mod ReadConfiguration
 pub mod Reported
 pub mod Plans
 pub mod Said

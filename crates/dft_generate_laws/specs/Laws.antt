@@ -57,6 +57,10 @@ pub record IsRead (size : ℕ) (words : List ℕ) (job : Job) : Type 0 where
   pub configuration : IsConfig job.configuration.items stated.configuration
   pub cubes : cubes_of (design size words) stated.configuration job.cubes.items ≡ Ok (cubes_in size words)
 
+-- the configuration text of a generated job is read as the stated configuration
+abbrev pub ConfigurationIsRead : Type 0
+ConfigurationIsRead = IsConfig configuration_text configuration
+
 -- so are those of the job of every seed and size
 abbrev pub JobsAreRead : Type 0
 JobsAreRead = (seed size : ℕ) (job : Job) → IsSize size → IsJob size (words_of seed size) job → IsRead size (words_of seed size) job

@@ -1,6 +1,6 @@
 //! Laws of generated jobs, as contracts of functions that do nothing.
 
-ghost use Rattle.dft_generate_laws.specs.Laws.{CubesAreRead, DesignsAreAccepted, JobsAreRead, NetlistsAreRead, PatternTextsFit, PatternsFit, ReportsFit, ScannedAreShort, SeedsGiveWords, TextsAreShort};
+ghost use Rattle.dft_generate_laws.specs.Laws.{ConfigurationIsRead, CubesAreRead, DesignsAreAccepted, JobsAreRead, NetlistsAreRead, PatternTextsFit, PatternsFit, ReportsFit, ScannedAreShort, SeedsGiveWords, TextsAreShort};
 
 /// The law that the netlist text of every size from 16 to 20,000, from whatever words, stands for the stated design over the standard
 /// library: so it is read, and as this design.
@@ -19,6 +19,11 @@ pub fn designs_are_accepted()
 pub fn cubes_are_read()
     ensures cubes { CubesAreRead }
     ensures words { SeedsGiveWords }
+{}
+
+/// The law that the configuration text of generated jobs is read as the stated configuration.
+pub fn configuration_is_read()
+    ensures { ConfigurationIsRead }
 {}
 
 /// The law that the three texts of the job of every seed and size are read: the netlist as the stated design, the configuration and

@@ -5,9 +5,10 @@ ghost use Rattle.dft_patterns.specs.Patterns.{IsWellFormed};
 use dft_cells::Library;
 use dft_grade::{Grade, Graded, grades};
 use dft_netlist::Design;
+use dft_netlist_reader::read;
 use dft_patterns::PatternSet;
 use dft_replay::ReplayError;
-use dft_verilog::{MAX_TEXT, read};
+use dft_verilog::MAX_TEXT;
 use std::alloc::{AllocError, Global};
 use std::test::Fail;
 

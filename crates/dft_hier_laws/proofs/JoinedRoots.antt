@@ -1,19 +1,21 @@
 -- Sources of joined modules trace to the roots, and show the clocks, of the flat design's sources.
-use Rattle.std.proofs.Common.{ℕ, zero, suc, ◌<◌, ◌≡◌, ◌⊎◌, inl, inr, Bool, false, List, [], ◌∷◌, length, map, Option, None, Some, refl, sym, ap, subst, arith, ◌∙◌}
+use Rattle.std.proofs.Common.{ℕ, zero, suc, ◌<◌, ◌≡◌, ◌⊎◌, inl, inr, Bool, true, false, List, [], ◌∷◌, length, map, Option, None, Some, refl, sym, ap, subst, arith, ◌∙◌}
 use Rattle.std.proofs.lemmas.Bool.{cases_eq}
 use Rattle.std.proofs.lemmas.Option.{slice_get_within}
 use Rattle.dft_cells.specs.declared.cell.Cell.{Cell}
 use Rattle.dft_cells.specs.declared.kind.Gate.{Gate as GateKind}
-use Rattle.dft_cells.specs.declared.kind.Gate.TheVariants.{Buf, Tie0, Tie1}
+use Rattle.dft_cells.specs.declared.kind.Gate.TheVariants.{Buf, Inv, Tie0, Tie1}
 use Rattle.dft_netlist.specs.declared.instance.CellRef.{CellRef}
 use Rattle.dft_netlist.specs.declared.instance.Instance.{Instance}
-use Rattle.dft_behavior.specs.ClockRoots.{ClockRoot, ClockRooted, AtPort as ClockPort, ThroughGate as ClockGate, ThroughJoin as ClockJoin, turn_of, turned, clock_root_of}
+use Rattle.dft_behavior.specs.NetRoots.{NetRoot, From, Bit, passed_by_gate, turned, Rooted, AtPort, AtConstant, AtTie, ThroughGate, ThroughJoin}
+use Rattle.dft_behavior.specs.ClockRoots.{ClockRoot, ClockRooted, turn_of, clock_root_of}
 use Rattle.dft_netlist.specs.Drivers.{Source, Net, Tied, Loose, Driver, Input, Gate, Joined, Free, source_of, nets_of, nets_read, Connection, lockup_inputs, connections_from, connections_of, shape_of, pins_of, pins_at, all_driven, driver, IsOrdered}
 use Rattle.dft_netlist.specs.Netlist.{Netlist}
 use Rattle.dft_netlist.specs.Orders.{Has, reads_of}
-use Rattle.dft_behavior.specs.Traces.{Root, Port, Constant, Other, From, Bit, passed_by_gate, Traces, AtPort, AtConstant, AtTie, ThroughBuffer, ThroughJoin, root_of}
+use Rattle.dft_behavior.specs.Traces.{Root, Port, Constant, Other, Traces, root_of}
 use Rattle.dft_behavior.proofs.ClockWalks.{walk_finds_clock, clock_found}
-use Rattle.dft_behavior.proofs.Walks.{walk_finds, port_found, constant_found, buffer_no_bit}
+use Rattle.dft_behavior.proofs.RootForms.{traced_port, traced_constant, traced_tie, traced_buffer, traced_join, clock_port, clock_gate, clock_join, passes_turn, OfTraced, traced_on, traced_over, traced_out, OfClock, clock_on as clock_turned}
+use Rattle.dft_behavior.proofs.Walks.{walk_finds, port_found, constant_found, one_no_bit}
 use Rattle.dft_modules.specs.Modules.{Module}
 use Rattle.dft_hier.specs.Flat.{moved}
 use Rattle.dft_hier_laws.specs.Joined as joined
@@ -70,34 +72,41 @@ input_back ms top path d (OfInput h) = refl
 record PassedImage (ms : List Module) (top : Module) (path : Path) (k : GateKind) (s : Source) (ts : List Source) : Type 0 where
   t : Source
   image : Image ms top path s t
-  is : passed_by_gate k ts ≡ From t
+  is : passed_by_gate k ts ≡ From t false
 
 record PassedBefore (ms : List Module) (top : Module) (path : Path) (k : GateKind) (ss : List Source) (t : Source) : Type 0 where
   s : Source
   image : Image ms top path s t
-  is : passed_by_gate k ss ≡ From s
+  is : passed_by_gate k ss ≡ From s false
 
 -- a tie passes on its bit whatever stands at its inputs
 passed_bit : (k : GateKind) (ss ts : List Source) (bit : Bool) → passed_by_gate k ss ≡ Bit bit → passed_by_gate k ts ≡ Bit bit
-passed_bit Buf ss ts bit is = absurd (buffer_no_bit ss bit is)
+passed_bit Buf ss ts bit is = absurd (one_no_bit false ss bit is)
+passed_bit Inv ss ts bit is = absurd (one_no_bit true ss bit is)
 passed_bit Tie0 ss ts bit is = is
 passed_bit Tie1 ss ts bit is = is
 passed_bit _ ss ts bit is = absurd cc
 
-passed_on : (ms : List Module) (top : Module) (path : Path) (k : GateKind) (ss ts : List Source) (s : Source) → passed_by_gate k ss ≡ From s → Images ms top path ss ts → PassedImage ms top path k s ts
+passed_on : (ms : List Module) (top : Module) (path : Path) (k : GateKind) (ss ts : List Source) (s : Source) → passed_by_gate k ss ≡ From s false → Images ms top path ss ts → PassedImage ms top path k s ts
 passed_on ms top path Buf [] ts s is h = absurd cc
 passed_on ms top path Buf (x ∷ []) [] s is h = absurd h
 passed_on ms top path Buf (x ∷ []) (t ∷ []) s is h = let same : x ≡ s = cc in record { t = t; image = subst (λ (y : Source). Image ms top path y t) same h.0; is = refl }
 passed_on ms top path Buf (x ∷ []) (t ∷ more ∷ ts) s is h = absurd h.1
 passed_on ms top path Buf (x ∷ more ∷ ss) ts s is h = absurd cc
+passed_on ms top path Inv [] ts s is h = absurd cc
+passed_on ms top path Inv (x ∷ []) ts s is h = absurd cc
+passed_on ms top path Inv (x ∷ more ∷ ss) ts s is h = absurd cc
 passed_on ms top path _ ss ts s is h = absurd cc
 
-passed_back : (ms : List Module) (top : Module) (path : Path) (k : GateKind) (ss ts : List Source) (t : Source) → passed_by_gate k ts ≡ From t → Images ms top path ss ts → PassedBefore ms top path k ss t
+passed_back : (ms : List Module) (top : Module) (path : Path) (k : GateKind) (ss ts : List Source) (t : Source) → passed_by_gate k ts ≡ From t false → Images ms top path ss ts → PassedBefore ms top path k ss t
 passed_back ms top path Buf ss [] t is h = absurd cc
 passed_back ms top path Buf [] (x ∷ []) t is h = absurd h
 passed_back ms top path Buf (s ∷ []) (x ∷ []) t is h = let same : x ≡ t = cc in record { s = s; image = subst (λ (y : Source). Image ms top path s y) same h.0; is = refl }
 passed_back ms top path Buf (s ∷ more ∷ ss) (x ∷ []) t is h = absurd h.1
 passed_back ms top path Buf ss (x ∷ more ∷ ts) t is h = absurd cc
+passed_back ms top path Inv ss [] t is h = absurd cc
+passed_back ms top path Inv ss (x ∷ []) t is h = absurd cc
+passed_back ms top path Inv ss (x ∷ more ∷ ts) t is h = absurd cc
 passed_back ms top path _ ss ts t is h = absurd cc
 
 record OneImage (ms : List Module) (top : Module) (path : Path) (s : Source) (ts : List Source) : Type 0 where
@@ -171,12 +180,14 @@ numbered (s ∷ spots) path at = numbered_by s spots path at (is_spot s path at)
 
 -- ---- no walk ends at another root
 
-no_other : (n : Netlist) (s : Source) (root : Root) → Traces n s root → root ≡ Other → ⊥
-no_other n s root (AtPort is) e = cc
-no_other n s root AtConstant e = cc
-no_other n s root (AtTie is passes) e = cc
-no_other n s root (ThroughBuffer is passes rest) e = no_other n _ root rest e
-no_other n s root (ThroughJoin is rest) e = no_other n _ root rest e
+no_other : (ms : List Module) (library : List Cell) (top : Module) (path : Path) (s : Source) (root : Root) → JoinedTraces ms library top path s root → root ≡ Other → ⊥
+no_other ms library top path s root (joined.AtPort inside) e = cc
+no_other ms library top path s root joined.AtConstant e = cc
+no_other ms library top path s root (joined.AtTie inside passes) e = cc
+no_other ms library top path s root (joined.ThroughBuffer inside passes rest) e = no_other ms library top _ _ root rest e
+no_other ms library top path s root (joined.ThroughJoin inside rest) e = no_other ms library top _ _ root rest e
+no_other ms library top path s root (joined.Inwards meets rest) e = no_other ms library top _ _ root rest e
+no_other ms library top path s root (joined.Outwards meets rest) e = no_other ms library top _ _ root rest e
 
 module _ (ms : List Module) (library : List Cell) (top : Module) (design : Netlist) (f : IsFlatOf ms library top design) where
   -- ---- the origin of a net that something drives
@@ -262,24 +273,24 @@ module _ (ms : List Module) (library : List Cell) (top : Module) (design : Netli
   trace_on : (path : Path) (s : Source) (root : Root) → JoinedTraces ms library top path s root → (t : Source) → Image ms top path s t → Traces design t root
   trace_on path s root (joined.AtPort {net = net} inside) t (OfNet {number = k} at) =
       let is = input_on ms top path (driver design k) (inside_image ms library top design f path net k Input inside at) in
-      subst (λ (p : ℕ). Traces design (Net k) (Port p)) (input_number path net k inside at) (AtPort is)
-  trace_on path s root joined.AtConstant t OfBit = AtConstant
+      subst (λ (p : ℕ). Traces design (Net k) (Port p)) (input_number path net k inside at) (traced_port design k is)
+  trace_on path s root (joined.AtConstant {bit = bit}) t OfBit = traced_constant design bit
   trace_on path s root (joined.AtTie {net = net} {kind = k} {inputs = inputs} {bit = bit} inside passes) t (OfNet {number = number} at) =
       let g = gate_on ms top path k inputs (driver design number) (inside_image ms library top design f path net number (Gate k inputs) inside at) in
-      AtTie g.is (passed_bit k inputs g.ts bit passes)
+      traced_tie design number k g.ts bit g.is (passed_bit k inputs g.ts bit passes)
   trace_on path s root (joined.ThroughBuffer {net = net} {kind = k} {inputs = inputs} {source = source} inside passes rest) t (OfNet {number = number} at) =
       let g = gate_on ms top path k inputs (driver design number) (inside_image ms library top design f path net number (Gate k inputs) inside at) in
       let p = passed_on ms top path k inputs g.ts source passes g.images in
-      ThroughBuffer g.is p.is (trace_on path source root rest p.t p.image)
+      traced_buffer design number k g.ts p.t root g.is p.is (trace_on path source root rest p.t p.image)
   trace_on path s root (joined.ThroughJoin {net = net} {source = source} inside rest) t (OfNet {number = number} at) =
       let j = join_on ms top path source (driver design number) (inside_image ms library top design f path net number (Joined source) inside at) in
-      ThroughJoin j.is (trace_on path source root rest j.t j.image)
+      traced_join design number j.t root j.is (trace_on path source root rest j.t j.image)
   trace_on path s root (joined.Inwards {path = outer} {place = place} {net = net} {to = to} meets rest) t (OfNet {number = number} at) =
       let i = in_image ms library top design f outer place net number to meets at in
-      ThroughJoin i.driver_is (trace_on outer (source_of 0 0 to) root rest i.source i.image)
+      traced_join design number i.source root i.driver_is (trace_on outer (source_of 0 0 to) root rest i.source i.image)
   trace_on path s root (joined.Outwards {place = place} {inner = inner} {net = net} meets rest) t (OfNet {number = number} at) =
       let o = out_image ms library top design f path place inner net number meets at in
-      ThroughJoin o.driver_is (trace_on (below path place) (Net inner) root rest (Net o.source) (OfNet o.at))
+      traced_join design number (Net o.source) root o.driver_is (trace_on (below path place) (Net inner) root rest (Net o.source) (OfNet o.at))
 
   -- how a net's trace goes on where its driver comes from somewhere
   abbrev Back : Source → Root → Type 0
@@ -305,7 +316,7 @@ module _ (ms : List Module) (library : List Cell) (top : Module) (design : Netli
   tie_back k kind ts bit (MetIn p place a to at meets) is passes path net here = let i = in_image ms library top design f p place a k to meets at in absurd (let e = sym i.driver_is ∙ is in let g : ⊥ = cc in g)
   tie_back k kind ts bit (MetOut p place inner a at meets) is passes path net here = let o = out_image ms library top design f p place inner a k meets at in absurd (let e = sym o.driver_is ∙ is in let g : ⊥ = cc in g)
 
-  buffer_back : (k : ℕ) (kind : GateKind) (ts : List Source) (t : Source) (root : Root) → Origin ms library top k → driver design k ≡ Gate kind ts → passed_by_gate kind ts ≡ From t → Back t root → (path : Path) (net : ℕ) → IsAt (net_spots ms top) path net k →
+  buffer_back : (k : ℕ) (kind : GateKind) (ts : List Source) (t : Source) (root : Root) → Origin ms library top k → driver design k ≡ Gate kind ts → passed_by_gate kind ts ≡ From t false → Back t root → (path : Path) (net : ℕ) → IsAt (net_spots ms top) path net k →
       JoinedTraces ms library top path (Net net) root
   buffer_back k kind ts t root (Inside p a d at inside) is passes back path net here =
       let g = gate_back ms top p kind ts d (subst (ImageDriver ms top p d) is (inside_image ms library top design f p a k d inside at)) in
@@ -334,33 +345,50 @@ module _ (ms : List Module) (library : List Cell) (top : Module) (design : Netli
   some_driver : (k : ℕ) (d : Driver) → driver design k ≡ d → (d ≡ Free → ⊥) → Origin ms library top k
   some_driver k d is some = origin_at k (λ none. some (sym is ∙ none))
 
-  trace_back : (t : Source) (root : Root) → Traces design t root → Back t root
-  trace_back t root (AtPort {net = k} is) path s (OfNet {net = net} at) = port_back k (some_driver k Input is (λ e. cc)) is path net at
-  trace_back t root AtConstant path s OfBit = joined.AtConstant
-  trace_back t root (AtTie {net = k} {kind = kind} {inputs = ts} {bit = bit} is passes) path s (OfNet {net = net} at) = tie_back k kind ts bit (some_driver k (Gate kind ts) is (λ e. cc)) is passes path net at
-  trace_back t root (ThroughBuffer {net = k} {kind = kind} {inputs = ts} {source = from} is passes rest) path s (OfNet {net = net} at) =
-      buffer_back k kind ts from root (some_driver k (Gate kind ts) is (λ e. cc)) is passes (trace_back from root rest) path net at
-  trace_back t root (ThroughJoin {net = k} {source = from} is rest) path s (OfNet {net = net} at) = join_back_trace k from root (some_driver k (Joined from) is (λ e. cc)) is (trace_back from root rest) path net at
+  root_back : (t : Source) (root : NetRoot) → Rooted design t root → OfTraced (Back t) root
+  root_back t root (AtPort {net = k} is) = here
+    where
+      here : Back (Net k) (Port k)
+      here path s (OfNet {net = net} at) = port_back k (some_driver k Input is (λ e. cc)) is path net at
+  root_back t root (AtConstant {bit = bit}) = here
+    where
+      here : Back (Tied bit) (Constant bit)
+      here path s OfBit = joined.AtConstant
+  root_back t root (AtTie {net = k} {kind = kind} {inputs = ts} {bit = bit} is passes) = here
+    where
+      here : Back (Net k) (Constant bit)
+      here path s (OfNet {net = net} at) = tie_back k kind ts bit (some_driver k (Gate kind ts) is (λ e. cc)) is passes path net at
+  root_back t root (ThroughGate {net = k} {kind = kind} {inputs = ts} {source = from} {turns = turns} {root = far} is passes rest) = traced_on (Back from) (Back (Net k)) turns far step (root_back from far rest)
+    where
+      step : turns ≡ false → (r : Root) → Back from r → Back (Net k) r
+      step straight r back path s (OfNet {net = net} at) = buffer_back k kind ts from r (some_driver k (Gate kind ts) is (λ e. cc)) is (passes ∙ ap (From from) straight) back path net at
+  root_back t root (ThroughJoin {net = k} {source = from} is rest) = traced_over (Back from) (Back (Net k)) root step (root_back from root rest)
+    where
+      step : (r : Root) → Back from r → Back (Net k) r
+      step r back path s (OfNet {net = net} at) = join_back_trace k from r (some_driver k (Joined from) is (λ e. cc)) is back path net at
+
+  trace_back : (t : Source) (root : Root) → (root ≡ Other → ⊥) → Traces design t root → Back t root
+  trace_back t root some traces = traced_out (Back t) traces.whole root traces.straight some (root_back t traces.whole traces.rooted)
 
   -- ---- clocks, both ways
 
   clock_on : (path : Path) (s : Source) (port : ℕ) (inverted : Bool) → JoinedClocks ms library top path s port inverted → (t : Source) → Image ms top path s t → ClockRooted design t port inverted
   clock_on path s port inverted (joined.ClockAtPort {net = net} inside) t (OfNet {number = k} at) =
       let is = input_on ms top path (driver design k) (inside_image ms library top design f path net k Input inside at) in
-      subst (λ (p : ℕ). ClockRooted design (Net k) p false) (input_number path net k inside at) (ClockPort is)
+      subst (λ (p : ℕ). ClockRooted design (Net k) p false) (input_number path net k inside at) (clock_port design k is)
   clock_on path s port inverted (joined.ClockThroughGate {net = net} {kind = k} {source = source} {turns = turns} {inverted = own} inside turn rest) t (OfNet {number = number} at) =
       let g = gate_on ms top path k (source ∷ []) (driver design number) (inside_image ms library top design f path net number (Gate k (source ∷ [])) inside at) in
       let p = one_on ms top path source g.ts g.images in
-      ClockGate (g.is ∙ ap (Gate k) p.is) turn (clock_on path source port own rest p.t p.image)
+      clock_gate design number k p.t turns port own (g.is ∙ ap (Gate k) p.is) turn (clock_on path source port own rest p.t p.image)
   clock_on path s port inverted (joined.ClockThroughJoin {net = net} {source = source} inside rest) t (OfNet {number = number} at) =
       let j = join_on ms top path source (driver design number) (inside_image ms library top design f path net number (Joined source) inside at) in
-      ClockJoin j.is (clock_on path source port inverted rest j.t j.image)
+      clock_join design number j.t port inverted j.is (clock_on path source port inverted rest j.t j.image)
   clock_on path s port inverted (joined.ClockInwards {path = outer} {place = place} {net = net} {to = to} meets rest) t (OfNet {number = number} at) =
       let i = in_image ms library top design f outer place net number to meets at in
-      ClockJoin i.driver_is (clock_on outer (source_of 0 0 to) port inverted rest i.source i.image)
+      clock_join design number i.source port inverted i.driver_is (clock_on outer (source_of 0 0 to) port inverted rest i.source i.image)
   clock_on path s port inverted (joined.ClockOutwards {place = place} {inner = inner} {net = net} meets rest) t (OfNet {number = number} at) =
       let o = out_image ms library top design f path place inner net number meets at in
-      ClockJoin o.driver_is (clock_on (below path place) (Net inner) port inverted rest (Net o.source) (OfNet o.at))
+      clock_join design number (Net o.source) port inverted o.driver_is (clock_on (below path place) (Net inner) port inverted rest (Net o.source) (OfNet o.at))
 
   abbrev ClockBack : Source → (port : ℕ) → (inverted : Bool) → Type 0
   ClockBack t port inverted = (path : Path) (s : Source) → Image ms top path s t → JoinedClocks ms library top path s port inverted
@@ -405,22 +433,38 @@ module _ (ms : List Module) (library : List Cell) (top : Module) (design : Netli
       moved_clock p path a net port inverted (same_spot (net_spots ms top) p path a net k at here)
       (joined.ClockOutwards meets (back (below p place) (Net inner) (subst (Image ms top (below p place) (Net inner)) same (OfNet o.at))))
 
+  shown_back : (t : Source) (root : NetRoot) → Rooted design t root → OfClock (ClockBack t) root
+  shown_back t root (AtPort {net = k} is) = here
+    where
+      here : ClockBack (Net k) k false
+      here path s (OfNet {net = net} at) = clock_port_back k (some_driver k Input is (λ e. cc)) is path net at
+  shown_back t root AtConstant = tt
+  shown_back t root (AtTie is passes) = tt
+  shown_back t root (ThroughGate {net = k} {kind = kind} {inputs = ts} {source = from} {turns = turns} {root = far} is passes rest) = clock_turned (ClockBack from) (ClockBack (Net k)) turns far step (shown_back from far rest)
+    where
+      step : (port : ℕ) (own : Bool) → ClockBack from port own → ClockBack (Net k) port (turned turns own)
+      step port own back path s (OfNet {net = net} at) =
+          let one = passes_turn kind ts from turns passes in
+          let alone : driver design k ≡ Gate kind (from ∷ []) = is ∙ ap (Gate kind) one.0 in
+          clock_gate_back k kind from turns port own (some_driver k (Gate kind (from ∷ [])) alone (λ e. cc)) alone one.1 back path net at
+  shown_back t root (ThroughJoin {net = k} {source = from} is rest) = clock_turned (ClockBack from) (ClockBack (Net k)) false root step (shown_back from root rest)
+    where
+      step : (port : ℕ) (own : Bool) → ClockBack from port own → ClockBack (Net k) port own
+      step port own back path s (OfNet {net = net} at) = clock_join_back k from port own (some_driver k (Joined from) is (λ e. cc)) is back path net at
+
   clock_back : (t : Source) (port : ℕ) (inverted : Bool) → ClockRooted design t port inverted → ClockBack t port inverted
-  clock_back t port inverted (ClockPort {net = k} is) path s (OfNet {net = net} at) = clock_port_back k (some_driver k Input is (λ e. cc)) is path net at
-  clock_back t port inverted (ClockGate {net = k} {kind = kind} {source = from} {turns = turns} {inverted = own} is turn rest) path s (OfNet {net = net} at) =
-      clock_gate_back k kind from turns port own (some_driver k (Gate kind (from ∷ [])) is (λ e. cc)) is turn (clock_back from port own rest) path net at
-  clock_back t port inverted (ClockJoin {net = k} {source = from} is rest) path s (OfNet {net = net} at) = clock_join_back k from port inverted (some_driver k (Joined from) is (λ e. cc)) is (clock_back from port inverted rest) path net at
+  clock_back t port inverted rooted = shown_back t _ rooted.rooted
 
   -- ---- roots and clocks agree
 
-  not_traced : (t : Source) (root : Root) → root_of design t ≡ root → ((r : Root) → Traces design t r → ⊥) → Other ≡ root
-  not_traced t (Port p) is none = absurd (none (Port p) (port_found design t p is))
-  not_traced t (Constant bit) is none = absurd (none (Constant bit) (constant_found design t bit is))
+  not_traced : (t : Source) (root : Root) → root_of design t ≡ root → ((r : Root) → (r ≡ Other → ⊥) → Traces design t r → ⊥) → Other ≡ root
+  not_traced t (Port p) is none = absurd (none (Port p) (λ e. cc) (port_found design t p is))
+  not_traced t (Constant bit) is none = absurd (none (Constant bit) (λ e. cc) (constant_found design t bit is))
   not_traced t Other is none = refl
 
   pub root_agrees : (path : Path) (s t : Source) (root : Root) → HasRoot ms library top path s root → Image ms top path s t → root ≡ root_of design t
   root_agrees path s t root (Traced traces) image = sym (walk_finds design ranked.0 t root ranked.1 (trace_on path s root traces t image))
-  root_agrees path s t root (Untraced none) image = not_traced t (root_of design t) refl (λ r traces. none r (trace_back t r traces path s image))
+  root_agrees path s t root (Untraced none) image = not_traced t (root_of design t) refl (λ r some traces. none r (trace_back t r some traces path s image))
 
   not_shown : (t : Source) (clock : Option ClockRoot) → clock_root_of design t ≡ clock → ((port : ℕ) (inverted : Bool) → ClockRooted design t port inverted → ⊥) → None ≡ clock
   not_shown t (Some root) is none = absurd (none root.port root.inverted (clock_found design t root is))
@@ -470,11 +514,11 @@ module _ (ms : List Module) (library : List Cell) (top : Module) (design : Netli
   clock_stands path net port inverted (joined.ClockOutwards {place = place} {inner = inner} meets rest) = let r = out_forward ms library top design f path place inner net meets in (r.number, r.at)
 
   found_root : (path : Path) (net k : ℕ) (root : Root) → IsAt (net_spots ms top) path net k → root_of design (Net k) ≡ root → HasRoot ms library top path (Net net) root
-  found_root path net k (Port p) at is = Traced (trace_back (Net k) (Port p) (port_found design (Net k) p is) path (Net net) (OfNet at))
-  found_root path net k (Constant bit) at is = Traced (trace_back (Net k) (Constant bit) (constant_found design (Net k) bit is) path (Net net) (OfNet at))
+  found_root path net k (Port p) at is = Traced (trace_back (Net k) (Port p) (λ e. cc) (port_found design (Net k) p is) path (Net net) (OfNet at))
+  found_root path net k (Constant bit) at is = Traced (trace_back (Net k) (Constant bit) (λ e. cc) (constant_found design (Net k) bit is) path (Net net) (OfNet at))
   found_root path net k Other at is = Untraced (λ root traces. (
       let on = trace_on path (Net net) root traces (Net k) (OfNet at) in
-      no_other design (Net k) root on (sym (walk_finds design ranked.0 (Net k) root ranked.1 on) ∙ is)))
+      no_other ms library top path (Net net) root traces (sym (walk_finds design ranked.0 (Net k) root ranked.1 on) ∙ is)))
 
   rooted_by : (path : Path) (net : ℕ) (n : Numbered (net_spots ms top) path net) → HasRoot ms library top path (Net net) (root_by path net n)
   unfolding root_by

@@ -9,7 +9,7 @@ use Rattle.dft_cells.specs.declared.cell.Cell.{Cell}
 use Rattle.dft_cells.specs.declared.kind.Kind.{Kind}
 use Rattle.dft_cells.specs.declared.kind.Role.{Role}
 use Rattle.dft_cells.specs.declared.kind.Role.TheVariants as role
-use Rattle.dft_cells.specs.FlipFlops.{is_flip_flop}
+use Rattle.dft_cells.specs.FlipFlops.{is_flip_flop, Takes, Forces}
 use Rattle.dft_cells.specs.Gates.{bit_of}
 use Rattle.dft_netlist.specs.declared.error.NetlistError.{NetlistError}
 use Rattle.dft_netlist.specs.declared.ids.NetId.{NetId}
@@ -23,7 +23,7 @@ use Rattle.dft_behavior.specs.ClockRoots.{ClockRoot, clock_root_of}
 use Rattle.dft_netlist.specs.Drivers.{Source, Net, Driver, Input, Joined, Flop, Lockup, Free, Connection, source_of, connections_from, connections_of, shape_of, pins_of, pins_at, kind_of, kind_at, all_driven, driver}
 use Rattle.dft_behavior.specs.Logic as logic
 use Rattle.dft_netlist.specs.Connections.{pin_of}
-use Rattle.dft_behavior.specs.Logic.{Ports, Force, Scan, or_loose, scan_of, domain_of, domain_at, force_of, forcing, modelled, modelled_of, flop_meaning, lockup_meaning, meaning_of, logic_of}
+use Rattle.dft_behavior.specs.Logic.{Ports, or_loose, domain_of, domain_at, force_of, force_at, both_forces, forcing, takes_of, forces_of, modelled, modelled_of, flop_meaning, lockup_meaning, meaning_of, logic_of}
 use Rattle.dft_netlist.specs.Names.{bit_names}
 use Rattle.dft_netlist.specs.NetDrivers.{times_driven}
 use Rattle.dft_netlist.specs.Netlist.{Netlist}
@@ -38,7 +38,7 @@ use Rattle.dft_modules.specs.Modules.{Module}
 use Rattle.dft_modules.specs.Sound.{IsModule, AreModules}
 use Rattle.dft_hier.specs.Hierarchy.{cells_of, subs_of, find_module}
 use Rattle.dft_hier.specs.Flat.{Parts, moved, add_ports, add_parts, add_instances, flat_parts, flat_netlist}
-use Rattle.dft_hier_laws.specs.Joined.{alone, DrivenInside, Meets, IsUnmet, Roots, domain_by, forcing_by, modelled_by, meaning_by, JoinedSources, sources_at, IsJoinedSettled}
+use Rattle.dft_hier_laws.specs.Joined.{alone, DrivenInside, Meets, IsUnmet, Roots, domain_by, force_by, forcing_by, modelled_by, meaning_by, JoinedSources, sources_at, IsJoinedSettled}
 use Rattle.dft_hier_laws.specs.Laws.{AreByPath, ReadsByPath, IsFreePast, FlatIsJoined}
 use Rattle.dft_hier.specs.Moving.{with_joins}
 use Rattle.dft_hier.specs.Paths.{Path, Spot, module_at, below, sub_spots, subs_spots, net_spots_within, net_spots, instance_spots}
@@ -276,12 +276,12 @@ module _ (ms : List Module) (library : List Cell) (top : Module) (design : Netli
   free_given : (path : Path) (net k : ℕ) → IsAt (net_spots ms top) path net k → j.free path net ≡ s.free k
   free_given path net k at = by_path.free k (spot path net) at
 
-  flop_given : (is_cell : Bool) (domain : Option ClockRoot) (force : Option (Option Force)) (x y : Source) (a b : Option Scan) (path : Path) (i number net k : ℕ) (inverted : Bool) → IsAt (instance_spots ms top) path i number → IsAt (net_spots ms top) path net k →
-      bit_given (sources_at j path) (joined path) net (flop_meaning i inverted (cond is_cell (modelled domain force x a) None)) ≡ bit_given s bits k (flop_meaning number inverted (cond is_cell (modelled domain force y b) None))
-  flop_given true (Some clock) (Some force) x y a b path i number net k inverted cell at = ap (λ (v : Bool). cond inverted (not v) v) (by_path.flops number (spot path i) cell)
-  flop_given true (Some clock) None x y a b path i number net k inverted cell at = free_given path net k at
-  flop_given true None force x y a b path i number net k inverted cell at = free_given path net k at
-  flop_given false domain force x y a b path i number net k inverted cell at = free_given path net k at
+  flop_given : (is_cell : Bool) (domain : Option ClockRoot) (forces : Option (Forces ℕ)) (x y : Takes Source) (path : Path) (i number net k : ℕ) (inverted : Bool) → IsAt (instance_spots ms top) path i number → IsAt (net_spots ms top) path net k →
+      bit_given (sources_at j path) (joined path) net (flop_meaning i inverted (cond is_cell (modelled domain forces x) None)) ≡ bit_given s bits k (flop_meaning number inverted (cond is_cell (modelled domain forces y) None))
+  flop_given true (Some clock) (Some forces) x y path i number net k inverted cell at = ap (λ (v : Bool). cond inverted (not v) v) (by_path.flops number (spot path i) cell)
+  flop_given true (Some clock) None x y path i number net k inverted cell at = free_given path net k at
+  flop_given true None forces x y path i number net k inverted cell at = free_given path net k at
+  flop_given false domain forces x y path i number net k inverted cell at = free_given path net k at
 
   lockup_given : (domain : Option ClockRoot) (x y : Source) (path : Path) (i number net k : ℕ) → Image ms top path x y → IsAt (instance_spots ms top) path i number → IsAt (net_spots ms top) path net k →
       bit_given (sources_at j path) (joined path) net (lockup_meaning i domain x) ≡ bit_given s bits k (lockup_meaning number domain y)
@@ -298,14 +298,14 @@ module _ (ms : List Module) (library : List Cell) (top : Module) (design : Netli
     domain_same path None (Some y) h = absurd h
     domain_same path (Some x) None h = absurd h
 
-    forcing_same : (path : Path) (a o b p : Option Source) → ImageIfAny ms top path a o → ImageIfAny ms top path b p → forcing_by (roots path) ports a b ≡ forcing design ports o p
-    forcing_same path None None None None h k = refl
-    forcing_same path None None (Some x) (Some y) h k = ap (force_of ports true) (agree.root path x y k)
-    forcing_same path (Some x) (Some y) b p h k = ap (force_of ports false) (agree.root path x y h)
-    forcing_same path None (Some y) b p h k = absurd h
-    forcing_same path (Some x) None b p h k = absurd h
-    forcing_same path None None None (Some y) h k = absurd k
-    forcing_same path None None (Some x) None h k = absurd k
+    force_same : (path : Path) (a o : Option Source) → ImageIfAny ms top path a o → force_by (roots path) ports a ≡ force_at design ports o
+    force_same path None None h = refl
+    force_same path (Some x) (Some y) h = ap (force_of ports) (agree.root path x y h)
+    force_same path None (Some y) h = absurd h
+    force_same path (Some x) None h = absurd h
+
+    forcing_same : (path : Path) (a b : Forces Source) → ImageIfAny ms top path a.clear b.clear → ImageIfAny ms top path a.preset b.preset → forcing_by (roots path) ports a ≡ forcing design ports b
+    forcing_same path a b h k = λ t. both_forces (force_same path a.clear b.clear h t) (force_same path a.preset b.preset k t)
 
     flop_same : (path : Path) (m : Module) (i number net k : ℕ) (inverted : Bool) → module_at ms path top ≡ Some m → IsAt (instance_spots ms top) path i number → IsAt (net_spots ms top) path net k →
         bit_given (sources_at j path) (joined path) net (meaning_by (roots path) (alone library path m) ports net (Flop i inverted)) ≡ bit_given s bits k (meaning_of design ports k (Flop number inverted))
@@ -314,13 +314,10 @@ module _ (ms : List Module) (library : List Cell) (top : Module) (design : Netli
         let p = c.here_pins in
         let q = c.flat_pins in
         let domain = domain_same path (pin_of role.Clock i p) (pin_of role.Clock number q) (c.pins role.Clock) in
-        let force = forcing_same path (pin_of role.Reset i p) (pin_of role.Reset number q) (pin_of role.Preset i p) (pin_of role.Preset number q) (c.pins role.Reset) (c.pins role.Preset) in
-        let x = or_loose i (pin_of role.Din i p) in
-        let a = scan_of (pin_of role.ScanEnable i p) (pin_of role.ScanIn i p) in
+        let forces = forcing_same path (forces_of i p) (forces_of number q) (c.pins role.Reset) (c.pins role.Preset) in
         ap₂ (λ (kind : Kind) (cs : List Connection). bit_given (sources_at j path) (joined path) net (flop_meaning i inverted (cond (is_flip_flop kind) (modelled_by (roots path) ports i cs) None))) c.kind_here c.pins_here
-        ∙ ap₂ (λ (d : Option ClockRoot) (g : Option (Option Force)). bit_given (sources_at j path) (joined path) net (flop_meaning i inverted (cond (is_flip_flop c.kind) (modelled d g x a) None))) domain force
-        ∙ flop_given (is_flip_flop c.kind) (domain_at design ports (pin_of role.Clock number q)) (forcing design ports (pin_of role.Reset number q) (pin_of role.Preset number q)) x (or_loose number (pin_of role.Din number q)) a
-        (scan_of (pin_of role.ScanEnable number q) (pin_of role.ScanIn number q)) path i number net k inverted cell at
+        ∙ ap₂ (λ (d : Option ClockRoot) (g : Option (Forces ℕ)). bit_given (sources_at j path) (joined path) net (flop_meaning i inverted (cond (is_flip_flop c.kind) (modelled d g (takes_of i p)) None))) domain forces
+        ∙ flop_given (is_flip_flop c.kind) (domain_at design ports (pin_of role.Clock number q)) (forcing design ports (forces_of number q)) (takes_of i p) (takes_of number q) path i number net k inverted cell at
         ∙ sym (ap₂ (λ (kind : Kind) (cs : List Connection). bit_given s bits k (flop_meaning number inverted (cond (is_flip_flop kind) (modelled_of design ports number cs) None))) c.kind_flat c.pins_flat)
 
     lockup_same : (path : Path) (m : Module) (i number net k : ℕ) → module_at ms path top ≡ Some m → IsAt (instance_spots ms top) path i number → IsAt (net_spots ms top) path net k →

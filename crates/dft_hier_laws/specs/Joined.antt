@@ -5,7 +5,7 @@ use Rattle.dft_base.specs.declared.dir.Dir.TheVariants as dir
 use Rattle.dft_cells.specs.declared.kind.Gate.{Gate}
 use Rattle.dft_cells.specs.declared.kind.Role.TheVariants as role
 use Rattle.dft_cells.specs.declared.cell.Cell.{Cell}
-use Rattle.dft_cells.specs.FlipFlops.{is_flip_flop}
+use Rattle.dft_cells.specs.FlipFlops.{is_flip_flop, Forces}
 use Rattle.dft_netlist.specs.declared.port.Port.{Port}
 use Rattle.dft_netlist.specs.declared.instance.Signal.{Signal}
 use Rattle.dft_netlist.specs.declared.instance.Signal.TheVariants as signal
@@ -13,11 +13,12 @@ use Rattle.dft_netlist.specs.Netlist.{Netlist}
 use Rattle.dft_netlist.specs.Drivers.{Source, Net, Tied, Connection, Driver, source_of, pins_of, kind_at, driver}
 use Rattle.dft_netlist.specs.Drivers as drivers
 use Rattle.dft_netlist.specs.NetDrivers.{times_driven}
-use Rattle.dft_behavior.specs.Traces.{Root, Port as PortRoot, Constant, Other, From, Bit, passed_by_gate}
-use Rattle.dft_behavior.specs.ClockRoots.{ClockRoot, turn_of, turned}
+use Rattle.dft_behavior.specs.NetRoots.{From, Bit, passed_by_gate, turned}
+use Rattle.dft_behavior.specs.Traces.{Root, Port as PortRoot, Constant, Other}
+use Rattle.dft_behavior.specs.ClockRoots.{ClockRoot, turn_of}
 use Rattle.dft_behavior.specs.Logic as logic
 use Rattle.dft_netlist.specs.Connections.{pin_of}
-use Rattle.dft_behavior.specs.Logic.{Ports, Force, Meaning, or_loose, domain_of, force_of, scan_of, modelled, flop_meaning, lockup_meaning}
+use Rattle.dft_behavior.specs.Logic.{Ports, Meaning, or_loose, domain_of, force_of, both_forces, takes_of, forces_of, modelled, flop_meaning, lockup_meaning}
 use Rattle.dft_behavior.specs.Settled.{Sources, bit_from, bit_given}
 use Rattle.dft_modules.specs.declared.connections.Connection as modules
 use Rattle.dft_modules.specs.declared.module.SubInstance.{SubInstance}
@@ -80,7 +81,7 @@ pub data JoinedTraces (ms : List Module) (library : List Cell) (top : Module) : 
   AtTie : {path : Path} {net : ℕ} {kind : Gate} {inputs : List Source} {bit : Bool} →
       DrivenInside ms library top path net (drivers.Gate kind inputs) → passed_by_gate kind inputs ≡ Bit bit → JoinedTraces ms library top path (Net net) (Constant bit)
   ThroughBuffer : {path : Path} {net : ℕ} {kind : Gate} {inputs : List Source} {source : Source} {root : Root} →
-      DrivenInside ms library top path net (drivers.Gate kind inputs) → passed_by_gate kind inputs ≡ From source →
+      DrivenInside ms library top path net (drivers.Gate kind inputs) → passed_by_gate kind inputs ≡ From source false →
       JoinedTraces ms library top path source root → JoinedTraces ms library top path (Net net) root
   ThroughJoin : {path : Path} {net : ℕ} {source : Source} {root : Root} →
       DrivenInside ms library top path net (drivers.Joined source) → JoinedTraces ms library top path source root → JoinedTraces ms library top path (Net net) root
@@ -126,16 +127,17 @@ abbrev pub domain_by : Roots → Ports → Option Source → Option ClockRoot
 domain_by roots ports None = None
 domain_by roots ports (Some source) = domain_of ports (roots.clock source)
 
-abbrev pub forcing_by : Roots → Ports → (reset preset : Option Source) → Option (Option Force)
-forcing_by roots ports (Some reset) preset = force_of ports false (roots.root reset)
-forcing_by roots ports None (Some preset) = force_of ports true (roots.root preset)
-forcing_by roots ports None None = Some None
+abbrev pub force_by : Roots → Ports → Option Source → Option (Option ℕ)
+force_by roots ports None = Some None
+force_by roots ports (Some source) = force_of ports (roots.root source)
+
+abbrev pub forcing_by : Roots → Ports → Forces Source → Option (Forces ℕ)
+forcing_by roots ports pins = both_forces (force_by roots ports pins.clear) (force_by roots ports pins.preset)
 
 -- the modelled flip-flop that an instance is, if it is one
 abbrev pub modelled_by : Roots → Ports → (instance : ℕ) → List Connection → Option logic.Cell
 modelled_by roots ports i pins =
-    modelled (domain_by roots ports (pin_of role.Clock i pins)) (forcing_by roots ports (pin_of role.Reset i pins) (pin_of role.Preset i pins))
-    (or_loose i (pin_of role.Din i pins)) (scan_of (pin_of role.ScanEnable i pins) (pin_of role.ScanIn i pins))
+    modelled (domain_by roots ports (pin_of role.Clock i pins)) (forcing_by roots ports (forces_of i pins)) (takes_of i pins)
 
 abbrev pub flip_flop_by : Roots → Netlist → Ports → (instance : ℕ) → Option logic.Cell
 flip_flop_by roots n ports i = if is_flip_flop (kind_at n i) then modelled_by roots ports i (pins_of n i) else None

@@ -31,7 +31,7 @@ use Rattle.dft_parts.specs.MadeNames.{made_net}
 use Rattle.dft_parts.specs.Growth.{instances_in, made_names, names_of}
 use Rattle.dft_parts.proofs.Growing.{parts_grow}
 use Rattle.dft_scan_frame.specs.AddedPorts.{port_name, ports_from}
-use Rattle.dft_scan_frame.specs.Keeping.{IsJoinedNow, IsScanCellFor}
+use Rattle.dft_scan_frame.specs.Keeping.{ArePinsKept, IsJoinedNow, IsPinKept, IsScanCellFor}
 use Rattle.dft_scan_frame.specs.Moves.{Gap, moved_signal, moved_instance, at_net, map_from}
 use Rattle.dft_scan_frame.specs.Statements.{IsReady}
 use Rattle.dft_scan_frame.specs.Pins.{number_of}
@@ -221,10 +221,6 @@ no_input r off both = true_false (same_role r ScanIn) (subst (λ (x : Role). sam
 
 -- ---- a scan cell
 
--- a pin is joined as before, or is an output that has a net now
-abbrev PinKept : Gap → Role → (before now : Option Signal) → Type 0
-PinKept gap r before now = (now ≡ option_map (moved_signal gap) before) ⊎ IsJoinedNow r before now
-
 unmoved : (gap : Gap) (o : Option Signal) → option_map (moved_signal gap) o ≡ Some Unconnected → o ≡ Some Unconnected
 unmoved gap None e = absurd cc
 unmoved gap (Some (Net net)) e = absurd cc
@@ -233,7 +229,7 @@ unmoved gap (Some Unconnected) e = refl
 
 -- what is joined at the pin of a role, by its number
 joined_by : (n : Netlist) (config : Config) (i : ℕ) (gap : Gap) (r : Role) (roles : List Role) (pins : List Signal) (parts : List Part) (o : Option ℕ) (before : Option Signal) → roles ≡ scan_roles n (record { 0 = i }) → is_scan_role r ≡ false → AllByRecursion (OnChains n config) parts →
-    number_of (same_role r) 0 roles ≡ o → signal_at pins o ≡ option_map (moved_signal gap) before → PinKept gap r before (signal_at (joined_in parts i pins) o)
+    number_of (same_role r) 0 roles ≡ o → signal_at pins o ≡ option_map (moved_signal gap) before → IsPinKept gap r before (signal_at (joined_in parts i pins) o)
 joined_by n config i gap r roles pins parts None before its off each is same = inl same
 joined_by n config i gap r roles pins parts (Some p) before its off each is same = elim (pin_kept (IsChainPin n config) parts i pins p each) [
   | inl kept ↦ inl (kept ∙ same)
@@ -249,13 +245,16 @@ joined_by n config i gap r roles pins parts (Some p) before its off each is same
 ]
 
 -- a scan cell in place of a flip-flop, when the parts are made
-scan_cell_kept : (n : Netlist) (config : Config) (gap : Gap) (i : ℕ) (x : Instance) (id : CellId) (parts : List Part) → scan_cell_in n.library x.cell ≡ Some id → slice_get n.instances i ≡ Some x → IsReady n config → AllByRecursion (OnChains n config) parts →
-    IsScanCellFor n gap x (record {
-      name = x.name;
-      cell = Library id;
-      pins = joined_in parts i (framed_pins (at_net gap.before) (shape_of n.library (Library id)).roles (map (moved_signal gap) x.pins));
-    })
-scan_cell_kept n config gap i x id parts names at ready each =
+abbrev scan_cell_at : Netlist → Gap → (i : ℕ) → Instance → CellId → List Part → Instance
+scan_cell_at n gap i x id parts = record {
+  name = x.name;
+  cell = Library id;
+  pins = joined_in parts i (framed_pins (at_net gap.before) (shape_of n.library (Library id)).roles (map (moved_signal gap) x.pins));
+}
+
+scan_pins_kept : (n : Netlist) (config : Config) (gap : Gap) (i : ℕ) (x : Instance) (id : CellId) (parts : List Part) → scan_cell_in n.library x.cell ≡ Some id → slice_get n.instances i ≡ Some x → IsReady n config → AllByRecursion (OnChains n config) parts →
+    ArePinsKept n gap x (scan_cell_at n gap i x id parts)
+scan_pins_kept n config gap i x id parts names at ready each r off =
     let s : Shape = shape_of n.library x.cell in
     let t : Shape = shape_of n.library (Library id) in
     let pair : ScanPair s.kind s.roles t.kind t.roles = scan_pair n.library x.cell id names ready.library in
@@ -264,21 +263,14 @@ scan_cell_kept n config gap i x id parts names at ready each =
     let pins : List Signal = framed_pins (at_net gap.before) t.roles moved in
     let wide : length moved ≡ length (shared_roles t.roles) = length-map x.pins (moved_signal gap) ∙ (ready.netlist.instances i x at).width ∙ ap length shared in
     let its : t.roles ≡ scan_roles n (record { 0 = i }) = sym (ap (roles_of n.library) (ap (λ (o : Option Instance). option_and_then (λ (y : Instance). scan_cell_in n.library y.cell) o) at ∙ names)) in
-    record {
-      cell = id;
-      name = refl;
-      scan = names;
-      is = refl;
-      pins = λ r off.
-          let before : Option Signal = signal_of r (connections_from 0 s.roles x.pins) in
-          let was : signal_at pins (number_of (same_role r) 0 t.roles) ≡ option_map (moved_signal gap) before =
-          sym (signal_is r 0 t.roles pins (framed_width (at_net gap.before) t.roles moved))
-          ∙ framed_signal r (at_net gap.before) t.roles moved 0 0 off wide
-          ∙ ap (λ (rs : List Role). signal_of r (connections_from 0 rs moved)) (sym shared)
-          ∙ moved_signals gap r s.roles x.pins 0 in
-          subst (PinKept gap r before) (sym (signal_is r 0 t.roles (joined_in parts i pins) (joined_width parts i pins ∙ framed_width (at_net gap.before) t.roles moved)))
-          (joined_by n config i gap r t.roles pins parts (number_of (same_role r) 0 t.roles) before its off each refl was);
-    }
+    let before : Option Signal = signal_of r (connections_from 0 s.roles x.pins) in
+    let was : signal_at pins (number_of (same_role r) 0 t.roles) ≡ option_map (moved_signal gap) before =
+    sym (signal_is r 0 t.roles pins (framed_width (at_net gap.before) t.roles moved))
+    ∙ framed_signal r (at_net gap.before) t.roles moved 0 0 off wide
+    ∙ ap (λ (rs : List Role). signal_of r (connections_from 0 rs moved)) (sym shared)
+    ∙ moved_signals gap r s.roles x.pins 0 in
+    subst (IsPinKept gap r before) (sym (signal_is r 0 t.roles (joined_in parts i pins) (joined_width parts i pins ∙ framed_width (at_net gap.before) t.roles moved)))
+    (joined_by n config i gap r t.roles pins parts (number_of (same_role r) 0 t.roles) before its off each refl was)
 
 -- ---- instances of the frame
 
@@ -309,16 +301,27 @@ module _ (style : Style) (n : Netlist) (config : Config) (ready : IsReady n conf
       ∙ ap (λ b. Some (record (framed_instance n.library gap b x) { pins = joined_in parts i (framed_instance n.library gap b x).pins })) off
       ∙ ap (λ (ps : List Signal). Some (record (moved_instance gap x) { pins = ps })) (none_joined (IsChainPin n config) parts i (moved_instance gap x).pins (λ p q. true_false (is_scanned (judged n config i)) q.scanned off) joins)
 
+  scan_cell_there : (i : ℕ) (x : Instance) (id : CellId) → scan_cell_in n.library x.cell ≡ Some id → slice_get n.instances i ≡ Some x → is_scanned (judged n config i) ≡ true →
+      slice_get (scanned style n config).instances i ≡ Some (scan_cell_at n gap i x id parts)
+  scan_cell_there i x id names at on =
+      there i x at
+      ∙ ap (λ b. Some (record (framed_instance n.library gap b x) { pins = joined_in parts i (framed_instance n.library gap b x).pins })) on
+      ∙ ap (λ (o : Option CellId). Some (record (as_scan_cell n.library gap x o) { pins = joined_in parts i (as_scan_cell n.library gap x o).pins })) names
+
   scan_kept_by : (i : ℕ) (x : Instance) (o : Option CellId) → scan_cell_in n.library x.cell ≡ o → is_some o ≡ true → slice_get n.instances i ≡ Some x → is_scanned (judged n config i) ≡ true →
-      (new : Instance) × (slice_get (scanned style n config).instances i ≡ Some new) × IsScanCellFor n gap x new
+      (new : Instance) × (slice_get (scanned style n config).instances i ≡ Some new) × IsScanCellFor n gap (scanned style n config) x new
   scan_kept_by i x None names some at on = absurd cc
   scan_kept_by i x (Some id) names some at on = (
-    record { name = x.name; cell = Library id; pins = joined_in parts i (framed_pins (at_net gap.before) (shape_of n.library (Library id)).roles (map (moved_signal gap) x.pins)) },
-    there i x at
-        ∙ ap (λ b. Some (record (framed_instance n.library gap b x) { pins = joined_in parts i (framed_instance n.library gap b x).pins })) on
-        ∙ ap (λ (o : Option CellId). Some (record (as_scan_cell n.library gap x o) { pins = joined_in parts i (as_scan_cell n.library gap x o).pins })) names,
-    scan_cell_kept n config gap i x id parts names at ready joins,
+    scan_cell_at n gap i x id parts,
+    scan_cell_there i x id names at on,
+    record { cell = id; name = refl; scan = names; is = refl; pins = λ r off. inl (scan_pins_kept n config gap i x id parts names at ready joins r off) },
   )
+
+  pins_kept_by : (i : ℕ) (x new : Instance) (o : Option CellId) → scan_cell_in n.library x.cell ≡ o → is_some o ≡ true → slice_get n.instances i ≡ Some x → slice_get (scanned style n config).instances i ≡ Some new → is_scanned (judged n config i) ≡ true →
+      ArePinsKept n gap x new
+  pins_kept_by i x new None names some at is on = absurd cc
+  pins_kept_by i x new (Some id) names some at is on =
+      subst (ArePinsKept n gap x) (same_Some (scan_cell_at n gap i x id parts) new (sym (scan_cell_there i x id names at on) ∙ is)) (scan_pins_kept n config gap i x id parts names at ready joins)
 
 -- a scanned flip-flop names a scan cell
 scans_by : (n : Netlist) (config : Config) (i : ℕ) (b : Bool) → is_scanned (if b then judged_by (clocked_by n config i) (are_held_at n config i) (is_some (scan_cell_of n i)) (is_kept n config.keep i) else None) ≡ true → is_some (scan_cell_of n i) ≡ true
@@ -372,11 +375,14 @@ pub keeps_design : KeepsDesign
 keeps_design style n config ready =
     let grown = parts_grow (framed style n config) (made_in style n config) in
     let added = adds_in_order style n config in record {
-      name = grown.name;
-      library = grown.library;
-      ports = record { added = ports_from (gap_in style n config).before (added_ports style config); count = length_ports (gap_in style n config).before (added_ports style config); same = added.ports };
-      nets = record { added = map port_name (added_ports style config); made = map made_net (range_with_len 0 (nets_in (made_in style n config))); count = length-map (added_ports style config) port_name; same = added.nets };
-      joins = grown.joins;
-      others = λ i x at off. other_kept style n config ready i x at off;
-      scanned = λ i x at on. scan_kept_by style n config ready i x (scan_cell_in n.library x.cell) refl (scanned_names n config i x at on) at on;
+      design = record {
+        name = grown.name;
+        library = grown.library;
+        ports = record { added = ports_from (gap_in style n config).before (added_ports style config); count = length_ports (gap_in style n config).before (added_ports style config); same = added.ports };
+        nets = record { added = map port_name (added_ports style config); made = map made_net (range_with_len 0 (nets_in (made_in style n config))); count = length-map (added_ports style config) port_name; same = added.nets };
+        joins = grown.joins;
+        others = λ i x at off. other_kept style n config ready i x at off;
+        scanned = λ i x at on. scan_kept_by style n config ready i x (scan_cell_in n.library x.cell) refl (scanned_names n config i x at on) at on;
+      };
+      pins = λ i old new at is on. pins_kept_by style n config ready i old new (scan_cell_in n.library old.cell) refl (scanned_names n config i old at on) at is on;
     }

@@ -7,7 +7,7 @@ use Rattle.dft_cells.specs.declared.kind.Role.{Role}
 use Rattle.dft_cells.specs.declared.kind.Role.TheVariants.{Clock, Din, Reset, Preset, ScanIn, ScanEnable, Output}
 use Rattle.dft_cells.specs.declared.cell.Cell as library_cells
 use Rattle.dft_cells.specs.declared.cell.CellId.{CellId}
-use Rattle.dft_cells.specs.FlipFlops.{is_flip_flop}
+use Rattle.dft_cells.specs.FlipFlops.{is_flip_flop, Forces}
 use Rattle.dft_netlist.specs.declared.instance.CellRef.TheVariants.{Library}
 use Rattle.dft_netlist.specs.declared.instance.Signal.{Signal}
 use Rattle.dft_netlist.specs.declared.instance.Instance.{Instance}
@@ -15,7 +15,7 @@ use Rattle.dft_netlist.specs.Netlist.{Netlist}
 use Rattle.dft_netlist.specs.Sound.{bits_of}
 use Rattle.dft_netlist.specs.Drivers.{Source, Shape, Connection, connections_from, connections_of, shape_of, kind_of, pins_at}
 use Rattle.dft_netlist.specs.Connections.{same_role, pin_of}
-use Rattle.dft_behavior.specs.Logic.{Ports, or_loose, scan_of, domain_of, domain_at, force_of, forcing, modelled, modelled_of, flip_flop}
+use Rattle.dft_behavior.specs.Logic.{Ports, or_loose, scan_of, domain_of, domain_at, force_of, force_at, both_forces, forcing, takes_of, forces_of, modelled, modelled_of, flip_flop}
 use Rattle.dft_behavior.specs.Traces.{Root, Port, Constant, Other, root_of}
 use Rattle.dft_behavior.specs.ClockRoots.{ClockRoot, clock_root_of}
 use Rattle.dft_netlist.proofs.RankLemmas.{order_ranks}
@@ -36,8 +36,7 @@ use Rattle.dft_scan_frame.proofs.Containing.{no_pin, ref_no_role, flop_in, match
 use Rattle.dft_scan_frame.proofs.Fine.{instance_plain}
 use Rattle.dft_scan_frame.proofs.Kept.{reads_inside, root_among, clock_among, design_ports_few}
 use Rattle.dft_scan_frame.proofs.Mergings.{moved_connection, moved_connections}
-use Rattle.dft_scan_frame.proofs.MovedClocks.{moved_clock, clock_moved}
-use Rattle.dft_scan_frame.proofs.MovedRoots.{moved_root, AreDriversKept, root_moved}
+use Rattle.dft_scan_frame.proofs.MovedRoots.{moved_root, moved_clock, AreDriversKept, root_moved, clock_moved}
 use Rattle.dft_scan_frame.proofs.ScanPairs.{ScanPair}
 use Rattle.dft_scan_frame.proofs.Whole.{moved_front}
 use Rattle.dft_insert.specs.declared.style.Style.{Style}
@@ -117,16 +116,18 @@ domain_alike n w f size p q count (Some source) kept first alike inside =
     ∙ clock_alike f p q (clock_root_of n source) (λ clock is. subst (λ k. q.is_clock k ≡ p.is_clock k) (sym (kept.clock_stays source clock is)) (alike.clocks clock.port (first source clock is)))
     ∙ sym (ap (domain_of p) (kept.clocks source inside))
 
-force_alike : (p q : Ports) (value : Bool) (r : Root) → q.is_reset ≡ p.is_reset → force_of q value r ≡ force_of p value r
-force_alike p q value (Port net) e = ap (λ (is_reset : ℕ → Bool). if is_reset net then Some (Some (record { port = net; value = value })) else None) e
-force_alike p q value (Constant true) e = refl
-force_alike p q value (Constant false) e = refl
-force_alike p q value Other e = refl
+force_alike : (p q : Ports) (r : Root) → q.is_reset ≡ p.is_reset → force_of q r ≡ force_of p r
+force_alike p q (Port net) e = ap (λ (is_reset : ℕ → Bool). if is_reset net then Some (Some net) else None) e
+force_alike p q (Constant true) e = refl
+force_alike p q (Constant false) e = refl
+force_alike p q Other e = refl
 
-forcing_alike : (w : Netlist) (p q : Ports) (reset preset : Option Source) → q.is_reset ≡ p.is_reset → forcing w q reset preset ≡ forcing w p reset preset
-forcing_alike w p q (Some reset) preset e = force_alike p q false (root_of w reset) e
-forcing_alike w p q None (Some preset) e = force_alike p q true (root_of w preset) e
-forcing_alike w p q None None e = refl
+pin_alike : (w : Netlist) (p q : Ports) (pin : Option Source) → q.is_reset ≡ p.is_reset → force_at w q pin ≡ force_at w p pin
+pin_alike w p q None e = refl
+pin_alike w p q (Some source) e = force_alike p q (root_of w source) e
+
+forcing_alike : (w : Netlist) (p q : Ports) (pins : Forces Source) → q.is_reset ≡ p.is_reset → forcing w q pins ≡ forcing w p pins
+forcing_alike w p q pins e t = both_forces (pin_alike w p q pins.clear e t) (pin_alike w p q pins.preset e t)
 
 -- ---- flip-flops
 
@@ -135,12 +136,11 @@ pins_matched : (n w : Netlist) (p q : Ports) (s : Places) (count i : ℕ) (roles
     (same : SamePins s.moved i (connections_from 0 roles pins) new) → (no_scan : pin_of ScanEnable i (connections_from 0 roles pins) ≡ None) → (enabled : IsEnabledBy s.enable (scan_of (pin_of ScanEnable i new) (pin_of ScanIn i new))) → AreMatched s (modelled_of n p i (connections_from 0 roles pins)) (modelled_of w q i new)
 pins_matched n w p q s count i roles pins new kept first alike inside same no_scan enabled =
     let old : List Connection = connections_from 0 roles pins in
-    let input : Source = or_loose i (pin_of Din i new) in
     let domains : domain_at w q (pin_of Clock i new) ≡ domain_at w p (pin_of Clock i new) =
     ap (domain_at w q) same.clock ∙ domain_alike n w s.moved s.size p q count (pin_of Clock i old) kept first alike (inside Clock) ∙ sym (ap (domain_at w p) same.clock) in
     subst (AreMatched s (modelled_of n p i old))
-    (sym (ap (λ d. modelled d (forcing w q (pin_of Reset i new) (pin_of Preset i new)) input (scan_of (pin_of ScanEnable i new) (pin_of ScanIn i new))) domains
-    ∙ ap (λ g. modelled (domain_at w p (pin_of Clock i new)) g input (scan_of (pin_of ScanEnable i new) (pin_of ScanIn i new))) (forcing_alike w p q (pin_of Reset i new) (pin_of Preset i new) alike.resets)))
+    (sym (ap (λ d. modelled d (forcing w q (forces_of i new)) (takes_of i new)) domains
+    ∙ ap (λ g. modelled (domain_at w p (pin_of Clock i new)) g (takes_of i new)) (forcing_alike w p q (forces_of i new) alike.resets)))
     (modelled_kept n w p s i old new kept same (inside Clock) (inside Din) (inside Reset) (inside Preset) no_scan enabled)
 
 module _ (style : Style) (n : Netlist) (config : Config) (ready : IsReady n config) (spared : AreSpared style n config) where

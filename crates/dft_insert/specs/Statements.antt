@@ -1,6 +1,7 @@
 -- What holds of scanned netlists of both styles.
-use Rattle.std.specs.Prelude.{◌≡◌, ◌++◌, List, map, take, drop}
+use Rattle.std.specs.Prelude.{ℕ, ◌≡◌, ◌++◌, true, List, map, take, drop, Some, slice_get}
 use Rattle.std.specs.List.{range_with_len}
+use Rattle.dft_netlist.specs.declared.instance.Instance.{Instance}
 use Rattle.dft_netlist.specs.Netlist.{Netlist}
 use Rattle.dft_config.specs.Config.{Config}
 use Rattle.dft_rules.specs.Refusals.{is_scanned}
@@ -11,7 +12,7 @@ use Rattle.dft_parts.specs.MadeNames.{made_net}
 use Rattle.dft_parts.specs.Parts.{Part}
 use Rattle.dft_parts.specs.Recipes.{nets_in}
 use Rattle.dft_scan_frame.specs.AddedPorts.{port_name, ports_from}
-use Rattle.dft_scan_frame.specs.Keeping.{Keeps}
+use Rattle.dft_scan_frame.specs.Keeping.{ArePinsKept, Keeps}
 use Rattle.dft_scan_frame.specs.Statements.{IsReady}
 use Rattle.dft_insert.specs.declared.style.Style.{Style}
 use Rattle.dft_insert.specs.Ports.{added_ports, gap_in}
@@ -24,9 +25,12 @@ scanned style n config = scanned_netlist style n config (plan_of n config)
 abbrev pub made_in : Style → Netlist → Config → List Part
 made_in style n config = parts_of style n config (plan_of n config)
 
--- it has the design's ports, nets, joins and instances, in order and under their names, but that the scanned flip-flops are scan cells
-abbrev pub IsKept : Style → Netlist → Config → Type 0
-IsKept style n config = Keeps n (gap_in style n config) (λ i. is_scanned (judged n config i)) (scanned style n config)
+-- It has the design's ports, nets, joins and instances, in order and under their names, but that the scanned flip-flops are scan cells; and all
+-- pins of these are kept besides the scan pins.
+pub record IsKept (style : Style) (n : Netlist) (config : Config) : Type 0 where
+  pub design : Keeps n (gap_in style n config) (λ i. is_scanned (judged n config i)) (scanned style n config)
+  pub pins : (i : ℕ) (old new : Instance) → slice_get n.instances i ≡ Some old → slice_get (scanned style n config).instances i ≡ Some new → is_scanned (judged n config i) ≡ true →
+      ArePinsKept n (gap_in style n config) old new
 
 -- It keeps the design.
 abbrev pub KeepsDesign : Type 0

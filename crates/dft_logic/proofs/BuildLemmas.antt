@@ -1,5 +1,5 @@
 -- Lists that are built place by place.
-use Rattle.std.proofs.Common.{false, ℕ, List, [], ◌∷◌, ◌++◌, ◌≡◌, ◌<◌, ◌+◌, Option, None, length, map, sym, ap, ◌∙◌, subst, get_or, below_more, length-append, arith}
+use Rattle.std.proofs.Common.{Bool, true, false, refl, ℕ, List, [], ◌∷◌, ◌++◌, ◌≡◌, ◌<◌, ◌+◌, Option, None, length, map, sym, ap, ◌∙◌, subst, get_or, below_more, length-append, arith}
 use Rattle.std.proofs.Math.ListN.{get_or-append}
 use Rattle.std.proofs.Math.Seq.{get_or-append_seam}
 use Rattle.dft_netlist.specs.Netlist.{Netlist}
@@ -13,7 +13,9 @@ use Rattle.dft_logic.specs.declared.circuit.Op.{Op}
 use Rattle.dft_logic.specs.declared.circuit.Operand.TheVariants.{Net}
 use Rattle.dft_logic.specs.declared.circuit.FlipFlop.{FlipFlop}
 use Rattle.dft_logic.specs.declared.circuit.Latch.{Latch}
-use Rattle.dft_logic.proofs.OpLemmas.{modelled_same, lockup_in_same}
+use Rattle.dft_cells.specs.WellFormed.{IsWellFormed}
+use Rattle.dft_netlist.specs.Sound.{IsNetlist}
+use Rattle.dft_logic.proofs.OpLemmas.{modelled_same, lockup_in_same, has_one_force}
 use Rattle.dft_logic.specs.declared.circuit.Op.TheVariants.{Free}
 use Rattle.dft_logic.specs.Circuit.{op_at, cell_of, latch_of}
 use Rattle.dft_logic.specs.Compiling.{Wired, wired_by, stored_in, latch_in, latch_kept, IsOpOf, IsFlopOf, IsLatchOf, AreFlops, AreLatches}
@@ -39,12 +41,17 @@ flop_pushed n ports flops new f count grown before here = (let both = pushed (Is
 pub latch_pushed : (n : Netlist) (ports : Ports) (latches new : List (Option Latch)) (x : Option Latch) (count : ℕ) → new ≡ latches ++ x ∷ [] → AreLatches n ports count latches → IsLatchOf n ports count x → AreLatches n ports (count + 1) new
 latch_pushed n ports latches new x count grown before here = (let both = pushed (IsLatchOf n ports) latches new x None count before.size grown before.each here in record { size = both.0; each = both.1 })
 
+where_flop : (clocked : Bool) (a b : Option Cell) → (clocked ≡ true → a ≡ b) → (if clocked then a else None) ≡ (if clocked then b else None)
+where_flop true a b same = same refl
+where_flop false a b same = refl
+
 -- the cell of an instance, from its pins
-pub flop_is : (n : Netlist) (ports : Ports) (i : ℕ) (k : Kind) (ws : List Wired) (f : FlipFlop) → cell_of f ≡ cell_or_none i (stored_in n ports i k ws) → k ≡ kind_at n i → ws ≡ map (wired_by i) (pins_of n i) → IsFlopOf n ports i f
-flop_is n ports i k ws f is ke we =
+pub flop_is : (n : Netlist) (ports : Ports) (i : ℕ) (k : Kind) (ws : List Wired) (f : FlipFlop) → cell_of f ≡ cell_or_none i (stored_in n ports i k ws) → IsNetlist n → IsWellFormed n.library → k ≡ kind_at n i → ws ≡ map (wired_by i) (pins_of n i) → IsFlopOf n ports i f
+flop_is n ports i k ws f is sound well ke we =
     let C : Option Cell → Cell = cell_or_none i in
     is ∙ (λ t. C (stored_in n ports i (ke t) (we t)))
-    ∙ (λ t. C (option_or (if is_flip_flop (kind_at n i) then modelled_same n ports i (pins_of n i) t else None) (if is_lockup (kind_at n i) then lockup_in_same n ports i (pins_of n i) t else None)))
+    ∙ (λ t. C (option_or (where_flop (is_flip_flop (kind_at n i)) _ _ (λ clocked. modelled_same n ports i (pins_of n i) (has_one_force n i sound well clocked)) t)
+    (if is_lockup (kind_at n i) then lockup_in_same n ports i (pins_of n i) t else None)))
 
 pub latch_is_kept : (n : Netlist) (ports : Ports) (i : ℕ) (k : Kind) (ws : List Wired) (x : Option Latch) → latch_of x ≡ latch_kept k (latch_in n ports i ws) → k ≡ kind_at n i → ws ≡ map (wired_by i) (pins_of n i) → IsLatchOf n ports i x
 latch_is_kept n ports i k ws x is ke we = is ∙ (λ t. latch_kept (ke t) (latch_in n ports i (we t)))

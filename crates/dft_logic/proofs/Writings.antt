@@ -1,12 +1,16 @@
 -- A loop that writes a new value at each place of a list.
-use Rattle.std.proofs.Common.{ℕ, zero, suc, List, [], ◌∷◌, map, ◌≡◌, ◌<◌, ◌≤◌, ◌+◌, ◌≢◌, length, refl, ap, ◌∙◌, get_or, slice_set, get_or-set_same, get_or-set_other, below_more, arith}
+use Rattle.std.proofs.Common.{ℕ, zero, suc, List, [], ◌∷◌, Option, None, Some, inl, inr, ◌⊎◌, sym, map, ◌≡◌, ◌<◌, ◌≤◌, ◌+◌, ◌≢◌, length, refl, ap, ◌∙◌, get_or, slice_set, get_or-set_same, get_or-set_other, below_more, arith}
 use Rattle.std.proofs.lemmas.List.{get_or_default, get_or_past, length-map}
 use Rattle.dft_base.specs.declared.tri.Tri.{Tri}
 use Rattle.dft_base.specs.declared.tri.Tri.TheVariants.{Zero, Unknown}
 use Rattle.dft_behavior.specs.Logic.{Cell, no_cell}
+use Rattle.dft_logic.specs.declared.circuit.Acting.{Acting}
+use Rattle.dft_logic.specs.declared.circuit.Acting.TheVariants as acting
 use Rattle.dft_logic.specs.declared.circuit.FlipFlop.{FlipFlop}
 use Rattle.dft_logic.specs.Values.{value_at}
-use Rattle.dft_logic.specs.Circuit.{cell_of, cell_at}
+use Rattle.dft_cells.specs.FlipFlops.{Forces, IsForceOf}
+use Rattle.dft_netlist.specs.Orders.{Has}
+use Rattle.dft_logic.specs.Circuit.{force_at, IsOneForce, with_port, force_nets, cell_of, cell_at}
 
 -- the places before one have their new values, the others their old ones
 pub record Written (start now : List Tri) (new : ℕ → Tri → Tri) (place : ℕ) : Type 0 where
@@ -41,6 +45,32 @@ cell_read flops c d less = read flops c (no_cell c) less where
   read [] k e h = absurd (omega arith)
   read (f ∷ fs) zero e h = refl
   read (f ∷ fs) (suc k) e h = read fs k e (omega arith)
+
+-- the ports of a reset and a set are listed
+pub force_listed : (forces : Forces ℕ) (port : ℕ) → IsForceOf forces port → Has (force_nets forces) port
+force_listed forces port is = go forces.clear forces.preset is where
+  one : (pin : Option ℕ) → pin ≡ Some port → Has (with_port pin []) port
+  one None h = absurd cc
+  one (Some q) h = (let e : q ≡ port = cc in inl (sym e))
+
+  go : (clear preset : Option ℕ) → (clear ≡ Some port) ⊎ (preset ≡ Some port) → Has (with_port clear (with_port preset [])) port
+  go None preset (inl h) = absurd cc
+  go None preset (inr h) = one preset h
+  go (Some q) preset (inl h) = (let e : q ≡ port = cc in inl (sym e))
+  go (Some q) preset (inr h) = inr (one preset h)
+
+-- no flip-flop has both a reset and a set
+pub one_force : (flops : List FlipFlop) (c : ℕ) → IsOneForce (cell_at (map cell_of flops) c).forces
+one_force flops c = go flops c (no_cell c) (inl refl) where
+  by_acting : (force : Option Acting) → IsOneForce (force_at force)
+  by_acting None = inl refl
+  by_acting (Some (acting.Clear port)) = inr refl
+  by_acting (Some (acting.Preset port)) = inl refl
+
+  go : (fs : List FlipFlop) (k : ℕ) (d : Cell) → IsOneForce d.forces → IsOneForce (get_or (map cell_of fs) k d).forces
+  go [] k d none = none
+  go (f ∷ fs) zero d none = by_acting f.force
+  go (f ∷ fs) (suc k) d none = go fs k d none
 
 pub cell_past : (flops : List FlipFlop) (c : ℕ) → length flops ≤ c → cell_at (map cell_of flops) c ≡ no_cell c
 cell_past flops c far = get_or_past (map cell_of flops) c (no_cell c) (let e = length-map flops cell_of in omega arith)

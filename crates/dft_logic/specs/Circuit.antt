@@ -1,12 +1,14 @@
 -- A design made ready for settling: what each net takes its value from, and the flip-flop or lock-up of each instance.
-use Rattle.std.specs.Prelude.{ℕ, Bool, false, ◌≡◌, ◌<◌, List, [], ◌∷◌, map, length, Option, None, Some, slice_index_or}
+use Rattle.std.specs.Prelude.{ℕ, Bool, true, false, ◌≡◌, ◌<◌, ◌⊎◌, List, [], ◌∷◌, map, length, Option, None, Some, slice_index_or}
 use Rattle.std.specs.List.{AllByRecursion}
 use Rattle.dft_base.specs.declared.tri.Tri.{Tri}
+use Rattle.dft_base.specs.declared.tri.Tri.TheVariants.{Unknown}
+use Rattle.dft_cells.specs.FlipFlops.{Scan, Takes, Forces, no_forces, tri_taken_by, tri_forced_by}
 use Rattle.dft_cells.specs.WellFormed.{TakesInputs}
 use Rattle.dft_netlist.specs.declared.ids.NetId.{NetId}
 use Rattle.dft_netlist.specs.Drivers.{Source}
 use Rattle.dft_netlist.specs.Drivers as drivers
-use Rattle.dft_behavior.specs.Logic.{Logic, Meaning, Cell, Scan, Force, reads, lockup_cell, no_cell}
+use Rattle.dft_behavior.specs.Logic.{Logic, Meaning, Cell, reads, lockup_cell, no_cell}
 use Rattle.dft_behavior.specs.Logic as meanings
 use Rattle.dft_behavior.specs.Settled.{TriSources, value_from}
 use Rattle.dft_netlist.specs.Orders.{Has, numbers_of}
@@ -16,9 +18,9 @@ use Rattle.dft_logic.specs.declared.circuit.Op.{Op}
 use Rattle.dft_logic.specs.declared.circuit.Op.TheVariants.{Input, Clock, Gate, Joined, Flop, Lockup, Free}
 use Rattle.dft_logic.specs.declared.circuit.ScanPins.{ScanPins}
 use Rattle.dft_logic.specs.declared.circuit.Acting.{Acting}
+use Rattle.dft_logic.specs.declared.circuit.Acting.TheVariants as acting
 use Rattle.dft_logic.specs.declared.circuit.FlipFlop.{FlipFlop}
 use Rattle.dft_logic.specs.declared.circuit.Latch.{Latch}
-use Rattle.dft_abstract.specs.Cycle.{tri_forced_by, tri_taken_by}
 use Rattle.dft_logic.specs.Tables.{IsTable}
 
 -- ---- what the parts stand for
@@ -37,16 +39,30 @@ meaning (Flop instance inverted) = meanings.Flop instance.0 inverted
 meaning (Lockup instance domain high source) = meanings.Lockup instance.0 domain.0 high (source_at source)
 meaning Free = meanings.Free
 
-abbrev pub scan_at : Option ScanPins → Option Scan
+abbrev pub scan_at : Option ScanPins → Option (Scan Source)
 scan_at None = None
 scan_at (Some pins) = Some (record { enable = source_at pins.enable; input = source_at pins.input })
 
-abbrev pub force_at : Option Acting → Option Force
-force_at None = None
-force_at (Some acting) = Some (record { port = acting.port.0; value = acting.value })
+-- the reset, or the set of a flip-flop that has no reset
+abbrev pub alone : (is_preset : Bool) → Option ℕ → Forces ℕ
+alone is_preset None = no_forces
+alone true (Some port) = record { clear = None; preset = Some port }
+alone false (Some port) = record { clear = Some port; preset = None }
+
+abbrev pub force_at : Option Acting → Forces ℕ
+force_at None = no_forces
+force_at (Some (acting.Clear port)) = alone false (Some port.0)
+force_at (Some (acting.Preset port)) = alone true (Some port.0)
+
+-- not both a reset and a set
+abbrev pub IsOneForce : Forces ℕ → Type 0
+IsOneForce forces = (forces.clear ≡ None) ⊎ (forces.preset ≡ None)
+
+abbrev pub takes_at : FlipFlop → Takes Source
+takes_at f = record { input = source_at f.input; scan = scan_at f.scan }
 
 abbrev pub cell_of : FlipFlop → Cell
-cell_of f = record { domain = f.domain.0; falling = f.falling; input = source_at f.input; scan = scan_at f.scan; force = force_at f.force }
+cell_of f = record { domain = f.domain.0; falling = f.falling; takes = takes_at f; forces = force_at f.force }
 
 -- ---- a circuit
 
@@ -126,9 +142,13 @@ abbrev pub latch_domains : Option (ℕ × Source) → List ℕ
 latch_domains None = []
 latch_domains (Some latch) = latch.0 ∷ []
 
-abbrev pub force_nets : Option Force → List ℕ
-force_nets None = []
-force_nets (Some force) = force.port ∷ []
+abbrev pub with_port : Option ℕ → List ℕ → List ℕ
+with_port None ports = ports
+with_port (Some port) ports = port ∷ ports
+
+-- the ports of a reset and a set
+abbrev pub force_nets : Forces ℕ → List ℕ
+force_nets forces = with_port forces.clear (with_port forces.preset [])
 
 -- by net, what reads it and what it resets or sets; and for a clock what shows its domain, its flip-flops and its lock-ups
 pub record AreTables (x : Circuit) : Type 0 where
@@ -137,7 +157,7 @@ pub record AreTables (x : Circuit) : Type 0 where
   pub leaves : IsTable (length x.ops) (length x.ops) (λ net. leaf_domains (map cell_of x.flops) net (meaning (op_at x.ops net))) x.leaves
   pub cells : IsTable (length x.ops) (length x.flops) (λ c. (cell_at (map cell_of x.flops) c).domain ∷ []) x.cells
   pub holders : IsTable (length x.ops) (length x.latches) (λ c. latch_domains (latch_at x.latches c)) x.holders
-  pub followers : IsTable (length x.ops) (length x.flops) (λ c. force_nets (cell_at (map cell_of x.flops) c).force) x.followers
+  pub followers : IsTable (length x.ops) (length x.flops) (λ c. force_nets (cell_at (map cell_of x.flops) c).forces) x.followers
 
 pub record IsCircuit (x : Circuit) : Type 0 where
   pub fits : (net : ℕ) → Fits (op_at x.ops net)
@@ -170,10 +190,10 @@ flag_at flags place = slice_index_or flags place false
 
 -- ---- a flip-flop, from the values of a view
 
--- what a flip-flop takes
+-- What a flip-flop takes. No cell of today takes anything of its own value, so that this stands as Unknown.
 abbrev pub taken_at : Cell → (values : ℕ → Tri) → Tri
-taken_at cell values = tri_taken_by cell.scan (value_from values) (value_from values cell.input)
+taken_at cell values = tri_taken_by cell.takes Unknown (value_from values)
 
 -- its next value
 abbrev pub next_at : Cell → (ports values : ℕ → Tri) → Tri
-next_at cell ports values = tri_forced_by cell.force ports (taken_at cell values)
+next_at cell ports values = tri_forced_by cell.forces ports (taken_at cell values)

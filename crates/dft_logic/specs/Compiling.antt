@@ -1,10 +1,9 @@
 -- What each net and each instance of a design becomes in its circuit.
-use Rattle.std.specs.Prelude.{false, ℕ, Bool, true, not, ◌≡◌, ◌<◌, List, [], ◌∷◌, Option, None, Some, map, length, slice_index_or, if◌then◌else◌}
+use Rattle.std.specs.Prelude.{false, ℕ, Bool, true, not, ◌≡◌, ◌<◌, List, [], ◌∷◌, Option, None, Some, option_map, map, length, slice_index_or, if◌then◌else◌}
 use Rattle.std.specs.Option.{option_or}
-use Rattle.dft_cells.specs.FlipFlops.{is_flip_flop}
+use Rattle.dft_cells.specs.FlipFlops.{is_flip_flop, Takes, Forces, no_forces}
 use Rattle.dft_cells.specs.declared.kind.Role.{Role}
 use Rattle.dft_cells.specs.declared.kind.Role.TheVariants as role
-use Rattle.dft_behavior.specs.ClockTables.{AreClocks}
 use Rattle.dft_behavior.specs.RootTables.{AreRoots}
 use Rattle.dft_netlist.specs.Netlist.{Netlist}
 use Rattle.dft_behavior.specs.ClockRoots.{ClockRoot}
@@ -12,14 +11,15 @@ use Rattle.dft_netlist.specs.Drivers.{Source, Connection, source_of, is_input, k
 use Rattle.dft_cells.specs.declared.kind.Kind.{Kind}
 use Rattle.dft_cells.specs.declared.kind.Kind.TheVariants as kind
 use Rattle.dft_netlist.specs.Connections.{same_role}
-use Rattle.dft_behavior.specs.Logic.{Ports, Cell, Meaning, Gate, Lockup, Free, logic_of, or_loose, domain_at, forcing, scan_of, modelled, locked, is_lockup, lockup_meaning, flop_meaning}
+use Rattle.dft_behavior.specs.Logic.{Ports, Cell, Meaning, Gate, Lockup, Free, logic_of, or_loose, domain_at, force_of, scan_of, modelled, locked, is_lockup, lockup_meaning, flop_meaning}
 use Rattle.dft_logic.specs.declared.compiling.Traced.{Traced}
 use Rattle.dft_logic.specs.declared.circuit.Operand.TheVariants.{Net}
 use Rattle.dft_logic.specs.declared.circuit.Op.{Op}
 use Rattle.dft_logic.specs.declared.circuit.FlipFlop.{FlipFlop}
 use Rattle.dft_logic.specs.declared.circuit.Latch.{Latch}
 use Rattle.dft_logic.specs.declared.wires.Wire.{Wire}
-use Rattle.dft_logic.specs.Circuit.{Circuit, source_at, flag_at, meaning, Fits, cell_of, latch_of, latch_at, logic_at}
+use Rattle.dft_behavior.specs.Traces.{root_of}
+use Rattle.dft_logic.specs.Circuit.{Circuit, source_at, alone, flag_at, meaning, Fits, cell_of, latch_of, latch_at, logic_at}
 
 -- the flagged nets are clocks, and every other input may be a reset or a set
 abbrev pub ports_by : List Bool → Ports
@@ -47,18 +47,25 @@ abbrev pub found_in : Role → List Wired → Option Source
 found_in r [] = None
 found_in r (w ∷ ws) = if same_role r w.0 then Some w.1 else found_in r ws
 
--- the roots and the clocks are those of the design's nets
+-- the roots are those of the design's nets
 pub record IsTraced (t : Traced) : Type 0 where
   pub roots : AreRoots t.design.now t.roots.now
-  pub clocks : AreClocks t.design.now t.clocks.now
 
 -- ---- what an instance with these pins is
+
+-- the reset of a flip-flop, or the set of one that has no reset: no kind has both
+abbrev pub forcing_in : Netlist → Ports → (clear preset : Option Source) → Option (Forces ℕ)
+forcing_in n ports None None = Some no_forces
+forcing_in n ports None (Some preset) = option_map (alone true) (force_of ports (root_of n preset))
+forcing_in n ports (Some clear) preset = option_map (alone false) (force_of ports (root_of n clear))
+
+abbrev pub takes_in : (instance : ℕ) → List Wired → Takes Source
+takes_in i ws = record { input = or_loose i (found_in role.Din ws); scan = scan_of (found_in role.ScanEnable ws) (found_in role.ScanIn ws) }
 
 -- its flip-flop, where it is modelled
 abbrev pub modelled_in : Netlist → Ports → (instance : ℕ) → List Wired → Option Cell
 modelled_in n ports i ws =
-    modelled (domain_at n ports (found_in role.Clock ws)) (forcing n ports (found_in role.Reset ws) (found_in role.Preset ws))
-    (or_loose i (found_in role.Din ws)) (scan_of (found_in role.ScanEnable ws) (found_in role.ScanIn ws))
+    modelled (domain_at n ports (found_in role.Clock ws)) (forcing_in n ports (found_in role.Reset ws) (found_in role.Preset ws)) (takes_in i ws)
 
 -- its lock-up, as what stores a bit
 abbrev pub lockup_in : Netlist → Ports → (instance : ℕ) → List Wired → Option Cell

@@ -11,7 +11,7 @@ use crate::compiling::{Part, Traced, flop_at, latch_of, pin_op};
 use crate::tables::{cells, followers, holders, leaves, readers, sources};
 use crate::values::flag_at;
 use crate::wires::{Wire, operand, wires};
-use dft_behavior::{find_clocks, find_roots};
+use dft_behavior::find_roots;
 use dft_cells::{Kind, Role};
 use dft_netlist::{Design, InstanceId, NetDriver, NetId};
 use std::alloc::{AllocError, Global};
@@ -92,6 +92,7 @@ fn instance_flop(
     requires live { number.0 < length traced.design.now.instances }
     ensures { IfOk result (IsFlopOf traced.entry.design.now (ports_by traced.entry.flags.now) number.0) }
 {
+    traced.design.soundness();
     let wires = wires_at(alloc, traced.design, number)?;
     let part = Part {
         number,
@@ -157,12 +158,10 @@ pub fn compile(alloc: Global, design: &Design, flags: &[bool]) -> Result<Circuit
 {
     let order = Vec::from_slice(alloc, design.order())?;
     let roots = find_roots(alloc, design)?;
-    let clocks = find_clocks(alloc, design)?;
     let traced = Traced {
         design,
         flags,
         roots: &roots,
-        clocks: &clocks,
     };
     let ops = net_ops(alloc, traced)?;
     let flops = flops(alloc, traced)?;

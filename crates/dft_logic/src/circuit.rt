@@ -137,11 +137,11 @@ pub struct ScanPins {
     pub input: Operand,
 }
 
-/// A reset (value 0) or a set (value 1), by the net of the port that is 0 where it acts.
+/// A reset or a set, by the net of the port that is 0 where it acts.
 #[derive(Clone, Copy)]
-pub struct Acting {
-    pub port: NetId,
-    pub value: bool,
+pub enum Acting {
+    Clear(NetId),
+    Preset(NetId),
 }
 
 /// What stores a bit, a flip-flop or a lock-up: the net of its clock port, whether it takes its bit as that falls, and

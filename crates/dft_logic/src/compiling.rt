@@ -4,29 +4,28 @@ ghost use Rattle.std.specs.Prelude.{◌≡◌, ℕ, length, map, option_map, Non
 ghost use Rattle.dft_cells.specs.declared.kind.Role.TheVariants as role;
 ghost use Rattle.dft_cells.specs.FlipFlops.{is_flip_flop as takes_clock};
 ghost use Rattle.dft_behavior.specs.ClockRoots as clocks;
-ghost use Rattle.dft_behavior.specs.ClockSteps.{shown_clock};
+ghost use Rattle.dft_behavior.specs.Roots.{shown_clock};
 ghost use Rattle.dft_behavior.specs.Logic as logics;
 ghost use Rattle.dft_behavior.specs.Logic.{is_lockup};
 ghost use Rattle.dft_behavior.specs.Roots.{shown_root};
 ghost use Rattle.dft_behavior.specs.Traces as traces;
-ghost use Rattle.dft_logic.specs.Circuit.{source_at, cell_of, scan_at, force_at, latch_of as latched, meaning};
-ghost use Rattle.dft_logic.specs.Compiling.{ports_by, wired_at, found_in, IsTraced, modelled_in, lockup_in, stored_in, latch_in, meaning_in};
+ghost use Rattle.dft_logic.specs.Circuit.{source_at, alone, cell_of, scan_at, force_at, latch_of as latched, meaning};
+ghost use Rattle.dft_logic.specs.Compiling.{ports_by, wired_at, found_in, IsTraced, forcing_in, modelled_in, lockup_in, stored_in, latch_in, meaning_in};
 
 use crate::circuit::{Acting, FlipFlop, Latch, Op, Operand, ScanPins};
 use crate::values::flag_at;
 use crate::wires::{Wire, find, gate_inputs};
-use dft_behavior::{ClockRoot, Root, clock_in, root_in};
+use dft_behavior::{ClockRoot, NetRoot, Root, clock_in, root_in};
 use dft_cells::{Kind, Role};
 use dft_netlist::{Design, InstanceId, NetId, Signal};
 use std::alloc::{AllocError, Global};
 
-// A design whose clocks are flagged, with the roots and the clocks of its nets.
+// A design whose clocks are flagged, with the roots of its nets.
 #[derive(Clone, Copy)]
 pub(crate) struct Traced<'a> {
     pub design: &'a Design,
     pub flags: &'a [bool],
-    pub roots: &'a [Root],
-    pub clocks: &'a [Option<ClockRoot>],
+    pub roots: &'a [NetRoot],
 }
 
 // Where a walk back from an operand leads.
@@ -47,7 +46,7 @@ fn clock_of(traced: Traced<'_>, source: Operand) -> Option<ClockRoot>
     ensures { shown_clock result ≡ clocks.clock_root_of traced.entry.design.now (source_at source) }
 {
     match source {
-        Operand::Net(net) => clock_in(traced.clocks, Signal::Net(net)),
+        Operand::Net(net) => clock_in(traced.roots, Signal::Net(net)),
         Operand::Tied(_) | Operand::Loose(_, _) => None,
     }
 }
@@ -79,24 +78,28 @@ fn domain_of(traced: Traced<'_>, wires: &[Wire]) -> Option<ClockRoot>
 
 // What a reset or set is, by its root: `None` where it keeps its flip-flop from being modelled, `Some(None)` where it
 // never acts.
-fn force_of(flags: &[bool], value: bool, root: Root) -> Option<Option<Acting>>
-    ensures { option_map force_at result ≡ logics.force_of (ports_by flags.now) value (shown_root root) }
+fn force_of(flags: &[bool], is_preset: bool, root: Root) -> Option<Option<Acting>>
+    ensures { option_map force_at result ≡ option_map (alone is_preset) (logics.force_of (ports_by flags.now) (shown_root root)) }
 {
     match root {
         Root::Port(net) => if flag_at(flags, net.0) {
             None
         } else {
-            Some(Some(Acting { port: net, value }))
+            Some(Some(if is_preset {
+                Acting::Preset(net)
+            } else {
+                Acting::Clear(net)
+            }))
         },
         Root::Constant(bit) => if bit { Some(None) } else { None },
         Root::Other => None,
     }
 }
 
-// The reset or set of a flip-flop with these pins.
+// The reset of a flip-flop with these pins, or its set.
 fn forcing(traced: Traced<'_>, wires: &[Wire]) -> Option<Option<Acting>>
     requires { IsTraced traced }
-    ensures { option_map force_at result ≡ logics.forcing traced.entry.design.now (ports_by traced.entry.flags.now) (found_in role.Reset (map wired_at wires.now)) (found_in role.Preset (map wired_at wires.now)) }
+    ensures { option_map force_at result ≡ forcing_in traced.entry.design.now (ports_by traced.entry.flags.now) (found_in role.Reset (map wired_at wires.now)) (found_in role.Preset (map wired_at wires.now)) }
 {
     match find(wires, Role::Reset) {
         Some(reset) => force_of(traced.flags, false, root_of(traced, reset)),

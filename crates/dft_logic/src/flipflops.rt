@@ -1,8 +1,7 @@
 //! The next values of flip-flops.
 
 ghost use Rattle.std.specs.Prelude.{◌≡◌};
-ghost use Rattle.dft_cells.specs.FlipFlops.{tri_forced, tri_chosen};
-ghost use Rattle.dft_abstract.specs.Cycle.{tri_forced_by};
+ghost use Rattle.dft_cells.specs.FlipFlops.{tri_forced, tri_forced_by, tri_chosen};
 ghost use Rattle.dft_logic.specs.Values as spec;
 ghost use Rattle.dft_logic.specs.Circuit as circuits;
 ghost use Rattle.dft_logic.specs.Circuit.{taken_at, next_at};
@@ -39,7 +38,8 @@ fn forced_by(force: Option<Acting>, ports: &[Tri], bit: Tri) -> Tri
     ensures { result ≡ tri_forced_by (circuits.force_at force) (spec.value_at ports.now) bit }
 {
     match force {
-        Some(acting) => forced(acting.value, value_at(ports, acting.port.0), bit),
+        Some(Acting::Clear(port)) => forced(false, value_at(ports, port.0), bit),
+        Some(Acting::Preset(port)) => forced(true, value_at(ports, port.0), bit),
         None => bit,
     }
 }

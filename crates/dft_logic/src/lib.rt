@@ -14,5 +14,5 @@ pub use building::compile;
 pub use circuit::{Acting, Circuit, FlipFlop, Latch, Op, Operand, Operands, ScanPins};
 pub use flipflops::forced;
 pub use packed::Table;
-pub use tables::list_of;
+pub use tables::{force_net, list_of};
 pub use values::{differ, domain_at, flag_at, takes, value_at};

@@ -184,12 +184,12 @@ pub(crate) fn holders(
     Ok(packed)
 }
 
-// The net of a reset or set.
-fn force_net(force: Option<Acting>) -> Option<NetId>
+/// The net of a reset or set.
+pub fn force_net(force: Option<Acting>) -> Option<NetId>
     ensures { listed result ≡ force_nets (circuits.force_at force) }
 {
     match force {
-        Some(acting) => Some(acting.port),
+        Some(Acting::Clear(port)) | Some(Acting::Preset(port)) => Some(port),
         None => None,
     }
 }
@@ -197,7 +197,7 @@ fn force_net(force: Option<Acting>) -> Option<NetId>
 // The flip-flops that each reset or set acts on.
 pub(crate) fn followers(alloc: Global, flops: &[FlipFlop], nets: usize) -> Result<Table, AllocError>
     requires { length flops.now < 2 ^ 32 }
-    ensures { IfOk result (λ table. IsTable nets (length flops.now) (λ c. force_nets (cell_at (map cell_of flops.now) c).force) table) }
+    ensures { IfOk result (λ table. IsTable nets (length flops.now) (λ c. force_nets (cell_at (map cell_of flops.now) c).forces) table) }
 {
     let mut table = empty(alloc, nets)?;
     for (place, flop) in flops.iter().enumerate() {

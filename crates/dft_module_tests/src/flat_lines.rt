@@ -4,9 +4,9 @@ ghost use Rattle.std.specs.Prelude.{◌≤◌, length};
 
 use dft_base::Name;
 use dft_cells::Library;
-use dft_hier::flatten;
 use dft_netlist::{CellRef, Design, Instance, NetId, Signal};
-use dft_verilog::{MAX_TEXT, read_modules};
+use dft_netlist_reader::read;
+use dft_verilog::MAX_TEXT;
 use std::alloc::{AllocError, Global};
 
 /// Writes a name.
@@ -75,11 +75,8 @@ fn design_of(alloc: Global, design: &Design) -> Result<String, AllocError> {
 fn outcome(alloc: Global, text: &str, library: Library) -> Result<String, AllocError>
     requires { length text.now ≤ MAX_TEXT }
 {
-    match read_modules(alloc, text.as_bytes(), &library) {
-        Ok(modules) => match flatten(alloc, modules, library) {
-            Ok(design) => design_of(alloc, &design),
-            Err(_) => String::from_str(alloc, "refused"),
-        },
+    match read(alloc, text.as_bytes(), library) {
+        Ok(design) => design_of(alloc, &design),
         Err(_) => String::from_str(alloc, "refused"),
     }
 }

@@ -7,7 +7,7 @@ use dft_base::Dir;
 use dft_cells::Library;
 use dft_modules::{Connection, Item, Module, SubInstance};
 use dft_netlist::{NetId, Port, Signal};
-use dft_verilog::{MAX_TEXT, read_modules};
+use dft_verilog::{MAX_TEXT, TextSaid, read_text};
 use std::alloc::{AllocError, Global};
 
 // Bits, each behind a mark.
@@ -105,9 +105,9 @@ fn modules_of(alloc: Global, modules: &[Module]) -> Result<String, AllocError> {
 fn outcome(alloc: Global, text: &[u8], library: &Library) -> Result<String, AllocError>
     requires { length text.now ≤ MAX_TEXT }
 {
-    match read_modules(alloc, text, library) {
-        Ok(modules) => modules_of(alloc, &modules),
-        Err(_) => String::from_str(alloc, "refused"),
+    match read_text(alloc, text, library).ok() {
+        Some(TextSaid::Modules(modules)) => modules_of(alloc, &modules),
+        _ => String::from_str(alloc, "refused, or one module alone"),
     }
 }
 

@@ -3,7 +3,7 @@
 use crate::TWO;
 use crate::read_lines::read_line;
 use dft_cells::Library;
-use dft_verilog::{MAX_TEXT, read_modules};
+use dft_verilog::{MAX_TEXT, TextSaid, read_text};
 use std::alloc::{AllocError, Global};
 use std::test::Fail;
 
@@ -35,14 +35,14 @@ fn modules_are_told(rt: HostRuntime) -> Result<(), Fail> {
     Ok(())
 }
 
-// How many modules a text has, and how many ports and items they have, if it is accepted.
+// How many modules a text has, and how many ports and items they have, if it is accepted and says more than one module alone.
 fn counts(alloc: Global, text: &[u8]) -> Result<Option<(usize, usize, usize)>, AllocError> {
     if text.len() > MAX_TEXT {
         return Ok(None);
     }
     let library = Library::standard(alloc)?;
-    match read_modules(alloc, text, &library).ok() {
-        Some(modules) => {
+    match read_text(alloc, text, &library).ok() {
+        Some(TextSaid::Modules(modules)) => {
             let mut ports = 0usize;
             let mut items = 0usize;
             for module in &modules {
@@ -51,8 +51,17 @@ fn counts(alloc: Global, text: &[u8]) -> Result<Option<(usize, usize, usize)>, A
             }
             Ok(Some((modules.len(), ports, items)))
         }
-        None => Ok(None),
+        _ => Ok(None),
     }
+}
+
+// Whether a text is accepted.
+fn is_read(alloc: Global, text: &[u8]) -> Result<bool, AllocError> {
+    if text.len() > MAX_TEXT {
+        return Ok(false);
+    }
+    let library = Library::standard(alloc)?;
+    Ok(read_text(alloc, text, &library).is_ok())
 }
 
 // The front of a text ends with a module, or is refused.
@@ -60,9 +69,9 @@ fn counts(alloc: Global, text: &[u8]) -> Result<Option<(usize, usize, usize)>, A
 fn a_text_ends_behind_a_module(rt: HostRuntime) -> Result<(), Fail> {
     let text = TWO.as_bytes();
     for len in 0..text.len() {
-        let read = counts(rt.alloc(), &text[..len])?;
+        let read = is_read(rt.alloc(), &text[..len])?;
         let ends = len == 94 || len == 95;
-        assert!(rt; read.is_some() == ends, "{len} bytes");
+        assert!(rt; read == ends, "{len} bytes");
     }
     Ok(())
 }

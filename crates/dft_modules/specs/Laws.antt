@@ -19,10 +19,3 @@ AreNew library before (m ∷ ms) = (find_cell library m.name ≡ None) × All (�
 -- what a text says is sound, over any library
 abbrev pub SaidAreModules : Type 0
 SaidAreModules = (library : List Cell) (text : Text) (ms : List Module) → modules_of library text ≡ Ok ms → AreModules library ms × AreNew library [] ms
-
--- a text of several modules is never refused for a cell that the library has not, or for a second module
-abbrev pub NeverForCells : Type 0
-NeverForCells = (library : List Cell) (text : Text) (word : Text) (left : ℕ) → modules_of library text ≡ Err (fault.Module (record { cause = cause.NoCell word; left = left })) → ⊥
-
-abbrev pub NeverForModules : Type 0
-NeverForModules = (library : List Cell) (text : Text) (left : ℕ) → modules_of library text ≡ Err (fault.Module (record { cause = cause.SecondModule; left = left })) → ⊥

@@ -35,11 +35,9 @@ first_of : (library : List Cell) (text : Text) (error : ModulesError) → IsReas
 first_of library text (modules.Module (verilog.V1 place)) reason h = h
 first_of library text (modules.Module (verilog.V2 place)) reason h = h
 first_of library text (modules.Module (verilog.V3 place word)) reason h = h
-first_of library text (modules.Module (verilog.V4 place word)) reason h = h
 first_of library text (modules.Module (verilog.V5 place word)) reason h = h
 first_of library text (modules.Module (verilog.V6 place)) reason h = h
 first_of library text (modules.Module (verilog.V7 place)) reason h = h
-first_of library text (modules.Module (verilog.V8 place)) reason h = h
 first_of library text (modules.Module (verilog.V9 place)) reason h = h
 first_of library text (modules.Module (verilog.V10 place)) reason h = h
 first_of library text (modules.Module (verilog.V11 place word)) reason h = h

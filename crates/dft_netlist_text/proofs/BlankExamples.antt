@@ -62,7 +62,7 @@ blanks_4 = (refl, refl, refl, refl, refl, refl, refl, refl)
 pub blanks_5 :
     (outcome (codes "module m;\n") ≡ refused cause.Ended 2 1)
     × (outcome (codes "module m;" ++ ((13 ∷ []) ++ (codes "\n/* \n" ++ ((128 ∷ []))))) ≡ refused cause.Ended 3 2)
-    × (outcome (codes "module m; /* \n" ++ ((128 ∷ []) ++ (codes "\n */ (* \n *) x"))) ≡ refused (cause.NoCell (codes "x")) 4 5)
+    × (outcome (codes "module m; /* \n" ++ ((128 ∷ []) ++ (codes "\n */ (* \n *) x"))) ≡ refused cause.Token 4 5)
     × (outcome (codes "/* " ++ ((128 ∷ []) ++ ((129 ∷ []) ++ (codes " */ x")))) ≡ refused cause.Token 1 10)
     × (outcome (codes "module m; \\" ++ ((1 ∷ []))) ≡ refused cause.Byte 1 12)
     × (outcome (codes "module m (a); input [ 3 (* x *) : /* y */ 0 ] a; endmodule") ≡ None)

@@ -39,11 +39,11 @@ pub cells_3 :
     (outcome (codes "module m (a); input a; INV u (.\\A (a), .\\Y (n)); endmodule") ≡ None)
     × (outcome (codes "module m (a); input a; INV u (.\\A (a), .A(a)); endmodule") ≡ refused (cause.JoinedTwice (codes "A")) 1 41)
     × (outcome (codes "module m (a); input a; \\INV u (.A(a)); endmodule") ≡ None)
-    × (outcome (codes "module m (a); input a; \\and u (.A(a)); endmodule") ≡ refused (cause.NoCell (codes "and")) 1 24)
-    × (outcome (codes "module m (a); input a; foo = a; endmodule") ≡ refused (cause.NoCell (codes "foo")) 1 24)
-    × (outcome (codes "module m (a); input a; foo") ≡ refused (cause.NoCell (codes "foo")) 1 24)
-    × (outcome (codes "module m (a); input a; foo" ++ ((1 ∷ []))) ≡ refused (cause.NoCell (codes "foo")) 1 24)
-    × (outcome (codes "module m (a); input a; inv u (.A(a)); endmodule") ≡ refused (cause.NoCell (codes "inv")) 1 24)
+    × (outcome (codes "module m (a); input a; \\and u (.A(a)); endmodule") ≡ refused cause.Token 1 24)
+    × (outcome (codes "module m (a); input a; foo = a; endmodule") ≡ refused cause.Token 1 24)
+    × (outcome (codes "module m (a); input a; foo") ≡ refused cause.Token 1 24)
+    × (outcome (codes "module m (a); input a; foo" ++ ((1 ∷ []))) ≡ refused cause.Token 1 24)
+    × (outcome (codes "module m (a); input a; inv u (.A(a)); endmodule") ≡ refused cause.Token 1 24)
 unfolding comment_rest attribute_rest blank_len begins_blank to_blank word_kind mark_kind escaped quote directive lexeme kind_of bytes left next same_kind sees refusal expect after number rest_of_range range range_if_any digits constant followed rest_of_select selection named_operand constant_operand operand opening closing concatenations_from expression declared_name declared_names_from declared_names declaration port_item wire_item right_side net_assignment net_assignments_from net_assignments assign_item terminal input_terminals_from input_terminals terminals named_gate unnamed_gate one_gate gates_from gates gate_item connected_pin pin_signal pin_content named_connection named_connections_from named_connections connections instance instances_from instances cell_item item items_from items announced_name announced_names_from announced_names declared_port port_declaration_of port_declaration declared_ports_from declared_ports header_names header heading module_end end_of_text module_text module_of place_after next_place words.reserved_words fmt.digits
 cells_3 = (refl, refl, refl, refl, refl, refl, refl, refl)
 

@@ -66,7 +66,7 @@ pub worked_5 :
     × (outcome (codes "module m; wire [000001:0] a;") ≡ refused cause.TooLarge 1 17)
     × (outcome (codes "module m (a); inout a; endmodule") ≡ refused cause.Inout 1 15)
     × (outcome (codes "module m; endmodule inout") ≡ refused cause.Inout 1 21)
-    × (outcome (codes "module m; endmodule module") ≡ refused cause.SecondModule 1 21)
+    × (outcome (codes "module m; endmodule module") ≡ refused (cause.Unsupported (codes "module")) 1 21)
     × (outcome (codes "module m; endmodule reg") ≡ refused (cause.Unsupported (codes "reg")) 1 21)
 unfolding comment_rest attribute_rest blank_len begins_blank to_blank word_kind mark_kind escaped quote directive lexeme kind_of bytes left next same_kind sees refusal expect after number rest_of_range range range_if_any digits constant followed rest_of_select selection named_operand constant_operand operand opening closing concatenations_from expression declared_name declared_names_from declared_names declaration port_item wire_item right_side net_assignment net_assignments_from net_assignments assign_item terminal input_terminals_from input_terminals terminals named_gate unnamed_gate one_gate gates_from gates gate_item connected_pin pin_signal pin_content named_connection named_connections_from named_connections connections instance instances_from instances cell_item item items_from items announced_name announced_names_from announced_names declared_port port_declaration_of port_declaration declared_ports_from declared_ports header_names header heading module_end end_of_text module_text module_of place_after next_place words.reserved_words fmt.digits
 worked_5 = (refl, refl, refl, refl, refl, refl, refl, refl)
@@ -75,7 +75,7 @@ pub worked_6 :
     (outcome (codes "module m; endmodule x") ≡ refused cause.Token 1 21)
     × (outcome (codes "module m; module n; endmodule") ≡ refused (cause.Unsupported (codes "module")) 1 11)
     × (outcome (codes "module m; reg a; endmodule") ≡ refused (cause.Unsupported (codes "reg")) 1 11)
-    × (outcome (codes "module m (a); input a; FOO u (.A(a)); endmodule") ≡ refused (cause.NoCell (codes "FOO")) 1 24)
+    × (outcome (codes "module m (a); input a; FOO u (.A(a)); endmodule") ≡ refused cause.Token 1 24)
     × (outcome (codes "module m (a); input a; INV u (.B(a)); endmodule") ≡ refused (cause.NoPin (codes "B")) 1 32)
     × (outcome (codes "module m (a); input a; INV u (.A(a), .A(a), .Y(n)); endmodule") ≡ refused (cause.JoinedTwice (codes "A")) 1 39)
     × (outcome (codes "module m (a); input a; INV u (.A(), .A(a), .Y(n)); endmodule") ≡ refused (cause.JoinedTwice (codes "A")) 1 38)
@@ -175,6 +175,6 @@ pub worked_14 :
     × (outcome (codes "module m (a); input a; assign n = a b; endmodule") ≡ refused cause.Token 1 37)
     × (outcome (codes "(* keep = \"*)\" *) module m (a); (* x *) input a; endmodule") ≡ None)
     × (outcome (codes "module m (a); input a; INV u (.A(a) /* * / */, .Y(n)); // c\nendmodule") ≡ None)
-    × (outcome (codes "module m (a)\n; input a;\n  zz") ≡ refused (cause.NoCell (codes "zz")) 3 3)
+    × (outcome (codes "module m (a)\n; input a;\n  zz") ≡ refused cause.Token 3 3)
 unfolding comment_rest attribute_rest blank_len begins_blank to_blank word_kind mark_kind escaped quote directive lexeme kind_of bytes left next same_kind sees refusal expect after number rest_of_range range range_if_any digits constant followed rest_of_select selection named_operand constant_operand operand opening closing concatenations_from expression declared_name declared_names_from declared_names declaration port_item wire_item right_side net_assignment net_assignments_from net_assignments assign_item terminal input_terminals_from input_terminals terminals named_gate unnamed_gate one_gate gates_from gates gate_item connected_pin pin_signal pin_content named_connection named_connections_from named_connections connections instance instances_from instances cell_item item items_from items announced_name announced_names_from announced_names declared_port port_declaration_of port_declaration declared_ports_from declared_ports header_names header heading module_end end_of_text module_text module_of place_after next_place words.reserved_words fmt.digits
 worked_14 = (refl, refl, refl, refl, refl, refl, refl, refl)

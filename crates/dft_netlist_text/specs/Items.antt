@@ -322,13 +322,13 @@ instances_of id None d = refuse
 instances_of id (Some cell) d = instances id cell d
 
 -- the cell of this name, which the library must have
-abbrev pub instances_named : ℕ → Text → Option CellId → Draft → Rule Draft
-instances_named place word None d = λ ts. Err (fault (cause.NoCell word) place)
-instances_named place word (Some id) d = instances_of id (slice_get d.library id.0) d
+abbrev pub instances_named : ℕ → Option CellId → Draft → Rule Draft
+instances_named place None d = λ ts. Err (fault cause.Token place)
+instances_named place (Some id) d = instances_of id (slice_get d.library id.0) d
 
 -- the name of a cell and its instances
 unfoldable pub cell_item : Draft → Rule Draft
-cell_item d = λ ts. (expect kind.Name >>= (λ word. instances_named (left ts) word (find_cell d.library word) d)) ts
+cell_item d = λ ts. (expect kind.Name >>= (λ word. instances_named (left ts) (find_cell d.library word) d)) ts
 
 -- ---- items
 

@@ -123,11 +123,9 @@ all_declared place d (Some word) = λ ts. Err (fault (cause.Undeclared word) pla
 unfoldable pub module_end : Draft → Rule Draft
 module_end d = λ ts. (expect kind.Endmodule >> all_declared (left ts) d (first_undeclared d.ports)) ts
 
--- no token comes behind the module; a second module is not taken
+-- no token comes behind the module
 unfoldable pub end_of_text : Draft → Rule Draft
-end_of_text d = λ ts.
-    if sees kind.End ts then Ok (d, ts)
-    else (if sees kind.Module ts then Err (fault cause.SecondModule (left ts)) else refuse ts)
+end_of_text d = λ ts. if sees kind.End ts then Ok (d, ts) else refuse ts
 
 -- the whole text: a heading, items, and the end
 unfoldable pub module_text : List Cell → Rule Draft

@@ -63,16 +63,12 @@ pub enum Cause {
     Token,
     /// V3: a word or directive that the profile leaves out.
     Unsupported(Name),
-    /// V4: a cell that the library has not.
-    NoCell(Name),
     /// V5: a pin that the cell has not.
     NoPin(Name),
     /// V6: widths, numbers of terminals, bits or sizes that do not fit.
     Misfit,
     /// V7: `inout`.
     Inout,
-    /// V8: a second module.
-    SecondModule,
     /// V9: the text ends too early.
     Ended,
     /// V10: a number that is too large.

@@ -22,10 +22,12 @@ use Rattle.dft_netlist.specs.declared.instance.Instance.{Instance}
 use Rattle.dft_netlist.specs.Netlist.{Netlist}
 use Rattle.dft_netlist.specs.NetDrivers.{IsSingle}
 use Rattle.dft_netlist.specs.Drivers.{Shape, Net, Connection, Input, Gate, Flop, Lockup, connections_from, pins_at, kind_of, driver, shape_of, shape_of_cell}
-use Rattle.dft_behavior.specs.ClockRoots.{ClockRoot, port_root, inverse_root, clock_root_of, clock_within, clock_of_driver}
+use Rattle.dft_behavior.specs.ClockRoots.{ClockRoot, port_root, clock_of, clock_root_of}
+use Rattle.dft_behavior.specs.NetRoots.{inverse_root, root_of_driver, root_within}
 use Rattle.dft_behavior.specs.Logic as logic
 use Rattle.dft_netlist.specs.Connections.{pin_of}
-use Rattle.dft_behavior.specs.Logic.{Ports, domain_of, domain_at, modelled, modelled_of, flip_flop, flop_meaning, lockup_meaning, logic_of, meaning_of, or_loose}
+use Rattle.dft_cells.specs.FlipFlops.{no_forces}
+use Rattle.dft_behavior.specs.Logic.{Ports, plain, domain_of, domain_at, modelled, modelled_of, flip_flop, flop_meaning, lockup_meaning, logic_of, meaning_of, or_loose}
 use Rattle.dft_behavior.proofs.StoredLemmas.{flop_cell}
 use Rattle.dft_parts.specs.Cells.{is_dff, is_lockup, first_from, numbered_cell, first_cell, pin_between, pins_between}
 use Rattle.dft_parts.specs.Growth.{AreKept, Stands}
@@ -98,16 +100,16 @@ lockup_shape library well =
     ap (λ (o : Option Cell). shape_of_cell o) f.at ∙ (λ i. record { kind = k i; roles = e i })
 
 clock_root : (n : Netlist) (clock : ℕ) → driver n clock ≡ Input → clock_root_of n (Net clock) ≡ Some (port_root clock)
-clock_root n clock at = ap (clock_of_driver (clock_within n (length n.nets)) clock) at
+clock_root n clock at = ap (λ d. clock_of (root_of_driver (root_within n (length n.nets)) clock d)) at
 
 pub port_shows : PortShowsItself
 port_shows n ports net is = record { root = clock_root n net is.input; clock = is.clock }
 
 inverse_walk : (n : Netlist) (port output m : ℕ) → length n.nets ≡ suc m → driver n port ≡ Input → driver n output ≡ Gate gate.Inv (Net port ∷ []) → clock_root_of n (Net output) ≡ Some (record { port = port; inverted = true })
 inverse_walk n port output m size at drives =
-    ap (clock_of_driver (clock_within n (length n.nets)) output) drives
-    ∙ ap (λ (k : ℕ). inverse_root (clock_within n k (Net port))) size
-    ∙ ap (λ d. inverse_root (clock_of_driver (clock_within n m) port d)) at
+    ap (λ d. clock_of (root_of_driver (root_within n (length n.nets)) output d)) drives
+    ∙ ap (λ (k : ℕ). clock_of (inverse_root (root_within n k (Net port)))) size
+    ∙ ap (λ d. clock_of (inverse_root (root_of_driver (root_within n m) port d))) at
 
 pub inverse_stands : InverseStands
 inverse_stands n ports i port output single live is h = record {
@@ -148,7 +150,7 @@ abbrev cell_by : Netlist → Ports → (i : ℕ) → Option Instance → Option 
 cell_by n ports i o = if is_flip_flop (kind_of n.library o) then modelled_of n ports i (pins_at n.library o) else None
 
 abbrev plain_by : (input : ℕ) → Option ClockRoot → Option logic.Cell
-plain_by input domain = modelled domain (Some None) (Net input) None
+plain_by input domain = modelled domain (Some no_forces) (plain (Net input))
 
 -- an instance of a shape with these roles more than a clock, an input and an output is a plain flip-flop
 abbrev IsPlainShape : Netlist → Ports → (i : ℕ) → (clock input output : NetId) → (more : List Role) → Type 0

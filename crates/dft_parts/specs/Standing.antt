@@ -9,7 +9,8 @@ use Rattle.dft_netlist.specs.declared.instance.CellRef.TheVariants.{Library}
 use Rattle.dft_netlist.specs.declared.instance.CellRef.TheVariants as cell_ref
 use Rattle.dft_behavior.specs.ClockRoots.{clock_root_of}
 use Rattle.dft_netlist.specs.Drivers.{Source, Net, Input, driver}
-use Rattle.dft_behavior.specs.Logic.{Logic, Ports, Cell, Gate, Flop, Lockup, logic_of}
+use Rattle.dft_cells.specs.FlipFlops.{no_forces}
+use Rattle.dft_behavior.specs.Logic.{Logic, Ports, Cell, Gate, Flop, Lockup, plain, logic_of}
 use Rattle.dft_netlist.specs.Netlist.{Netlist}
 use Rattle.dft_netlist.specs.NetDrivers.{IsSingle}
 use Rattle.dft_netlist.specs.Sound.{is_primitive}
@@ -32,7 +33,7 @@ pub record IsClockedBy (n : Netlist) (ports : Ports) (net port : ℕ) (inverted 
 
 -- a modelled flip-flop without scan and reset: its domain, and the net that it takes
 abbrev pub plain_cell : (clock input : ℕ) → Cell
-plain_cell clock input = record { domain = clock; falling = false; input = Net input; scan = None; force = None }
+plain_cell clock input = record { domain = clock; falling = false; takes = plain (Net input); forces = no_forces }
 
 -- a flip-flop shows its bit at one net, and takes the bit of another
 pub record IsFlop (l : Logic) (clock flop output input : ℕ) : Type 0 where

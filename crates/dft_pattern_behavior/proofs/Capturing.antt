@@ -11,7 +11,8 @@ use Rattle.dft_base.specs.declared.tri.Tri.{Tri}
 use Rattle.dft_base.specs.declared.tri.Tri.TheVariants.{One, Unknown}
 use Rattle.dft_base.specs.Tri.{known, AboveTri}
 use Rattle.dft_cells.specs.declared.kind.Role.TheVariants as role
-use Rattle.dft_cells.specs.FlipFlops.{is_flip_flop, tri_forced}
+use Rattle.dft_cells.specs.FlipFlops.{is_flip_flop, Forces, IsForceOf, tri_forced_by}
+use Rattle.dft_cells.proofs.TakesLemmas.{left_same, left_rests}
 use Rattle.dft_cells.proofs.TriLemmas.{forced_one}
 use Rattle.dft_cells.proofs.Completions.{above_self}
 use Rattle.dft_netlist.specs.declared.ids.NetId.{NetId}
@@ -20,7 +21,7 @@ use Rattle.dft_netlist.specs.declared.port.Port as design_port
 use Rattle.dft_netlist.specs.Connections.{is_input, pin_of}
 use Rattle.dft_netlist.specs.Drivers.{Source, Driver, driver, kind_at, pins_of}
 use Rattle.dft_netlist.specs.Drivers as drivers
-use Rattle.dft_behavior.specs.Logic.{Logic, Ports, Meaning, Input, Clock, Gate, Joined, Flop, Lockup, Free, Cell, Force, Scan, cell_or_none, domain_at, flip_flop, flop_meaning, force_of, forcing, lockup_meaning, meaning_of, modelled, modelled_of, or_loose, scan_of}
+use Rattle.dft_behavior.specs.Logic.{Logic, Ports, Meaning, Input, Clock, Gate, Joined, Flop, Lockup, Free, Cell, cell_or_none, domain_at, flip_flop, flop_meaning, force_of, forcing, lockup_meaning, meaning_of, modelled, modelled_of, or_loose, scan_of}
 use Rattle.dft_netlist.specs.Netlist.{Netlist}
 use Rattle.dft_behavior.specs.Runs.{Vector}
 use Rattle.dft_behavior.specs.Settled.{IsTriSettled, inverse, value_given, value_from}
@@ -29,7 +30,7 @@ use Rattle.dft_behavior.specs.Traces.{Root, Port, Constant, Other, root_of}
 use Rattle.dft_behavior.specs.ClockRoots.{ClockRoot}
 use Rattle.dft_netlist.proofs.LiveDriven.{AreBefore, before_front, before_back}
 use Rattle.dft_behavior.proofs.StoredLemmas.{stored_force}
-use Rattle.dft_abstract.specs.Cycle.{tri_forced_by, rise_of, strobe_sources, AreHalves, Round, IsRound, after_round}
+use Rattle.dft_abstract.specs.Cycle.{rise_of, strobe_sources, AreHalves, Round, IsRound, after_round}
 use Rattle.dft_abstract.specs.Laws.{next_from}
 use Rattle.dft_abstract.proofs.Halves.{closed_views, least_closed}
 use Rattle.dft_config.specs.Config.{Config}
@@ -48,7 +49,8 @@ use Rattle.dft_edt.specs.Loads.{load_sum}
 use Rattle.dft_edt.specs.Unloads.{AreMasked}
 use Rattle.dft_edt.specs.Vectors.{Clears, IsClearing}
 use Rattle.dft_cubes.specs.Domains.{later_of}
-use Rattle.dft_expect.specs.Captures.{AllSettled, AreSettled, Settled, after_edges, bit_of_port, bits_out, captured_domains, is_chained, last_state, next_state, output_bits, outputs_before, port_value, vector_of}
+use Rattle.dft_expect.specs.Captures.{AllSettled, AreSettled, Settled, after_edges, bit_of_port, bits_out, captured_domains, is_chained, last_state, next_state, output_bits, outputs_before, port_value, vector_of, original as original_of}
+use Rattle.dft_expect.proofs.GivenLemmas.{flop_by}
 use Rattle.dft_expect.specs.Loaded.{loaded_bit, loaded_values}
 use Rattle.dft_scan_frame.specs.ConfigPorts.{config_ports}
 use Rattle.dft_scan_frame.specs.Statements.{IsReady}
@@ -108,9 +110,8 @@ IsData n ports net = (is_input (driver n net) ≡ true) × (ports.is_clock net �
 abbrev pub SameAt : Netlist → Ports → (x y : Vector) → Type 0
 SameAt n ports x y = (net : ℕ) → IsData n ports net → x.ports net ≡ y.ports net
 
-pub forced_same : (n : Netlist) (ports : Ports) (x y : Vector) (force : Option Force) (t : Tri) → SameAt n ports x y → ((f : Force) → force ≡ Some f → IsData n ports f.port) → tri_forced_by force x.ports t ≡ tri_forced_by force y.ports t
-forced_same n ports x y None t same input = refl
-forced_same n ports x y (Some f) t same input = ap (λ p. tri_forced_by (Some f) (λ _. p) t) (same f.port (input f refl))
+pub forced_same : (n : Netlist) (ports : Ports) (x y : Vector) (forces : Forces ℕ) (t : Tri) → SameAt n ports x y → ((port : ℕ) → IsForceOf forces port → IsData n ports port) → tri_forced_by forces x.ports t ≡ tri_forced_by forces y.ports t
+forced_same n ports x y forces t same input = left_same forces x.ports y.ports t (λ port has. same port (input port has))
 
 -- the sources of a strobe give the same value
 pub given_same : (n : Netlist) (ports : Ports) (l : Logic) (x y : Vector) (old values : ℕ → Tri) (net : ℕ) (m : Meaning) → (m ≡ Input → IsData n ports net) → SameAt n ports x y → ((c : ℕ) → (rise_of l x old).old c ≡ (rise_of l y old).old c) →
@@ -126,37 +127,10 @@ given_same n ports l x y old values net Free input same flops = refl
 
 -- ---- resets
 
-pub forced_reset : (p : Ports) (value : Bool) (root : Root) (f : Force) → force_of p value root ≡ Some (Some f) → p.is_reset f.port ≡ true
-forced_reset p value (Port net) f e = by_reset (p.is_reset net) refl e
-  where
-    by_reset : (b : Bool) → p.is_reset net ≡ b → (if b then Some (Some (record { port = net; value = value })) else None) ≡ Some (Some f) → p.is_reset f.port ≡ true
-    by_reset true is h = ap (λ (g : Force). p.is_reset g.port) (sym (same_Some (record { port = net; value = value }) f (same_Some (Some (record { port = net; value = value })) (Some f) h))) ∙ is
-    by_reset false is h = absurd (none-some (Some f) h)
-forced_reset p value (Constant true) f e = absurd (none-some f (same_Some None (Some f) e))
-forced_reset p value (Constant false) f e = absurd (none-some (Some f) e)
-forced_reset p value Other f e = absurd (none-some (Some f) e)
-
-pub forcing_reset : (n : Netlist) (p : Ports) (reset preset : Option Source) (f : Force) → forcing n p reset preset ≡ Some (Some f) → p.is_reset f.port ≡ true
-forcing_reset n p (Some reset) preset f e = forced_reset p false (root_of n reset) f e
-forcing_reset n p None (Some preset) f e = forced_reset p true (root_of n preset) f e
-forcing_reset n p None None f e = absurd (none-some f (same_Some None (Some f) e))
-
-pub modelled_force : (domain : Option ClockRoot) (force : Option (Option Force)) (input : Source) (scan : Option Scan) (i : ℕ) (f : Force) → (cell_or_none i (modelled domain force input scan)).force ≡ Some f → force ≡ Some (Some f)
-modelled_force None force input scan i f e = absurd (none-some f e)
-modelled_force (Some d) None input scan i f e = absurd (none-some f e)
-modelled_force (Some d) (Some g) input scan i f e = ap Some e
-
-pub flop_reset : (n : Netlist) (p : Ports) (i : ℕ) (b : Bool) (f : Force) → (cell_or_none i (if b then modelled_of n p i (pins_of n i) else None)).force ≡ Some f → p.is_reset f.port ≡ true
-flop_reset n p i true f e =
-    forcing_reset n p (pin_of role.Reset i (pins_of n i)) (pin_of role.Preset i (pins_of n i)) f
-    (modelled_force (domain_at n p (pin_of role.Clock i (pins_of n i))) (forcing n p (pin_of role.Reset i (pins_of n i)) (pin_of role.Preset i (pins_of n i))) (or_loose i (pin_of role.Din i (pins_of n i)))
-    (scan_of (pin_of role.ScanEnable i (pins_of n i)) (pin_of role.ScanIn i (pins_of n i))) i f e)
-flop_reset n p i false f e = absurd (none-some f e)
-
--- where the port of a reset or set is 1 it does not act
-not_forced : (force : Option Force) (x : ℕ → Tri) (t : Tri) → ((f : Force) → force ≡ Some f → x f.port ≡ One) → tri_forced_by force x t ≡ t
-not_forced None x t one = refl
-not_forced (Some f) x t one = ap (λ (p : Tri). tri_forced f.value p t) (one f refl) ∙ forced_one f.value t
+-- the ports of resets and sets are resets
+pub flop_reset : (n : Netlist) (config : Config) (cell port : ℕ) → IsForceOf ((original_of n config).cell cell).forces port → (config_ports n config).is_reset port ≡ true
+flop_reset n config cell port has =
+    flop_by n (config_ports n config) cell (is_flip_flop (kind_at n cell)) port (subst (λ (f : Forces ℕ). IsForceOf f port) (stored_force n (config_ports n config) cell) has)
 
 -- ---- cells
 
@@ -229,17 +203,17 @@ module _ (n : Netlist) (config : Config) (ports : Ports) (p : Pattern) (domain :
   abbrev y : Vector
   y = record { ports = λ net. capture.ports (s.moved net); pulsed = cv.pulsed }
 
-  resets : (cell : ℕ) (f : Force) → (original.cell cell).force ≡ Some f → (config_ports n config).is_reset f.port ≡ true
-  resets cell f e = flop_reset n (config_ports n config) cell (is_flip_flop (kind_at n cell)) f (sym (stored_force n (config_ports n config) cell) ∙ e)
+  resets : (cell port : ℕ) → IsForceOf (original.cell cell).forces port → (config_ports n config).is_reset port ≡ true
+  resets cell port has = flop_reset n config cell port has
 
-  force_input : (cell : ℕ) (f : Force) → (original.cell cell).force ≡ Some f → IsData n (config_ports n config) f.port
-  force_input cell f e = (named_input n f.port config.resets (resets cell f e), reset_rests n config f.port ready.range (resets cell f e))
+  force_input : (cell port : ℕ) → IsForceOf (original.cell cell).forces port → IsData n (config_ports n config) port
+  force_input cell port has = (named_input n port config.resets (resets cell port has), reset_rests n config port ready.range (resets cell port has))
 
   same : SameAt n (config_ports n config) y cv
   same net its_data = captures.ports net its_data.0 (pulsed_rests n config net domain its_data.1)
 
   flops_same : (state : ℕ → Tri) (cell : ℕ) → (rise_of original y state).old cell ≡ (rise_of original cv state).old cell
-  flops_same state cell = forced_same n (config_ports n config) y cv (original.cell cell).force (state cell) same (force_input cell)
+  flops_same state cell = forced_same n (config_ports n config) y cv (original.cell cell).forces (state cell) same (force_input cell)
 
   -- the state in which the clock has risen
   abbrev risen : ℕ → Tri
@@ -265,14 +239,14 @@ module _ (n : Netlist) (config : Config) (ports : Ports) (p : Pattern) (domain :
     off = captures.off;
   }
 
-  next_same : (values : ℕ → Tri) (cell : ℕ) → next_from original y values cell ≡ next_from original cv values cell
-  next_same values cell = forced_same n (config_ports n config) y cv (original.cell cell).force _ same (force_input cell)
+  next_same : (values : ℕ → Tri) (own : Tri) (cell : ℕ) → next_from original y values own cell ≡ next_from original cv values own cell
+  next_same values own cell = forced_same n (config_ports n config) y cv (original.cell cell).forces _ same (force_input cell)
 
-  one : (cell : ℕ) (f : Force) → (original.cell cell).force ≡ Some f → y.ports f.port ≡ One
-  one cell f e = same f.port (force_input cell f e) ∙ ap (λ b. port_value b (bit_of_port p.merged.ports f.port)) (resets cell f e)
+  one : (cell port : ℕ) → IsForceOf (original.cell cell).forces port → y.ports port ≡ One
+  one cell port has = same port (force_input cell port has) ∙ ap (λ b. port_value b (bit_of_port p.merged.ports port)) (resets cell port has)
 
-  idle : (cell : ℕ) (t : Tri) → tri_forced_by (original.cell cell).force y.ports t ≡ t
-  idle cell t = not_forced (original.cell cell).force y.ports t (one cell)
+  idle : (cell : ℕ) (t : Tri) → tri_forced_by (original.cell cell).forces y.ports t ≡ t
+  idle cell t = left_rests (original.cell cell).forces y.ports t (one cell)
 
   halves : AreHalves l capture old r.halves
   halves = closed_views l capture old r.halves (least_closed l capture old r.halves round.least)

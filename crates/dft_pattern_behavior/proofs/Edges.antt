@@ -11,7 +11,8 @@ use Rattle.dft_netlist.specs.declared.ids.InstanceId.{InstanceId}
 use Rattle.dft_behavior.specs.Logic.{Logic}
 use Rattle.dft_netlist.specs.Netlist.{Netlist}
 use Rattle.dft_behavior.specs.Runs.{Vector, takes}
-use Rattle.dft_abstract.specs.Cycle.{rise_of, tri_forced_by}
+use Rattle.dft_cells.specs.FlipFlops.{tri_forced_by}
+use Rattle.dft_abstract.specs.Cycle.{rise_of}
 use Rattle.dft_abstract.specs.Laws.{next_from}
 use Rattle.dft_config.specs.Config.{Config}
 use Rattle.dft_rules.specs.Rules.{is_net}
@@ -32,8 +33,8 @@ unchained_next l chains x s its cell is = stays_apart l chains x false s.second 
 
 -- a vector of the design in which flip-flops take what they take in the pattern's, and no reset or set acts
 module _ (n : Netlist) (config : Config) (chains : List (List InstanceId)) (merged : Merged) (domain : ℕ) (clock : NetId) (captures : capture_clock n config domain ≡ Some clock) (y : Vector)
-    (next : (values : ℕ → Tri) (cell : ℕ) → next_from (original n config) y values cell ≡ next_from (original n config) (vector_of n config merged domain) values cell)
-    (idle : (cell : ℕ) (t : Tri) → tri_forced_by ((original n config).cell cell).force y.ports t ≡ t) where
+    (next : (values : ℕ → Tri) (own : Tri) (cell : ℕ) → next_from (original n config) y values own cell ≡ next_from (original n config) (vector_of n config merged domain) values own cell)
+    (idle : (cell : ℕ) (t : Tri) → tri_forced_by ((original n config).cell cell).forces y.ports t ≡ t) where
   abbrev l : Logic
   l = original n config
 
@@ -44,7 +45,7 @@ module _ (n : Netlist) (config : Config) (chains : List (List InstanceId)) (merg
   pulsed cell = ap (is_net (l.cell cell).domain) captures ∙ eqb_turned clock.0 (l.cell cell).domain
 
   edges_same : (rising : Bool) (values old : ℕ → Tri) (cell : ℕ) → is_chained chains cell ≡ true → after_edges l chains x rising values old cell ≡ after_edge l y clock.0 rising values old cell
-  edges_same rising values old cell is = λ i. if is i && (pulsed cell i && takes rising (l.cell cell).falling) then sym (next values cell) i else old cell
+  edges_same rising values old cell is = λ i. if is i && (pulsed cell i && takes rising (l.cell cell).falling) then sym (next values (old cell) cell) i else old cell
 
   above_by : (values its : ℕ → Tri) (cell : ℕ) (b : Bool) → (is_chained chains cell ≡ false → its cell ≡ Unknown) → is_chained chains cell ≡ b → AboveTri (after_edges l chains x true values its cell) (after_edge l y clock.0 true values its cell)
   above_by values its cell true unknown is =
@@ -59,5 +60,5 @@ module _ (n : Netlist) (config : Config) (chains : List (List InstanceId)) (merg
   pub captured_same : (s : Settled) (its : ℕ → Tri) (cell : ℕ) → is_chained chains cell ≡ true → next_state l chains x its s cell ≡ after_edge l y clock.0 false s.second (after_edge l y clock.0 true s.first (rise_of l y its).old) cell
   captured_same s its cell is =
       edges_same false s.second (after_edges l chains x true s.first its) cell is
-      ∙ ap (λ (t : Tri). if ((l.cell cell).domain == clock.0) && takes false (l.cell cell).falling then next_from l y s.second cell else t)
-      (edges_same true s.first its cell is ∙ ap (λ (t : Tri). if ((l.cell cell).domain == clock.0) && takes true (l.cell cell).falling then next_from l y s.first cell else t) (sym (idle cell (its cell))))
+      ∙ ap (λ (t : Tri). if ((l.cell cell).domain == clock.0) && takes false (l.cell cell).falling then next_from l y s.second t cell else t)
+      (edges_same true s.first its cell is ∙ ap (λ (t : Tri). if ((l.cell cell).domain == clock.0) && takes true (l.cell cell).falling then next_from l y s.first t cell else t) (sym (idle cell (its cell))))

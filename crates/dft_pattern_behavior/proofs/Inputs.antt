@@ -7,12 +7,12 @@ use Rattle.dft_base.specs.Tri.{AboveTri}
 use Rattle.dft_cells.specs.FlipFlops.{is_flip_flop}
 use Rattle.dft_netlist.specs.Connections.{is_input}
 use Rattle.dft_netlist.specs.Drivers.{driver, kind_at}
-use Rattle.dft_behavior.specs.Logic.{Force}
+use Rattle.dft_cells.specs.FlipFlops.{IsForceOf, tri_forced_by}
 use Rattle.dft_netlist.specs.Netlist.{Netlist}
 use Rattle.dft_behavior.specs.Runs.{Vector}
 use Rattle.dft_behavior.specs.Settled.{IsTriSettled}
 use Rattle.dft_behavior.proofs.StoredLemmas.{stored_force}
-use Rattle.dft_abstract.specs.Cycle.{strobe_sources, tri_forced_by}
+use Rattle.dft_abstract.specs.Cycle.{strobe_sources}
 use Rattle.dft_abstract.specs.Laws.{next_from}
 use Rattle.dft_config.specs.Config.{Config}
 use Rattle.dft_config.specs.Range.{IsInRange}
@@ -55,15 +55,15 @@ data_vector n config merged domain = record {
 same_data : (n : Netlist) (config : Config) (merged : Merged) (domain : ℕ) → SameAt n (config_ports n config) (data_vector n config merged domain) (vector_of n config merged domain)
 same_data n config merged domain net own = data_same (is_input (driver n net)) ((config_ports n config).is_clock net) ((vector_of n config merged domain).ports net) own.0 own.1
 
-force_data : (n : Netlist) (config : Config) (cell : ℕ) (f : Force) → IsInRange config → ((original n config).cell cell).force ≡ Some f → IsData n (config_ports n config) f.port
-force_data n config cell f range e =
-    let reset : (config_ports n config).is_reset f.port ≡ true = flop_reset n (config_ports n config) cell (is_flip_flop (kind_at n cell)) f (sym (stored_force n (config_ports n config) cell) ∙ e) in
-    (named_input n f.port config.resets reset, reset_rests n config f.port range reset)
+force_data : (n : Netlist) (config : Config) (cell port : ℕ) → IsInRange config → IsForceOf ((original n config).cell cell).forces port → IsData n (config_ports n config) port
+force_data n config cell port range has =
+    let reset : (config_ports n config).is_reset port ≡ true = flop_reset n config cell port has in
+    (named_input n port config.resets reset, reset_rests n config port range reset)
 
 data_forced : (n : Netlist) (config : Config) (merged : Merged) (domain : ℕ) (cell : ℕ) (t : Tri) → IsInRange config →
-    tri_forced_by ((original n config).cell cell).force (data_vector n config merged domain).ports t ≡ tri_forced_by ((original n config).cell cell).force (vector_of n config merged domain).ports t
+    tri_forced_by ((original n config).cell cell).forces (data_vector n config merged domain).ports t ≡ tri_forced_by ((original n config).cell cell).forces (vector_of n config merged domain).ports t
 data_forced n config merged domain cell t range =
-    forced_same n (config_ports n config) (data_vector n config merged domain) (vector_of n config merged domain) ((original n config).cell cell).force t (same_data n config merged domain) (λ f e. force_data n config cell f range e)
+    forced_same n (config_ports n config) (data_vector n config merged domain) (vector_of n config merged domain) ((original n config).cell cell).forces t (same_data n config merged domain) (λ port has. force_data n config cell port range has)
 
 -- the same values are settled
 pub data_settled : (n : Netlist) (config : Config) (merged : Merged) (domain : ℕ) (its values : ℕ → Tri) → IsInRange config →
@@ -75,10 +75,10 @@ data_settled n config merged domain its values range settled net =
     (input_by n (config_ports n config) net (driver n net)) (same_data n config merged domain) (λ cell. data_forced n config merged domain cell (its cell) range))
 
 -- each flip-flop has the same next value
-pub data_next : (n : Netlist) (config : Config) (merged : Merged) (domain : ℕ) (values : ℕ → Tri) (cell : ℕ) → IsInRange config →
-    next_from (original n config) (data_vector n config merged domain) values cell ≡ next_from (original n config) (vector_of n config merged domain) values cell
-data_next n config merged domain values cell range = data_forced n config merged domain cell _ range
+pub data_next : (n : Netlist) (config : Config) (merged : Merged) (domain : ℕ) (values : ℕ → Tri) (own : Tri) (cell : ℕ) → IsInRange config →
+    next_from (original n config) (data_vector n config merged domain) values own cell ≡ next_from (original n config) (vector_of n config merged domain) values own cell
+data_next n config merged domain values own cell range = data_forced n config merged domain cell _ range
 
 -- no reset or set acts
-pub data_stays : (n : Netlist) (config : Config) (merged : Merged) (domain : ℕ) (cell : ℕ) (t : Tri) → IsInRange config → tri_forced_by ((original n config).cell cell).force (data_vector n config merged domain).ports t ≡ t
+pub data_stays : (n : Netlist) (config : Config) (merged : Merged) (domain : ℕ) (cell : ℕ) (t : Tri) → IsInRange config → tri_forced_by ((original n config).cell cell).forces (data_vector n config merged domain).ports t ≡ t
 data_stays n config merged domain cell t range = data_forced n config merged domain cell t range ∙ stays n config merged cell t

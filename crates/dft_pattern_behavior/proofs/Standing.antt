@@ -24,7 +24,8 @@ use Rattle.dft_behavior.specs.Settled.{IsTriSettled}
 use Rattle.dft_netlist.specs.Sound.{IsNetlist, bit_names_of, bits_of}
 use Rattle.dft_netlist.proofs.LiveLemmas.{length-bits}
 use Rattle.dft_behavior.proofs.Ranks.{order_is_rank}
-use Rattle.dft_abstract.specs.Cycle.{AreHalves, after_halves, strobe_sources, tri_forced_by}
+use Rattle.dft_cells.specs.FlipFlops.{tri_forced_by}
+use Rattle.dft_abstract.specs.Cycle.{AreHalves, after_halves, strobe_sources}
 use Rattle.dft_abstract.specs.Laws.{next_from}
 use Rattle.dft_config.specs.Config.{Config}
 use Rattle.dft_stitch.specs.Chains.{plan_of}
@@ -164,10 +165,10 @@ module _ (n : Netlist) (rank : ℕ → ℕ) (config : Config) (merged : Merged) 
   settled_over : IsTriSettled l (strobe_sources l y its s.first) s.first
   settled_over = data_settled n config merged domain its s.first can.range are.first
 
-  next : (values : ℕ → Tri) (cell : ℕ) → next_from l y values cell ≡ next_from l (vector_of n config merged domain) values cell
-  next values cell = data_next n config merged domain values cell can.range
+  next : (values : ℕ → Tri) (own : Tri) (cell : ℕ) → next_from l y values own cell ≡ next_from l (vector_of n config merged domain) values own cell
+  next values own cell = data_next n config merged domain values own cell can.range
 
-  idle : (cell : ℕ) (t : Tri) → tri_forced_by (l.cell cell).force y.ports t ≡ t
+  idle : (cell : ℕ) (t : Tri) → tri_forced_by (l.cell cell).forces y.ports t ≡ t
   idle cell t = data_stays n config merged domain cell t can.range
 
   abbrev risen : ℕ → Tri

@@ -8,9 +8,10 @@ use dft_cells::Library;
 use dft_config::Config;
 use dft_cubes::{Cube, read as read_cubes};
 use dft_netlist::Design;
+use dft_netlist_reader::read as read_netlist;
 use dft_stitch::Planned;
 use dft_test_configs::config_of;
-use dft_verilog::{MAX_TEXT, read as read_netlist};
+use dft_verilog::MAX_TEXT;
 use std::alloc::{AllocError, Global};
 
 // Longer texts of cubes are not read.

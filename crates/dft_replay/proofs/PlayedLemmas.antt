@@ -3,13 +3,14 @@ use Rattle.std.proofs.Common.{ℕ, Bool, List, ◌≡◌, Option, length, map, r
 use Rattle.std.specs.Prelude.{if◌then◌else◌}
 use Rattle.dft_base.specs.declared.tri.Tri.{Tri}
 use Rattle.dft_base.specs.declared.tri.Tri.TheVariants.{Zero}
+use Rattle.dft_cells.specs.FlipFlops.{tri_forced_by}
 use Rattle.dft_netlist.specs.declared.ids.NetId.{NetId}
 use Rattle.dft_behavior.specs.Logic.{Logic}
 use Rattle.dft_netlist.specs.Orders.{numbers_of}
 use Rattle.dft_behavior.specs.Runs.{Vector}
 use Rattle.dft_behavior.specs.Settled.{TriSources, value_from, is_wire, IsTriSettled}
 use Rattle.dft_behavior.proofs.Ranks.{order_is_rank}
-use Rattle.dft_abstract.specs.Cycle.{Pulse, tri_forced_by, after_pulse, IsLeast, rise_of, falls_after, strobe_sources, after_halves, Round, IsRound, after_round}
+use Rattle.dft_abstract.specs.Cycle.{Pulse, after_pulse, IsLeast, rise_of, falls_after, strobe_sources, after_halves, Round, IsRound, after_round}
 use Rattle.dft_takings.specs.Needs.{IsStrobe, strobe_from}
 use Rattle.dft_takings.proofs.ShownLemmas.{still_there}
 use Rattle.dft_cycle.specs.Machine.{Machine, value_at, logic, pulses, pulse_from, ports_of, IsPulsed}
@@ -48,7 +49,7 @@ looked_round start set after x pulsed shown stands ports ups settled pulse =
     let old : ℕ → Tri = value_at start.cells in
     let p : Pulse = rise_of l x old in
     let inputs : value_at set.inputs ≡ x.ports = λ i k. ports k i in
-    let cell : (c : ℕ) → value_at set.cells c ≡ p.old c = λ c. stands.cells c ∙ ap (λ (f : ℕ → Tri). tri_forced_by (l.cell c).force f (old c)) inputs in
+    let cell : (c : ℕ) → value_at set.cells c ≡ p.old c = λ c. stands.cells c ∙ ap (λ (f : ℕ → Tri). tri_forced_by (l.cell c).forces f (old c)) inputs in
     let wires : TriSources = strobe_from (value_at set.inputs) (value_at set.cells) shown in
     let from : wires ≡ strobe_sources l x old shown = λ i. record { ports = inputs i; clocks = λ e. Zero; flops = λ c. cell c i; lockups = λ c e high source. same_lockup high (value_at set.cells c) (p.old c) (value_from shown source) (cell c) i } in
     let S : TriSources → Type 0 = λ t. IsTriSettled l t shown in
@@ -66,9 +67,9 @@ looked_round start set after x pulsed shown stands ports ups settled pulse =
       strobe = refl;
       cells = cells;
       forced = λ c.
-          (let K : Logic → Type 0 = λ k. value_at after.cells c ≡ tri_forced_by (k.cell c).force (value_at after.inputs) (value_at after.cells c) in
-          let N : (ℕ → Tri) → Type 0 = λ f. value_at after.cells c ≡ tri_forced_by (l.cell c).force f (value_at after.cells c) in
-          let C : Tri → Type 0 = λ t. t ≡ tri_forced_by (l.cell c).force x.ports t in
+          (let K : Logic → Type 0 = λ k. value_at after.cells c ≡ tri_forced_by (k.cell c).forces (value_at after.inputs) (value_at after.cells c) in
+          let N : (ℕ → Tri) → Type 0 = λ f. value_at after.cells c ≡ tri_forced_by (l.cell c).forces f (value_at after.cells c) in
+          let C : Tri → Type 0 = λ t. t ≡ tri_forced_by (l.cell c).forces x.ports t in
           subst K (sym three) (subst N (sym kept) (subst C (sym (cells c)) (halves_forced l x old pulse.halves c))));
     }
 

@@ -16,7 +16,8 @@ use Rattle.dft_netlist.specs.Netlist.{Netlist}
 use Rattle.dft_netlist.specs.Drivers.{Source, Net, Gate, Free, Connection, driver, source_of, inputs_of, is_input, connections_of, nets_of}
 use Rattle.dft_netlist.specs.Orders.{Has}
 use Rattle.dft_netlist.specs.Sound.{IsNetlist}
-use Rattle.dft_behavior.specs.ClockRoots.{ClockRoot, ClockRooted, AtPort, ThroughGate, ThroughJoin, clock_root_of}
+use Rattle.dft_behavior.specs.ClockRoots.{ClockRoot, clock_root_of}
+use Rattle.dft_behavior.specs.NetRoots.{NetRoot, Rooted, AtPort, AtConstant, AtTie, ThroughGate, ThroughJoin}
 use Rattle.dft_behavior.proofs.ClockWalks.{clock_found}
 use Rattle.dft_netlist.proofs.GateDrivers.{IsGate, gate_drives, driven_live}
 use Rattle.dft_netlist.proofs.LiveLemmas.{le_or_lt}
@@ -99,14 +100,16 @@ clocks_pass n config e =
 -- ---- a net that shows one
 
 -- something drives it
-rooted_driven : (n : Netlist) (k : ℕ) {source : Source} {port : ℕ} {inverted : Bool} → ClockRooted n source port inverted → source ≡ Net k → driver n k ≡ Free → ⊥
+rooted_driven : (n : Netlist) (k : ℕ) {source : Source} {root : NetRoot} → Rooted n source root → source ≡ Net k → driver n k ≡ Free → ⊥
 rooted_driven n k (AtPort {net = net} is) e free = let at : net ≡ k = cc in let same = sym is ∙ ap (driver n) at ∙ free in cc
-rooted_driven n k (ThroughGate {net = net} is turn rest) e free = let at : net ≡ k = cc in let same = sym is ∙ ap (driver n) at ∙ free in cc
+rooted_driven n k AtConstant e free = cc
+rooted_driven n k (AtTie {net = net} is passes) e free = let at : net ≡ k = cc in let same = sym is ∙ ap (driver n) at ∙ free in cc
+rooted_driven n k (ThroughGate {net = net} is passes rest) e free = let at : net ≡ k = cc in let same = sym is ∙ ap (driver n) at ∙ free in cc
 rooted_driven n k (ThroughJoin {net = net} is rest) e free = let at : net ≡ k = cc in let same = sym is ∙ ap (driver n) at ∙ free in cc
 
 shown_driven : (n : Netlist) (config : Config) (k : ℕ) (o : Option ClockRoot) → clock_root_of n (Net k) ≡ o → is_some (place_of_clock n config.domains o) ≡ true → driver n k ≡ Free → ⊥
 shown_driven n config k None at shows free = absurd cc
-shown_driven n config k (Some clock) at shows free = rooted_driven n k (clock_found n (Net k) clock at) refl free
+shown_driven n config k (Some clock) at shows free = rooted_driven n k (clock_found n (Net k) clock at).rooted refl free
 
 -- the net shows the clock of a domain, or its inverse
 abbrev pub ShowsClock : Netlist → Config → (net : ℕ) → Type 0

@@ -8,17 +8,19 @@ use Rattle.std.proofs.lemmas.Map.Keys.{any_passes_from_place}
 use Rattle.dft_base.specs.Lexing.{Text}
 use Rattle.dft_base.proofs.OptionLemmas.{some_of}
 use Rattle.dft_cells.specs.declared.kind.Role.TheVariants as role
+use Rattle.dft_cells.specs.FlipFlops.{Takes, Forces}
+use Rattle.std.proofs.lemmas.Bool.{and_parts}
 use Rattle.dft_netlist.specs.Netlist.{Netlist}
 use Rattle.dft_netlist.specs.Connections.{input_net, pin_of}
 use Rattle.dft_netlist.specs.Drivers.{Source, kind_at, pins_of}
 use Rattle.dft_behavior.specs.Traces.{Root, Port, Constant, Other, root_of}
 use Rattle.dft_behavior.specs.ClockRoots.{ClockRoot, clock_root_of}
-use Rattle.dft_behavior.specs.Logic.{Ports, Force, Scan, or_loose, domain_at, force_of, forcing, scan_of, modelled, modelled_of, flip_flop}
+use Rattle.dft_behavior.specs.Logic.{Ports, domain_at, force_of, force_at, both_forces, forcing, takes_of, forces_of, modelled, modelled_of, flip_flop}
 use Rattle.dft_behavior.specs.Logic as logic
 use Rattle.dft_config.specs.Config.{Config}
 use Rattle.dft_rules.specs.ConfigPorts.{config_ports}
 use Rattle.dft_rules.specs.Laws.{ScannedAreClocked}
-use Rattle.dft_rules.specs.Rules.{is_net, place_of_port, place_of_root, place_of_clock, clock_of_source, clocked_by, is_held, are_held, are_held_at, scan_cell_of, is_kept, may_be_scanned, judged, judged_by}
+use Rattle.dft_rules.specs.Rules.{is_net, place_of_port, place_of_root, place_of_clock, clock_of_source, clocked_by, is_held, is_pin_held, are_held, are_held_at, scan_cell_of, is_kept, may_be_scanned, judged, judged_by}
 use Rattle.dft_rules.specs.declared.judged.Judged.TheVariants.{Scanned}
 use Rattle.dft_rules.proofs.Scannable.{scannable_flop}
 
@@ -140,31 +142,35 @@ reset_is n config net e =
     let it = position_at (λ name. is_net net (input_net n name)) some.0 config.resets some.1 in
     any_passes_from_place (λ name. is_net net (input_net n name)) config.resets it.place it.item it.at it.passes
 
-force_root : (n : Netlist) (config : Config) (value : Bool) (r : Root) → is_held n config.resets r ≡ true → (force : Option Force) × (force_of (config_ports n config) value r ≡ Some force)
-force_root n config value (Port net) e = (Some (record { port = net; value = value }), ap (λ b. if b then Some (Some (record { port = net; value = value })) else None) (reset_is n config net e))
-force_root n config value (Constant true) e = (None, refl)
-force_root n config value (Constant false) e = absurd cc
-force_root n config value Other e = absurd cc
+force_root : (n : Netlist) (config : Config) (r : Root) → is_held n config.resets r ≡ true → (force : Option ℕ) × (force_of (config_ports n config) r ≡ Some force)
+force_root n config (Port net) e = (Some net, ap (λ b. if b then Some (Some net) else None) (reset_is n config net e))
+force_root n config (Constant true) e = (None, refl)
+force_root n config (Constant false) e = absurd cc
+force_root n config Other e = absurd cc
 
-pub force_pins : (n : Netlist) (config : Config) (reset preset : Option Source) → are_held n config.resets reset preset ≡ true → (force : Option Force) × (forcing n (config_ports n config) reset preset ≡ Some force)
-force_pins n config (Some reset) preset e = force_root n config false (root_of n reset) e
-force_pins n config None (Some preset) e = force_root n config true (root_of n preset) e
-force_pins n config None None e = (None, refl)
+force_pin : (n : Netlist) (config : Config) (pin : Option Source) → is_pin_held n config.resets pin ≡ true → (force : Option ℕ) × (force_at n (config_ports n config) pin ≡ Some force)
+force_pin n config None e = (None, refl)
+force_pin n config (Some source) e = force_root n config (root_of n source) e
+
+pub force_pins : (n : Netlist) (config : Config) (reset preset : Option Source) → are_held n config.resets reset preset ≡ true → (forces : Forces ℕ) × (forcing n (config_ports n config) (record { clear = reset; preset = preset }) ≡ Some forces)
+force_pins n config reset preset e =
+    let both = and_parts (is_pin_held n config.resets reset) (is_pin_held n config.resets preset) e in
+    let clear = force_pin n config reset both.0 in
+    let set = force_pin n config preset both.1 in
+    (record { clear = clear.0; preset = set.0 }, λ t. both_forces (clear.1 t) (set.1 t))
 
 -- ---- the flip-flop
 
--- it is modelled, with its data input and its scan pins
-pub scanned_flop : (n : Netlist) (config : Config) (i domain : ℕ) (falling : Bool) (force : Option Force) → may_be_scanned (kind_at n i) ≡ true → (clock : IsClocked n config i domain falling) →
-    forcing n (config_ports n config) (pin_of role.Reset i (pins_of n i)) (pin_of role.Preset i (pins_of n i)) ≡ Some force →
-    flip_flop n (config_ports n config) i
-    ≡ Some (record { domain = clock.net; falling = falling; input = or_loose i (pin_of role.Din i (pins_of n i)); scan = scan_of (pin_of role.ScanEnable i (pins_of n i)) (pin_of role.ScanIn i (pins_of n i)); force = force })
-scanned_flop n config i domain falling force kind clock forced =
+-- it is modelled, with what its pins take
+pub scanned_flop : (n : Netlist) (config : Config) (i domain : ℕ) (falling : Bool) (forces : Forces ℕ) → may_be_scanned (kind_at n i) ≡ true → (clock : IsClocked n config i domain falling) →
+    forcing n (config_ports n config) (forces_of i (pins_of n i)) ≡ Some forces →
+    flip_flop n (config_ports n config) i ≡ Some (record { domain = clock.net; falling = falling; takes = takes_of i (pins_of n i); forces = forces })
+scanned_flop n config i domain falling forces kind clock forced =
     let ports : Ports = config_ports n config in
-    let input : Source = or_loose i (pin_of role.Din i (pins_of n i)) in
-    let scan : Option Scan = scan_of (pin_of role.ScanEnable i (pins_of n i)) (pin_of role.ScanIn i (pins_of n i)) in
+    let takes : Takes Source = takes_of i (pins_of n i) in
     ap (λ b. if b then modelled_of n ports i (pins_of n i) else None) (scannable_flop (kind_at n i) kind)
-    ∙ ap (λ d. modelled d (forcing n ports (pin_of role.Reset i (pins_of n i)) (pin_of role.Preset i (pins_of n i))) input scan) (domain_is n config i domain falling clock)
-    ∙ ap (λ f. modelled (Some (record { port = clock.net; inverted = falling })) f input scan) forced
+    ∙ ap (λ d. modelled d (forcing n ports (forces_of i (pins_of n i))) takes) (domain_is n config i domain falling clock)
+    ∙ ap (λ f. modelled (Some (record { port = clock.net; inverted = falling })) f takes) forced
 
 pub scanned_clocked : ScannedAreClocked
 scanned_clocked n config i domain falling e =

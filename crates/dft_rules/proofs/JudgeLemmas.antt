@@ -10,26 +10,26 @@ use Rattle.dft_cells.specs.declared.kind.Role.TheVariants.{Clock, Reset, Preset}
 use Rattle.dft_netlist.specs.declared.ids.NetId.{NetId}
 use Rattle.dft_netlist.specs.declared.instance.Instance.{Instance}
 use Rattle.dft_netlist.specs.declared.instance.Signal.{Signal}
-use Rattle.dft_behavior.specs.declared.clock_roots.ClockRoot.{ClockRoot}
+use Rattle.dft_netlist.specs.declared.instance.Signal.TheVariants as signal
+use Rattle.dft_behavior.specs.declared.root.ClockRoot.{ClockRoot}
 use Rattle.dft_behavior.specs.declared.root.Root as declared
 use Rattle.dft_behavior.specs.declared.root.Root.TheVariants.{Port, Constant, Other}
 use Rattle.dft_netlist.specs.Netlist.{Netlist}
 use Rattle.dft_netlist.specs.Drivers.{Source, Net, Connection, connections_of, shape_of, source_of}
-use Rattle.dft_behavior.specs.ClockSteps.{shown_clock}
-use Rattle.dft_behavior.specs.Roots.{shown_root}
+use Rattle.dft_behavior.specs.Roots.{shown_root, shown_clock, clock_shown}
 use Rattle.dft_behavior.specs.Traces.{root_of}
 use Rattle.dft_config.specs.Config.{Config}
 use Rattle.dft_rules.proofs.FindLemmas.{find_same}
-use Rattle.dft_behavior.proofs.ClockTables.{shown_in as clock_shown_in}
-use Rattle.dft_behavior.proofs.RootTables.{shown_in}
+use Rattle.dft_behavior.proofs.RootTables.{root_in_is, clock_in_is}
 use Rattle.dft_rules.specs.declared.findings.Findings.{Findings}
 use Rattle.dft_rules.specs.declared.judged.Judged.{Judged}
 use Rattle.dft_netlist.specs.Connections.{input_net, joined_to, signal_of, same_role, pin_of}
-use Rattle.dft_rules.specs.Findings.{AreNets, AreFindings, AreUsed, place_among, clock_place, clock_at, is_held_at, are_held_by, is_marked_clock}
+use Rattle.dft_rules.specs.Findings.{AreNets, AreFindings, AreUsed, place_among, clock_place, clock_at, is_held_at, is_signal_held, are_held_by, is_marked_clock}
 use Rattle.dft_rules.specs.Refusals.{is_clock_as_data}
-use Rattle.dft_behavior.specs.ClockTables.{AreClocks, clock_in}
-use Rattle.dft_behavior.specs.RootTables.{AreRoots, root_in}
-use Rattle.dft_rules.specs.Rules.{is_net, may_be_scanned, place_of_root, place_of_clock, clock_of_source, is_held, are_held, scan_cell_in, judged, judged_by}
+use Rattle.dft_behavior.specs.RootTables.{AreRoots, root_at, root_in, clock_in}
+use Rattle.dft_behavior.specs.declared.root.NetRoot.{NetRoot}
+use Rattle.dft_behavior.specs.declared.root.NetRoot.TheVariants as none
+use Rattle.dft_rules.specs.Rules.{is_net, may_be_scanned, place_of_root, place_of_clock, clock_of_source, is_held, is_pin_held, are_held, scan_cell_in, judged, judged_by}
 
 -- ---- places of nets
 
@@ -73,12 +73,12 @@ same_then f g None (Some y) e = absurd (let h : ⊥ = cc in h)
 same_then f g (Some x) None e = absurd (let h : ⊥ = cc in h)
 same_then f g (Some x) (Some y) e = cc
 
-same_pin_clock : (n : Netlist) (names : List Text) (nets : List NetId) (clocks : List (Option ClockRoot)) → AreNets n names nets → AreClocks n clocks → (r : Role) (i : ℕ) (pins : List Connection) →
-    clock_at nets clocks (signal_of r pins) ≡ option_and_then (clock_of_source n names) (pin_of r i pins)
-same_pin_clock n names nets clocks are found r i pins =
-    same_then (λ s. clock_place nets (clock_in clocks s)) (clock_of_source n names) (signal_of r pins) (pin_of r i pins)
-    (same_pin (λ s. clock_place nets (clock_in clocks s)) (clock_of_source n names)
-    (λ j p s. sym (ap (place_of_clock n names) (sym (found.each (source_of j p s)) ∙ clock_shown_in clocks j p s) ∙ same_clock_place n names nets are (clock_in clocks s))) r i pins)
+same_pin_clock : (n : Netlist) (names : List Text) (nets : List NetId) (roots : List NetRoot) → AreNets n names nets → AreRoots n roots → (r : Role) (i : ℕ) (pins : List Connection) →
+    clock_at nets roots (signal_of r pins) ≡ option_and_then (clock_of_source n names) (pin_of r i pins)
+same_pin_clock n names nets roots are found r i pins =
+    same_then (λ s. clock_place nets (clock_in roots s)) (clock_of_source n names) (signal_of r pins) (pin_of r i pins)
+    (same_pin (λ s. clock_place nets (clock_in roots s)) (clock_of_source n names)
+    (λ j p s. sym (ap (place_of_clock n names) (sym (clock_in_is n roots found j p s)) ∙ same_clock_place n names nets are (clock_in roots s))) r i pins)
 
 -- ---- resets and sets
 
@@ -87,26 +87,21 @@ same_held n names nets are (Port net) = ap is_some (same_place n names nets are 
 same_held n names nets are (Constant bit) = refl
 same_held n names nets are Other = refl
 
-held_by : (n : Netlist) (names : List Text) (nets : List NetId) (roots : List declared.Root) (reset preset : Option Signal) (resets presets : Option Source) →
-    option_map (λ s. is_held_at nets (root_in roots s)) reset ≡ option_map (λ source. is_held n names (root_of n source)) resets →
-    option_map (λ s. is_held_at nets (root_in roots s)) preset ≡ option_map (λ source. is_held n names (root_of n source)) presets →
-    are_held_by nets roots reset preset ≡ are_held n names resets presets
-held_by n names nets roots None None None None a b = refl
-held_by n names nets roots None None None (Some y) a b = absurd (let h : ⊥ = cc in h)
-held_by n names nets roots None (Some x) None None a b = absurd (let h : ⊥ = cc in h)
-held_by n names nets roots None (Some x) None (Some y) a b = cc
-held_by n names nets roots None preset (Some y) presets a b = absurd (let h : ⊥ = cc in h)
-held_by n names nets roots (Some x) preset None presets a b = absurd (let h : ⊥ = cc in h)
-held_by n names nets roots (Some x) preset (Some y) presets a b = cc
+pin_held : (n : Netlist) (names : List Text) (nets : List NetId) (roots : List NetRoot) (pin : Option Signal) (source : Option Source) →
+    option_map (λ s. is_held_at nets (root_in roots s)) pin ≡ option_map (λ source. is_held n names (root_of n source)) source → is_signal_held nets roots pin ≡ is_pin_held n names source
+pin_held n names nets roots None None e = refl
+pin_held n names nets roots None (Some y) e = absurd (let h : ⊥ = cc in h)
+pin_held n names nets roots (Some x) None e = absurd (let h : ⊥ = cc in h)
+pin_held n names nets roots (Some x) (Some y) e = cc
 
-same_resets : (n : Netlist) (names : List Text) (nets : List NetId) (roots : List declared.Root) → AreNets n names nets → AreRoots n roots → (i : ℕ) (pins : List Connection) →
+same_resets : (n : Netlist) (names : List Text) (nets : List NetId) (roots : List NetRoot) → AreNets n names nets → AreRoots n roots → (i : ℕ) (pins : List Connection) →
     are_held_by nets roots (signal_of Reset pins) (signal_of Preset pins) ≡ are_held n names (pin_of Reset i pins) (pin_of Preset i pins)
 same_resets n names nets roots are found i pins =
     let f : Signal → Bool = λ s. is_held_at nets (root_in roots s) in
     let g : Source → Bool = λ source. is_held n names (root_of n source) in
     let same : (j p : ℕ) (s : Signal) → f s ≡ g (source_of j p s) =
-    λ j p s. sym (ap (is_held n names) (sym (found.each (source_of j p s)) ∙ shown_in roots j p s) ∙ same_held n names nets are (root_in roots s)) in
-    held_by n names nets roots (signal_of Reset pins) (signal_of Preset pins) (pin_of Reset i pins) (pin_of Preset i pins) (same_pin f g same Reset i pins) (same_pin f g same Preset i pins)
+    λ j p s. sym (ap (is_held n names) (sym (root_in_is n roots found j p s)) ∙ same_held n names nets are (root_in roots s)) in
+    λ t. pin_held n names nets roots (signal_of Reset pins) (pin_of Reset i pins) (same_pin f g same Reset i pins) t && pin_held n names nets roots (signal_of Preset pins) (pin_of Preset i pins) (same_pin f g same Preset i pins) t
 
 -- ---- judgements
 
@@ -115,31 +110,31 @@ abbrev pub judged_at : Netlist → Findings → (i : ℕ) → Instance → Optio
 judged_at n f i x =
     let pins = connections_of n.library x in
     if may_be_scanned (shape_of n.library x.cell).kind
-    then judged_by (clock_at f.domains.items f.clocks.items (signal_of Clock pins)) (are_held_by f.resets.items f.roots.items (signal_of Reset pins) (signal_of Preset pins)) (is_some (scan_cell_in n.library x.cell)) (get_or f.kept.items i false)
+    then judged_by (clock_at f.domains.items f.roots.items (signal_of Clock pins)) (are_held_by f.resets.items f.roots.items (signal_of Reset pins) (signal_of Preset pins)) (is_some (scan_cell_in n.library x.cell)) (get_or f.kept.items i false)
     else None
 
 pub same_judged : (n : Netlist) (config : Config) (f : Findings) (i : ℕ) (x : Instance) → slice_get n.instances i ≡ Some x → i < length n.instances → AreFindings n config f → judged n config i ≡ judged_at n f i x
 same_judged n config f i x at less found =
     let pins = connections_of n.library x in
-    let clock = same_pin_clock n config.domains f.domains.items f.clocks.items found.domains found.clocks Clock i pins in
+    let clock = same_pin_clock n config.domains f.domains.items f.roots.items found.domains found.roots Clock i pins in
     let held = same_resets n config.resets f.resets.items f.roots.items found.resets found.roots i pins in
     let kept = found.kept.each i less in
     rw (at, clock, held, kept) refl
 
 -- ---- clocks used as data
 
-pub same_clock : (n : Netlist) (names : List Text) (nets : List NetId) (clocks : List (Option ClockRoot)) (used : List Bool) → AreNets n names nets → AreClocks n clocks → AreUsed n.library n.instances (length n.nets) used →
-    (net : ℕ) → net < length n.nets → is_marked_clock nets clocks used net ≡ is_clock_as_data n names net
-same_clock n names nets clocks used are found marks net less =
-    let place = sym (same_clock_place n names nets are (get_or clocks net None)) ∙ ap (place_of_clock n names) (found.each (Net net)) in
+pub same_clock : (n : Netlist) (names : List Text) (nets : List NetId) (roots : List NetRoot) (used : List Bool) → AreNets n names nets → AreRoots n roots → AreUsed n.library n.instances (length n.nets) used →
+    (net : ℕ) → net < length n.nets → is_marked_clock nets roots used net ≡ is_clock_as_data n names net
+same_clock n names nets roots used are found marks net less =
+    let place = sym (same_clock_place n names nets are (clock_in roots (signal.Net (record { 0 = net })))) ∙ ap (place_of_clock n names) (clock_in_is n roots found 0 0 (signal.Net (record { 0 = net }))) in
     let mark = marks.each net less in
     rw (place, mark) refl
 
 -- the test of a loop over nets
-pub marked_is : (domains : List NetId) (clocks : List (Option ClockRoot)) (used : List Bool) (net : ℕ) (d : Option ClockRoot) (place : Option (ℕ × Bool)) (a b : Bool) → net < length clocks →
-    place ≡ clock_place domains (get_or clocks net d) → is_some place ≡ a → get_or used net false ≡ b → is_marked_clock domains clocks used net ≡ (a && b)
-marked_is domains clocks used net d place a b less at is mark =
-    let same : clock_place domains (get_or clocks net None) ≡ place = ap (clock_place domains) (get_or_default clocks net None d less) ∙ sym at in
+pub marked_is : (domains : List NetId) (roots : List NetRoot) (used : List Bool) (net : ℕ) (d : NetRoot) (clock : Option ClockRoot) (place : Option (ℕ × Bool)) (a b : Bool) → net < length roots →
+    clock ≡ clock_shown (get_or roots net d) → place ≡ clock_place domains clock → is_some place ≡ a → get_or used net false ≡ b → is_marked_clock domains roots used net ≡ (a && b)
+marked_is domains roots used net d clock place a b less shown at is mark =
+    let same : clock_place domains (clock_shown (root_at roots net)) ≡ place = ap (λ (r : NetRoot). clock_place domains (clock_shown r)) (get_or_default roots net none.Other d less) ∙ ap (clock_place domains) (sym shown) ∙ sym at in
     rw (same, is, mark) refl
 
 -- ---- numbers of nets
@@ -151,11 +146,11 @@ pub nets_as : (n : Netlist) (names given : List Text) (nets shown : List NetId) 
 nets_as n names given nets shown a b are = rw (← a, b) are
 
 -- the first net is the same
-pub first_same : (n : Netlist) (names : List Text) (domains : List NetId) (clocks : List (Option ClockRoot)) (used : List Bool) → AreNets n names domains → AreClocks n clocks → AreUsed n.library n.instances (length n.nets) used →
-    find (is_marked_clock domains clocks used) (range_with_len 0 (length clocks)) ≡ find (is_clock_as_data n names) (range_with_len 0 (length n.nets))
-first_same n names domains clocks used are found marks =
-    ap (λ (m : ℕ). find (is_marked_clock domains clocks used) (range_with_len 0 m)) found.count
-    ∙ find_same (is_marked_clock domains clocks used) (is_clock_as_data n names) 0 (length n.nets) (λ i less. same_clock n names domains clocks used are found marks i (omega arith))
+pub first_same : (n : Netlist) (names : List Text) (domains : List NetId) (roots : List NetRoot) (used : List Bool) → AreNets n names domains → AreRoots n roots → AreUsed n.library n.instances (length n.nets) used →
+    find (is_marked_clock domains roots used) (range_with_len 0 (length roots)) ≡ find (is_clock_as_data n names) (range_with_len 0 (length n.nets))
+first_same n names domains roots used are found marks =
+    ap (λ (m : ℕ). find (is_marked_clock domains roots used) (range_with_len 0 m)) found.count
+    ∙ find_same (is_marked_clock domains roots used) (is_clock_as_data n names) 0 (length n.nets) (λ i less. same_clock n names domains roots used are found marks i (omega arith))
 
 -- ---- one instance
 
@@ -163,7 +158,7 @@ pub judged_no : (n : Netlist) (f : Findings) (i : ℕ) (x : Instance) → may_be
 judged_no n f i x other = rw other refl
 
 pub judged_yes : (n : Netlist) (f : Findings) (i : ℕ) (x : Instance) (clock : Option (ℕ × Bool)) (held scans kept : Bool) → may_be_scanned (shape_of n.library x.cell).kind ≡ true →
-    clock ≡ clock_at f.domains.items f.clocks.items (signal_of Clock (connections_of n.library x)) →
+    clock ≡ clock_at f.domains.items f.roots.items (signal_of Clock (connections_of n.library x)) →
     held ≡ are_held_by f.resets.items f.roots.items (signal_of Reset (connections_of n.library x)) (signal_of Preset (connections_of n.library x)) →
     scans ≡ is_some (scan_cell_in n.library x.cell) → kept ≡ get_or f.kept.items i false → judged_at n f i x ≡ judged_by clock held scans kept
 judged_yes n f i x clock held scans kept may d h s k = rw (may, ← d, ← h, ← s, ← k) refl

@@ -7,7 +7,7 @@ use Rattle.dft_netlist.specs.declared.ids.NetId.{NetId}
 use Rattle.dft_netlist.specs.declared.instance.Signal.{Signal}
 use Rattle.dft_netlist.specs.declared.instance.Instance.{Instance}
 use Rattle.dft_netlist.specs.declared.limits.TheConstants.{MAX_INSTANCES}
-use Rattle.dft_behavior.specs.declared.clock_roots.ClockRoot.{ClockRoot}
+use Rattle.dft_behavior.specs.declared.root.ClockRoot.{ClockRoot}
 use Rattle.dft_behavior.specs.declared.root.Root.{Root}
 use Rattle.dft_behavior.specs.declared.root.Root.TheVariants.{Port, Constant, Other}
 use Rattle.dft_netlist.specs.Netlist.{Netlist}
@@ -16,8 +16,9 @@ use Rattle.dft_rules.specs.declared.findings.Findings.{Findings}
 use Rattle.dft_rules.specs.Refusals.{is_data_of}
 use Rattle.dft_netlist.specs.Connections.{input_net}
 use Rattle.dft_rules.specs.Rules.{is_kept}
-use Rattle.dft_behavior.specs.ClockTables.{AreClocks, clock_in}
-use Rattle.dft_behavior.specs.RootTables.{AreRoots, root_in}
+use Rattle.dft_behavior.specs.declared.root.NetRoot.{NetRoot}
+use Rattle.dft_behavior.specs.Roots.{clock_shown}
+use Rattle.dft_behavior.specs.RootTables.{AreRoots, root_at, root_in, clock_in}
 
 -- these are the nets that the names stand for
 abbrev pub AreNets : Netlist → (names : List Text) → List NetId → Type 0
@@ -46,19 +47,18 @@ pub record IsFor (n : Netlist) (f : Findings) : Type 0 where
   pub kept : length f.kept.items ≡ length n.instances
   pub few : length n.instances ≤ MAX_INSTANCES
 
--- it is what the names of the configuration stand for, the roots of the nets, and the clocks that they show
+-- it is what the names of the configuration stand for, and the roots of the nets
 pub record AreFindings (n : Netlist) (config : Config) (f : Findings) : Type 0 where
   pub domains : AreNets n config.domains f.domains.items
   pub resets : AreNets n config.resets f.resets.items
   pub kept : AreKept n config.keep f.kept.items
   pub roots : AreRoots n f.roots.items
-  pub clocks : AreClocks n f.clocks.items
 
 -- ---- what the rules ask, by what is at hand
 
 -- the clock at a clock pin: the place of its domain, and whether it is inverted
-abbrev pub clock_at : List NetId → List (Option ClockRoot) → Option Signal → Option (ℕ × Bool)
-clock_at domains clocks pin = option_and_then (λ s. clock_place domains (clock_in clocks s)) pin
+abbrev pub clock_at : List NetId → List NetRoot → Option Signal → Option (ℕ × Bool)
+clock_at domains roots pin = option_and_then (λ s. clock_place domains (clock_in roots s)) pin
 
 -- whether a set or reset with this root is held
 abbrev pub is_held_at : List NetId → Root → Bool
@@ -66,11 +66,13 @@ is_held_at resets (Port net) = is_some (place_among resets (Port net))
 is_held_at resets (Constant bit) = bit
 is_held_at resets Other = false
 
--- the reset, or the set, if there is one
-abbrev pub are_held_by : List NetId → List Root → (reset preset : Option Signal) → Bool
-are_held_by resets roots (Some reset) preset = is_held_at resets (root_in roots reset)
-are_held_by resets roots None (Some preset) = is_held_at resets (root_in roots preset)
-are_held_by resets roots None None = true
+abbrev pub is_signal_held : List NetId → List NetRoot → Option Signal → Bool
+is_signal_held resets roots None = true
+is_signal_held resets roots (Some signal) = is_held_at resets (root_in roots signal)
+
+-- the reset and the set
+abbrev pub are_held_by : List NetId → List NetRoot → (reset preset : Option Signal) → Bool
+are_held_by resets roots reset preset = is_signal_held resets roots reset && is_signal_held resets roots preset
 
 -- there is a mark for each net, and those that these instances take as data are marked
 pub record AreUsed (library : List Cell) (instances : List Instance) (nets : ℕ) (marks : List Bool) : Type 0 where
@@ -78,5 +80,5 @@ pub record AreUsed (library : List Cell) (instances : List Instance) (nets : ℕ
   pub each : (net : ℕ) → net < nets → slice_index_or marks net false ≡ list_any (is_data_of library net) instances
 
 -- whether a net that is marked shows the clock of one of these nets or its inverse
-abbrev pub is_marked_clock : List NetId → List (Option ClockRoot) → List Bool → (net : ℕ) → Bool
-is_marked_clock domains clocks used net = is_some (clock_place domains (slice_index_or clocks net None)) && slice_index_or used net false
+abbrev pub is_marked_clock : List NetId → List NetRoot → List Bool → (net : ℕ) → Bool
+is_marked_clock domains roots used net = is_some (clock_place domains (clock_shown (root_at roots net))) && slice_index_or used net false

@@ -1,6 +1,6 @@
 -- The scan rules: which flip-flops are scanned, in which domain and at which edge of its clock. A flip-flop is judged by the first rule that fails
 -- (Bushnell and Agrawal, Essentials of Electronic Testing).
-use Rattle.std.specs.Prelude.{ℕ, ◌==◌, Bool, true, false, not, List, [], ◌∷◌, map, length, Option, None, Some, is_some, is_none, option_and_then, option_map, position, slice_get, find, if◌then◌else◌}
+use Rattle.std.specs.Prelude.{ℕ, ◌==◌, Bool, true, false, not, ◌&&◌, List, [], ◌∷◌, map, length, Option, None, Some, is_some, is_none, option_and_then, option_map, position, slice_get, find, if◌then◌else◌}
 use Rattle.std.specs.List.{list_any, range_with_len}
 use Rattle.dft_base.specs.Lexing.{Text}
 use Rattle.dft_cells.specs.declared.kind.Kind.{Kind}
@@ -77,11 +77,14 @@ is_held n resets (Port net) = is_some (place_of_root n resets (Port net))
 is_held n resets (Constant bit) = bit
 is_held n resets Other = false
 
--- the reset of an instance, or its set, if it has one
+-- so is a pin that the instance has not
+abbrev pub is_pin_held : Netlist → (resets : List Text) → Option Source → Bool
+is_pin_held n resets None = true
+is_pin_held n resets (Some source) = is_held n resets (root_of n source)
+
+-- the reset of an instance and its set
 abbrev pub are_held : Netlist → (resets : List Text) → (reset preset : Option Source) → Bool
-are_held n resets (Some reset) preset = is_held n resets (root_of n reset)
-are_held n resets None (Some preset) = is_held n resets (root_of n preset)
-are_held n resets None None = true
+are_held n resets reset preset = is_pin_held n resets reset && is_pin_held n resets preset
 
 -- the scan cell that a cell of a library names; a gate primitive has none
 abbrev pub scan_cell_in : List Cell → CellRef → Option CellId

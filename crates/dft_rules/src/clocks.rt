@@ -4,7 +4,7 @@ ghost use Rattle.std.specs.Prelude.{◌≡◌, ◌≤◌, ◌<◌, ◌^◌, ◌|
 ghost use Rattle.std.specs.List.{list_any, range_with_len};
 ghost use Rattle.dft_netlist.specs.Drivers.{connections_of};
 ghost use Rattle.dft_netlist.specs.Sound.{IsInstance, IsLive};
-ghost use Rattle.dft_behavior.specs.ClockTables.{AreClocks};
+ghost use Rattle.dft_behavior.specs.RootTables.{AreRoots};
 ghost use Rattle.dft_rules.specs.Findings.{AreNets, AreUsed, is_marked_clock};
 ghost use Rattle.dft_rules.specs.Refusals.{IsRefusal, clock_as_data, is_data_of, is_joined_to, takes};
 
@@ -12,7 +12,7 @@ use crate::cells::{takes_data, uses_data};
 use crate::error::RuleError;
 use crate::findings::clock_place;
 use dft_base::Name;
-use dft_behavior::ClockRoot;
+use dft_behavior::NetRoot;
 use dft_cells::Cell;
 use dft_netlist::{Design, Instance, NetId, Signal, kind_of};
 use std::alloc::{AllocError, Global};
@@ -23,16 +23,16 @@ pub(crate) fn check_clocks(
     alloc: Global,
     design: &Design,
     domains: &[NetId],
-    clocks: &[Option<ClockRoot>],
+    roots: &[NetRoot],
 ) -> Result<(), RuleError>
     requires few { length domains.now ≤ 16 }
-    requires small { length clocks.now < 2 ^ 32 }
-    requires clocks { AreClocks design.now clocks.now }
+    requires small { length roots.now < 2 ^ 32 }
+    requires roots { AreRoots design.now roots.now }
     ensures ok { OnOk result ((names : List (List ℕ)) → AreNets design.now names domains.now → clock_as_data design.now names ≡ None) }
     ensures refused { IfErr result (λ error. (names : List (List ℕ)) → AreNets design.now names domains.now → IsRefusal (clock_as_data design.now names) error) }
 {
     let used = data_nets(alloc, design)?;
-    match first_clock(domains, clocks, &used) {
+    match first_clock(domains, roots, &used) {
         Some(net) => Err(RuleError::ClockAsData {
             net: design.net_name(net).copy(alloc)?,
         }),
@@ -41,15 +41,15 @@ pub(crate) fn check_clocks(
 }
 
 // The first marked net that shows the clock of one of these nets or its inverse.
-fn first_clock(domains: &[NetId], clocks: &[Option<ClockRoot>], used: &[bool]) -> Option<NetId>
+fn first_clock(domains: &[NetId], roots: &[NetRoot], used: &[bool]) -> Option<NetId>
     requires few { length domains.now ≤ 16 }
-    requires small { length clocks.now < 2 ^ 32 }
-    requires marks { length used.now ≡ length clocks.now }
-    ensures first { option_map (λ net. net.0) result ≡ find (is_marked_clock domains.now clocks.now used.now) (range_with_len 0 (length clocks.now)) }
-    ensures live { IfSome result (λ net. net.0 < length clocks.now) }
+    requires small { length roots.now < 2 ^ 32 }
+    requires marks { length used.now ≡ length roots.now }
+    ensures first { option_map (λ net. net.0) result ≡ find (is_marked_clock domains.now roots.now used.now) (range_with_len 0 (length roots.now)) }
+    ensures live { IfSome result (λ net. net.0 < length roots.now) }
 {
-    for net in 0..clocks.len() {
-        if clock_place(domains, clocks[net]).is_some() && used[net] {
+    for net in 0..roots.len() {
+        if clock_place(domains, roots[net].clock()).is_some() && used[net] {
             return Some(NetId(net as u32));
         }
     }

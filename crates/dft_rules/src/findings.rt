@@ -9,7 +9,7 @@ ghost use Rattle.dft_rules.specs.Rules as spec;
 use crate::cells::may_be_scanned;
 use crate::error::RuleError;
 use dft_base::Name;
-use dft_behavior::{ClockRoot, Root, clock_in, root_in};
+use dft_behavior::{ClockRoot, NetRoot, Root, clock_in, root_in};
 use dft_netlist::{Design, InstanceId, NetId, Signal};
 use std::alloc::{AllocError, Global};
 
@@ -23,9 +23,7 @@ pub(crate) struct Findings {
     // Whether each instance is kept, by its number.
     pub(crate) kept: Vec<bool>,
     // The root of each net, by its number.
-    pub(crate) roots: Vec<Root>,
-    // The clock that each net shows, by its number.
-    pub(crate) clocks: Vec<Option<ClockRoot>>,
+    pub(crate) roots: Vec<NetRoot>,
 }
 
 // One call for all fields, so that the proof of what owns a value stays short.
@@ -36,7 +34,6 @@ impl Drop for Findings {
             resets: _,
             kept: _,
             roots: _,
-            clocks: _,
         } = self;
     }
 }
@@ -104,14 +101,14 @@ fn unknown(alloc: Global, name: &Name) -> Result<RuleError, AllocError>
 // The clock at a clock pin that is joined to this: the place of its domain, and whether it is inverted.
 pub(crate) fn clock_at(
     domains: &[NetId],
-    clocks: &[Option<ClockRoot>],
+    roots: &[NetRoot],
     pin: Option<Signal>,
 ) -> Option<(u8, bool)>
     requires { length domains.now ≤ 16 }
-    ensures { result ≡ at.clock_at domains.now clocks.now pin }
+    ensures { result ≡ at.clock_at domains.now roots.now pin }
 {
     match pin {
-        Some(signal) => clock_place(domains, clock_in(clocks, signal)),
+        Some(signal) => clock_place(domains, clock_in(roots, signal)),
         None => None,
     }
 }
@@ -130,22 +127,26 @@ pub(crate) fn clock_place(nets: &[NetId], clock: Option<ClockRoot>) -> Option<(u
     }
 }
 
-// Whether the reset or the set, if there is one, is held at 1 while the resets are.
+// Whether the reset and the set are held at 1 while the resets are.
 pub(crate) fn are_held(
     resets: &[NetId],
-    roots: &[Root],
+    roots: &[NetRoot],
     reset: Option<Signal>,
     preset: Option<Signal>,
 ) -> bool
     requires { length resets.now ≤ 16 }
     ensures { result ≡ at.are_held_by resets.now roots.now reset preset }
 {
-    match reset {
+    is_signal_held(resets, roots, reset) && is_signal_held(resets, roots, preset)
+}
+
+fn is_signal_held(resets: &[NetId], roots: &[NetRoot], signal: Option<Signal>) -> bool
+    requires { length resets.now ≤ 16 }
+    ensures { result ≡ at.is_signal_held resets.now roots.now signal }
+{
+    match signal {
         Some(signal) => is_held(resets, root_in(roots, signal)),
-        None => match preset {
-            Some(signal) => is_held(resets, root_in(roots, signal)),
-            None => true,
-        },
+        None => true,
     }
 }
 

@@ -14,7 +14,7 @@ use crate::findings::{Findings, are_held, clock_at, input_nets, kept_cells};
 use crate::judged::Judged;
 use crate::verdicts::Verdicts;
 use dft_base::Rule;
-use dft_behavior::{find_clocks, find_roots};
+use dft_behavior::find_roots;
 use dft_cells::Role;
 use dft_config::Config;
 use dft_netlist::{Design, kind_of, signal_of};
@@ -47,16 +47,14 @@ fn look_up(alloc: Global, design: &Design, config: &Config) -> Result<Findings, 
     let resets = input_nets(alloc, design, config.resets())?;
     let kept = kept_cells(alloc, design, config.keep())?;
     check_absent(alloc, design.library().cells(), design.instances())?;
-    let clocks = find_clocks(alloc, design)?;
-    check_clocks(alloc, design, &domains, &clocks)?;
-    check_ports(alloc, design.ports())?;
     let roots = find_roots(alloc, design)?;
+    check_clocks(alloc, design, &domains, &roots)?;
+    check_ports(alloc, design.ports())?;
     Ok(Findings {
         domains,
         resets,
         kept,
         roots,
-        clocks,
     })
 }
 
@@ -89,7 +87,7 @@ fn judge_instance(design: &Design, found: &Findings, number: usize) -> Option<Ju
     let pin = signal_of(cells, instance, Role::Clock);
     let reset = signal_of(cells, instance, Role::Reset);
     let preset = signal_of(cells, instance, Role::Preset);
-    let clock = clock_at(&found.domains, &found.clocks, pin);
+    let clock = clock_at(&found.domains, &found.roots, pin);
     let held = are_held(&found.resets, &found.roots, reset, preset);
     let scans = has_scan_cell(cells, instance.cell);
     judgement(clock, held, scans, found.kept[number])

@@ -4,7 +4,7 @@ use Rattle.std.specs.Prelude.{if◌then◌else◌}
 use Rattle.std.proofs.lemmas.Option.{none-some}
 use Rattle.std.specs.Option.{option_or}
 use Rattle.dft_cells.specs.declared.kind.Role.TheVariants as role
-use Rattle.dft_cells.specs.FlipFlops.{is_flip_flop}
+use Rattle.dft_cells.specs.FlipFlops.{is_flip_flop, Takes, Forces}
 use Rattle.dft_cells.specs.declared.kind.Kind.{Kind}
 use Rattle.dft_cells.specs.declared.kind.Kind.TheVariants as kind
 use Rattle.dft_netlist.specs.Netlist.{Netlist}
@@ -13,7 +13,7 @@ use Rattle.dft_netlist.specs.Drivers as drivers
 use Rattle.dft_behavior.specs.Traces.{Root, Port, Constant, Other, root_of}
 use Rattle.dft_behavior.specs.ClockRoots.{ClockRoot, clock_root_of}
 use Rattle.dft_netlist.specs.Connections.{pin_of}
-use Rattle.dft_behavior.specs.Logic.{Ports, Cell, Scan, Force, Free, Clock, Input, domain_of, domain_at, force_of, forcing, modelled, modelled_of, flip_flop, flop_meaning, lockup_meaning, meaning_of, or_loose, scan_of, locked, is_lockup, lock_up, stored, no_cell, cell_or_none}
+use Rattle.dft_behavior.specs.Logic.{Ports, Cell, Free, Clock, Input, domain_of, domain_at, force_of, force_at, both_forces, forcing, takes_of, forces_of, modelled, modelled_of, flip_flop, flop_meaning, lockup_meaning, meaning_of, or_loose, locked, is_lockup, lock_up, stored, no_cell, cell_or_none}
 use Rattle.dft_runs.specs.WiderPorts.{Suits, PortsWiden}
 
 same_domain : (a b : Ports) → Suits a b → (r : Option ClockRoot) → domain_of b r ≡ domain_of a r
@@ -24,36 +24,48 @@ same_domain_at : (n : Netlist) (a b : Ports) → Suits a b → (o : Option Sourc
 same_domain_at n a b suits None = refl
 same_domain_at n a b suits (Some source) = same_domain a b suits (clock_root_of n source)
 
-reset_kept : (x y : Bool) (f : Option Force) (o : Option (Option Force)) → (x ≡ true → y ≡ true) → (if x then Some f else None) ≡ o → (o ≡ None) ⊎ ((if y then Some f else None) ≡ o)
+reset_kept : (x y : Bool) (f : Option ℕ) (o : Option (Option ℕ)) → (x ≡ true → y ≡ true) → (if x then Some f else None) ≡ o → (o ≡ None) ⊎ ((if y then Some f else None) ≡ o)
 reset_kept false y f o more is = inl (sym is)
 reset_kept true true f o more is = inr is
 reset_kept true false f o more is = absurd (let h = more refl in cc)
 
-force_kept : (a b : Ports) → Suits a b → (value : Bool) (r : Root) → (force_of a value r ≡ None) ⊎ (force_of b value r ≡ force_of a value r)
-force_kept a b suits value (Port net) = reset_kept (a.is_reset net) (b.is_reset net) (Some (record { port = net; value = value })) (force_of a value (Port net)) (suits.resets net) refl
-force_kept a b suits value (Constant true) = inr refl
-force_kept a b suits value (Constant false) = inr refl
-force_kept a b suits value Other = inr refl
+force_kept : (a b : Ports) → Suits a b → (r : Root) → (force_of a r ≡ None) ⊎ (force_of b r ≡ force_of a r)
+force_kept a b suits (Port net) = reset_kept (a.is_reset net) (b.is_reset net) (Some net) (force_of a (Port net)) (suits.resets net) refl
+force_kept a b suits (Constant true) = inr refl
+force_kept a b suits (Constant false) = inr refl
+force_kept a b suits Other = inr refl
 
-forcing_kept : (n : Netlist) (a b : Ports) → Suits a b → (reset preset : Option Source) → (forcing n a reset preset ≡ None) ⊎ (forcing n b reset preset ≡ forcing n a reset preset)
-forcing_kept n a b suits (Some reset) preset = force_kept a b suits false (root_of n reset)
-forcing_kept n a b suits None (Some preset) = force_kept a b suits true (root_of n preset)
-forcing_kept n a b suits None None = inr refl
+pin_kept : (n : Netlist) (a b : Ports) → Suits a b → (pin : Option Source) → (force_at n a pin ≡ None) ⊎ (force_at n b pin ≡ force_at n a pin)
+pin_kept n a b suits None = inr refl
+pin_kept n a b suits (Some source) = force_kept a b suits (root_of n source)
 
-no_force : (domain : Option ClockRoot) (f : Option (Option Force)) (input : Source) (scan : Option Scan) → f ≡ None → modelled domain f input scan ≡ None
-no_force None f input scan h = refl
-no_force (Some domain) None input scan h = refl
-no_force (Some domain) (Some force) input scan h = absurd cc
+no_preset : (clear preset : Option (Option ℕ)) → preset ≡ None → both_forces clear preset ≡ None
+no_preset None preset is = refl
+no_preset (Some clear) preset is = ap (both_forces (Some clear)) is
+
+forcing_kept : (n : Netlist) (a b : Ports) → Suits a b → (pins : Forces Source) → (forcing n a pins ≡ None) ⊎ (forcing n b pins ≡ forcing n a pins)
+forcing_kept n a b suits pins =
+    elim (pin_kept n a b suits pins.clear) [
+      | inl none ↦ inl (ap (λ clear. both_forces clear (force_at n a pins.preset)) none)
+      | inr clear ↦ elim (pin_kept n a b suits pins.preset) [
+        | inl none ↦ inl (no_preset (force_at n a pins.clear) (force_at n a pins.preset) none)
+        | inr preset ↦ inr (λ t. both_forces (clear t) (preset t))
+      ]
+    ]
+
+no_force : (domain : Option ClockRoot) (f : Option (Forces ℕ)) (takes : Takes Source) → f ≡ None → modelled domain f takes ≡ None
+no_force None f takes h = refl
+no_force (Some domain) None takes h = refl
+no_force (Some domain) (Some force) takes h = absurd cc
 
 modelled_kept : (n : Netlist) (a b : Ports) → Suits a b → (i : ℕ) → (modelled_of n a i (pins_of n i) ≡ None) ⊎ (modelled_of n b i (pins_of n i) ≡ modelled_of n a i (pins_of n i))
 modelled_kept n a b suits i =
     let pins = pins_of n i in
-    let input = or_loose i (pin_of role.Din i pins) in
-    let scan = scan_of (pin_of role.ScanEnable i pins) (pin_of role.ScanIn i pins) in
+    let takes = takes_of i pins in
     let domain = domain_at n a (pin_of role.Clock i pins) in
-    elim (forcing_kept n a b suits (pin_of role.Reset i pins) (pin_of role.Preset i pins)) [
-      | inl none ↦ inl (no_force domain (forcing n a (pin_of role.Reset i pins) (pin_of role.Preset i pins)) input scan none)
-      | inr same ↦ inr (ap (λ d. modelled d (forcing n b (pin_of role.Reset i pins) (pin_of role.Preset i pins)) input scan) (same_domain_at n a b suits (pin_of role.Clock i pins)) ∙ ap (λ f. modelled domain f input scan) same)
+    elim (forcing_kept n a b suits (forces_of i pins)) [
+      | inl none ↦ inl (no_force domain (forcing n a (forces_of i pins)) takes none)
+      | inr same ↦ inr (ap (λ d. modelled d (forcing n b (forces_of i pins)) takes) (same_domain_at n a b suits (pin_of role.Clock i pins)) ∙ ap (λ f. modelled domain f takes) same)
     ]
 
 if_kept : (t : Bool) (x y : Option Cell) → (x ≡ None) ⊎ (y ≡ x) → ((if t then x else None) ≡ None) ⊎ ((if t then y else None) ≡ (if t then x else None))

@@ -14,7 +14,7 @@ use Rattle.dft_cells.specs.declared.kind.Gate.{Gate as GateKind}
 use Rattle.dft_cells.specs.declared.kind.Gate.TheVariants as gate
 use Rattle.dft_cells.specs.declared.kind.Role.{Role}
 use Rattle.dft_cells.specs.declared.kind.Role.TheVariants as role
-use Rattle.dft_cells.specs.FlipFlops.{is_flip_flop}
+use Rattle.dft_cells.specs.FlipFlops.{is_flip_flop, Takes, Forces, taken_from}
 use Rattle.dft_cells.specs.WellFormed.{IsWellFormed}
 use Rattle.dft_netlist.specs.declared.instance.Instance.{Instance}
 use Rattle.dft_netlist.specs.declared.instance.Signal.{Signal}
@@ -29,9 +29,11 @@ use Rattle.dft_netlist.specs.Drivers.{Source, Net, Tied, Loose, Connection, driv
 use Rattle.dft_netlist.specs.Drivers as drivers
 use Rattle.dft_netlist.specs.Orders.{Has}
 use Rattle.dft_netlist.specs.Sound.{IsNetlist}
-use Rattle.dft_behavior.specs.ClockRoots.{ClockRoot, ClockRooted, ThroughGate, ThroughJoin, turn_of, turn_of_kind, turned, clock_root_of, clock_of_driver, clock_within}
-use Rattle.dft_behavior.specs.Logic.{Logic, Ports, Input, Clock, Gate, Joined, Cell, Force, Scan, or_loose, flip_flop, flop_meaning, lockup_meaning, meaning_of, modelled, modelled_of, logic_of}
-use Rattle.dft_behavior.proofs.ClockLemmas.{turn_roles}
+use Rattle.dft_behavior.specs.NetRoots.{turned, root_of_driver, root_within}
+use Rattle.dft_behavior.specs.ClockRoots.{ClockRoot, ClockRooted, turn_of, turn_of_kind, clock_of, clock_root_of}
+use Rattle.dft_behavior.specs.Logic.{Logic, Ports, Input, Clock, Gate, Joined, Cell, or_loose, scan_of, takes_of, plain, flip_flop, flop_meaning, lockup_meaning, meaning_of, modelled, modelled_of, logic_of}
+use Rattle.dft_behavior.proofs.TraceLemmas.{turn_roles}
+use Rattle.dft_behavior.proofs.RootForms.{clock_gate, clock_join}
 use Rattle.dft_behavior.proofs.ClockWalks.{clock_found, walk_finds_clock}
 use Rattle.dft_netlist.proofs.GateDrivers.{IsGate, driven, gate_drives, pin_driver}
 use Rattle.dft_behavior.proofs.StoredLemmas.{flop_cell}
@@ -42,6 +44,8 @@ use Rattle.dft_rules.specs.Rules.{is_net, place_of_port, place_of_clock, clock_o
 use Rattle.dft_rules.proofs.ClockReads.{data_apart, gate_apart}
 use Rattle.dft_rules.proofs.ReadingLemmas.{joined_net}
 use Rattle.dft_edt.specs.Captures.{AllIn, IsClockFree}
+use Rattle.dft_scan_frame.proofs.Fine.{passed_plain}
+use Rattle.dft_scan_frame.proofs.Containing.{no_pin, ref_no_role}
 
 -- whether a net shows a clock of the configuration, or its inverse
 abbrev shows : Netlist → Config → (net : ℕ) → Bool
@@ -138,7 +142,7 @@ by_port n config clock = some_mapped (λ place. (place, clock.inverted)) (place_
 port_shows : (n : Netlist) (config : Config) (net : ℕ) → driver n net ≡ drivers.Input → (config_ports n config).is_clock net ≡ true → shows n config net ≡ true
 port_shows n config net is clock =
     let root : ClockRoot = record { port = net; inverted = false } in
-    ap (λ (d : drivers.Driver). is_some (place_of_clock n config.domains (clock_of_driver (clock_within n (length n.nets)) net d))) is
+    ap (λ (d : drivers.Driver). is_some (place_of_clock n config.domains (clock_of (root_of_driver (root_within n (length n.nets)) net d)))) is
     ∙ by_port n config root ∙ port_placed n config net clock
 
 -- ---- what passes a clock on shows it
@@ -191,15 +195,15 @@ din_taken : (i k : ℕ) (cs : List Connection) → pin_of role.Din i cs ≡ Some
 din_taken i k [] e = absurd (none-some (Net k) e)
 din_taken i k (c ∷ cs) e = din_by i k c cs (same_role role.Din c.role) refl (din_taken i k cs) e
 
--- a modelled flip-flop takes what its data pin is joined to
-flop_input : (domain : Option ClockRoot) (force : Option (Option Force)) (input : Source) (scan : Option Scan) (c : Cell) → modelled domain force input scan ≡ Some c → c.input ≡ input
-flop_input None force input scan c e = absurd (none-some c e)
-flop_input (Some d) None input scan c e = absurd (none-some c e)
-flop_input (Some d) (Some f) input scan c e = ap (λ (k : Cell). k.input) (sym (same_Some (record { domain = d.port; falling = d.inverted; input = input; scan = scan; force = f }) c e))
+-- a modelled flip-flop takes what its pins are joined to
+flop_takes : (domain : Option ClockRoot) (forces : Option (Forces ℕ)) (takes : Takes Source) (c : Cell) → modelled domain forces takes ≡ Some c → c.takes ≡ takes
+flop_takes None forces takes c e = absurd (none-some c e)
+flop_takes (Some d) None takes c e = absurd (none-some c e)
+flop_takes (Some d) (Some f) takes c e = ap (λ (k : Cell). k.takes) (sym (same_Some (record { domain = d.port; falling = d.inverted; takes = takes; forces = f }) c e))
 
-cell_input : (n : Netlist) (its : Ports) (i : ℕ) (b : Bool) (c : Cell) → (if b then modelled_of n its i (pins_of n i) else None) ≡ Some c → (b ≡ true) × (c.input ≡ or_loose i (pin_of role.Din i (pins_of n i)))
-cell_input n its i true c e = (refl, flop_input _ _ _ _ c e)
-cell_input n its i false c e = absurd (none-some c e)
+cell_takes : (n : Netlist) (its : Ports) (i : ℕ) (b : Bool) (c : Cell) → (if b then modelled_of n its i (pins_of n i) else None) ≡ Some c → (b ≡ true) × (c.takes ≡ takes_of i (pins_of n i))
+cell_takes n its i true c e = (refl, flop_takes _ _ _ c e)
+cell_takes n its i false c e = absurd (none-some c e)
 
 module _ (n : Netlist) (config : Config) (rank : ℕ → ℕ) (order : IsOrdered n rank) (sound : IsNetlist n) (library : IsWellFormed n.library) (passed : refusal n config ≡ None) where
   abbrev ports : Ports
@@ -217,7 +221,7 @@ module _ (n : Netlist) (config : Config) (rank : ℕ → ℕ) (order : IsOrdered
       let roles : (shape_of n.library x.cell).roles ≡ role.Input ∷ role.Output ∷ [] = turn_roles n.library library (length n.nets) x.name x.cell x.pins turns (sound.instances gate.number x gate.at) (ap turn_of_kind gate.kind ∙ turn) in
       let own : inputs_of gate.number (connections_from 0 (role.Input ∷ role.Output ∷ []) x.pins) ≡ inputs = ap (λ (rs : List Role). inputs_of gate.number (connections_from 0 rs x.pins)) (sym roles) ∙ gate.reads in
       let one : inputs ≡ Net k ∷ [] = sym own ∙ one_read gate.number k x.pins (subst (λ (s : List Source). Has (nets_of s) k) (sym own) has) in
-      passed_on n config rank net k (turned turns) order (λ port inverted rooted. ThroughGate {kind = a} {source = Net k} {turns = turns} (is ∙ ap (λ (s : List Source). drivers.Gate a s) one) turn rooted)
+      passed_on n config rank net k (turned turns) order (λ port inverted rooted. clock_gate n net a (Net k) turns port inverted (is ∙ ap (λ (s : List Source). drivers.Gate a s) one) turn rooted)
 
   read_clear : (net k : ℕ) (a : GateKind) (inputs : List Source) → is_clear n config net ≡ true → driver n net ≡ drivers.Gate a inputs → Has (nets_of inputs) k → is_clear n config k ≡ true
   read_clear net k a inputs clear is has = elim (data_or_turn a) [
@@ -230,7 +234,7 @@ module _ (n : Netlist) (config : Config) (rank : ℕ → ℕ) (order : IsOrdered
 
   source_clear : (net : ℕ) (source : Source) → is_clear n config net ≡ true → driver n net ≡ drivers.Joined source → AllIn (is_clear n config) (nets_of (source ∷ []))
   source_clear net (Net k) clear is =
-      (not_of (shows n config k) (λ here. not_itself (shows n config net) clear (passed_on n config rank net k (λ i. i) order (λ port inverted rooted. ThroughJoin {source = Net k} is rooted) here)), tt)
+      (not_of (shows n config k) (λ here. not_itself (shows n config net) clear (passed_on n config rank net k (λ i. i) order (λ port inverted rooted. clock_join n net (Net k) port inverted is rooted) here)), tt)
   source_clear net (Tied bit) clear is = tt
   source_clear net (Loose i pin) clear is = tt
 
@@ -255,13 +259,20 @@ module _ (n : Netlist) (config : Config) (rank : ℕ → ℕ) (order : IsOrdered
   din_clear i (Some (Tied bit)) flop is = tt
   din_clear i (Some (Loose j pin)) flop is = tt
 
-  by_flop : (i : ℕ) (o : Option Cell) → flip_flop n ports i ≡ o → is_some o ≡ true → AllIn (is_clear n config) (nets_of ((l.cell i).input ∷ []))
+  -- none has scan pins yet
+  none_scans : (i : ℕ) (o : Option Instance) → slice_get n.instances i ≡ o → is_flip_flop (kind_of n.library o) ≡ true → pin_of role.ScanEnable i (pins_at n.library o) ≡ None
+  none_scans i None at flop = refl
+  none_scans i (Some x) at flop = no_pin role.ScanEnable i 0 (shape_of n.library x.cell).roles x.pins (ref_no_role n.library x.cell library (passed_plain n config i x sound passed at) flop)
+
+  by_flop : (i : ℕ) (o : Option Cell) → flip_flop n ports i ≡ o → is_some o ≡ true → AllIn (is_clear n config) (nets_of (taken_from (l.cell i).takes))
   by_flop i None at is = absurd cc
   by_flop i (Some c) at is =
-      let own = cell_input n ports i (is_flip_flop (kind_at n i)) c at in
-      let input : (l.cell i).input ≡ or_loose i (pin_of role.Din i (pins_of n i)) = ap (λ (k : Cell). k.input) (flop_cell n ports i c at) ∙ own.1 in
-      subst (λ (s : Source). AllIn (is_clear n config) (nets_of (s ∷ []))) (sym input) (din_clear i (pin_of role.Din i (pins_of n i)) own.0 refl)
+      let own = cell_takes n ports i (is_flip_flop (kind_at n i)) c at in
+      let source : Source = or_loose i (pin_of role.Din i (pins_of n i)) in
+      let none : (takes_of i (pins_of n i)).scan ≡ None = ap (λ o. scan_of o (pin_of role.ScanIn i (pins_of n i))) (none_scans i (slice_get n.instances i) refl own.0) in
+      let takes : (l.cell i).takes ≡ plain source = ap (λ (k : Cell). k.takes) (flop_cell n ports i c at) ∙ own.1 ∙ (λ t. record { input = source; scan = none t }) in
+      subst (λ (t : Takes Source). AllIn (is_clear n config) (nets_of (taken_from t))) (sym takes) (din_clear i (pin_of role.Din i (pins_of n i)) own.0 refl)
 
   -- no clock reaches what a flip-flop takes
-  pub inputs_clear : (i : ℕ) → is_some (flip_flop n ports i) ≡ true → AllIn (is_clear n config) (nets_of ((l.cell i).input ∷ []))
+  pub inputs_clear : (i : ℕ) → is_some (flip_flop n ports i) ≡ true → AllIn (is_clear n config) (nets_of (taken_from (l.cell i).takes))
   inputs_clear i is = by_flop i (flip_flop n ports i) refl is

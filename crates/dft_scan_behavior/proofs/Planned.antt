@@ -5,7 +5,8 @@ use Rattle.std.proofs.lemmas.Option.{none-some, same_Some}
 use Rattle.dft_cells.specs.declared.kind.Role.TheVariants.{Din, Reset, Preset, ScanIn, ScanEnable}
 use Rattle.dft_cells.specs.declared.cell.Cell as library_cells
 use Rattle.dft_cells.specs.declared.cell.CellId.{CellId}
-use Rattle.dft_cells.specs.FlipFlops.{is_flip_flop}
+use Rattle.dft_cells.specs.FlipFlops.{is_flip_flop, Scan, Takes, Forces}
+use Rattle.dft_cells.proofs.TakesLemmas.{taken_on}
 use Rattle.dft_netlist.specs.declared.ids.NetId.{NetId}
 use Rattle.dft_netlist.specs.declared.ids.InstanceId.{InstanceId}
 use Rattle.dft_netlist.specs.declared.instance.CellRef.TheVariants.{Library}
@@ -13,10 +14,10 @@ use Rattle.dft_netlist.specs.declared.instance.Signal.{Signal}
 use Rattle.dft_netlist.specs.declared.instance.Signal.TheVariants as signal
 use Rattle.dft_netlist.specs.declared.instance.Instance.{Instance}
 use Rattle.dft_netlist.specs.Netlist.{Netlist}
-use Rattle.dft_netlist.specs.Drivers.{Source, Net, Shape, Flop, connections_from, inputs_of, driven_by, driver, kind_of, kind_at, pins_at, pins_of, shape_of}
+use Rattle.dft_netlist.specs.Drivers.{Source, Net, Loose, Connection, Shape, Flop, connections_from, inputs_of, driven_by, driver, kind_of, kind_at, pins_at, pins_of, shape_of}
 use Rattle.dft_behavior.specs.ClockRoots.{ClockRoot}
 use Rattle.dft_netlist.specs.Connections.{pin_of}
-use Rattle.dft_behavior.specs.Logic.{Ports, Force, Scan, Cell, or_loose, forcing, scan_of, modelled, modelled_of, flip_flop, logic_of}
+use Rattle.dft_behavior.specs.Logic.{Ports, Cell, or_loose, forcing, scan_of, takes_of, forces_of, plain, modelled, modelled_of, flip_flop, logic_of}
 use Rattle.dft_behavior.proofs.StoredLemmas.{flop_cell}
 use Rattle.dft_config.specs.Config.{Config}
 use Rattle.dft_rules.specs.declared.judged.Judged.TheVariants.{Scanned}
@@ -27,7 +28,7 @@ use Rattle.dft_rules.proofs.ClockedFlops.{IsClocked, clocked, clock_is, scanned_
 use Rattle.dft_stitch.specs.Chains.{plan_of}
 use Rattle.dft_stitch.specs.Plans.{cell_at}
 use Rattle.dft_chains.specs.ScanOff.{Places, KeepsFlop}
-use Rattle.dft_chains.specs.Hardware.{ActsByPort, IsScanCell}
+use Rattle.dft_chains.specs.Hardware.{ActByPorts, TakesOn, IsScanCell}
 use Rattle.dft_parts.proofs.Growing.{parts_grow}
 use Rattle.dft_parts.proofs.Standing.{instance_drives}
 use Rattle.dft_scan_frame.specs.Moves.{at_net, moved_signal}
@@ -74,10 +75,10 @@ pub record IsPlanned (style : Style) (n : Netlist) (config : Config) (i : ℕ) :
   pub drives : (net : NetId) → slice_get (now_pins style n config i instance id) shape.output ≡ Some (signal.Net net) → driver (scanned style n config) net.0 ≡ Flop i false
   pub flop : Cell
   pub is : flip_flop (scanned style n config) (ports_in style n config) i ≡ Some flop
-  pub scan : flop.scan ≡ scan_of (pin_of ScanEnable i (pins_of (scanned style n config) i)) (pin_of ScanIn i (pins_of (scanned style n config) i))
+  pub takes : flop.takes ≡ takes_of i (pins_of (scanned style n config) i)
   pub on : flop.domain ≡ clock.net
   pub edge : flop.falling ≡ falling
-  pub acts : ActsByPort (ports_in style n config) flop.force
+  pub act : ActByPorts (ports_in style n config) flop.forces
 
 -- ---- how it comes about
 
@@ -98,14 +99,13 @@ if_some : (b : Bool) (o : Option Cell) (c : Cell) → (if b then o else None) �
 if_some true o c e = e
 if_some false o c e = absurd (none-some c e)
 
-modelled_scan : (domain : Option ClockRoot) (force : Option (Option Force)) (input : Source) (scan : Option Scan) (c : Cell) → modelled domain force input scan ≡ Some c → c.scan ≡ scan
-modelled_scan None force input scan c e = absurd (none-some c e)
-modelled_scan (Some d) None input scan c e = absurd (none-some c e)
-modelled_scan (Some d) (Some f) input scan c e = ap (λ (z : Cell). z.scan) (sym (same_Some (record { domain = d.port; falling = d.inverted; input = input; scan = scan; force = f }) c e))
+modelled_takes : (domain : Option ClockRoot) (forces : Option (Forces ℕ)) (takes : Takes Source) (c : Cell) → modelled domain forces takes ≡ Some c → c.takes ≡ takes
+modelled_takes None forces takes c e = absurd (none-some c e)
+modelled_takes (Some d) None takes c e = absurd (none-some c e)
+modelled_takes (Some d) (Some f) takes c e = ap (λ (z : Cell). z.takes) (sym (same_Some (record { domain = d.port; falling = d.inverted; takes = takes; forces = f }) c e))
 
-acts_alike : (p q : Ports) (force : Option Force) → q.is_reset ≡ p.is_reset → ActsByPort p force → ActsByPort q force
-acts_alike p q None e h = tt
-acts_alike p q (Some f) e h = ap (λ (is_reset : ℕ → Bool). is_reset f.port) e ∙ h
+act_alike : (p q : Ports) (forces : Forces ℕ) → q.is_reset ≡ p.is_reset → ActByPorts p forces → ActByPorts q forces
+act_alike p q forces e act port has = ap (λ (is_reset : ℕ → Bool). is_reset port) e ∙ act port has
 
 -- the scan cell in place of a scanned flip-flop
 record StandsIn (style : Style) (n : Netlist) (config : Config) (i : ℕ) (x : Instance) : Type 0 where
@@ -130,29 +130,27 @@ stands_in style n config i x ready at on =
 record IsModelled (style : Style) (n : Netlist) (config : Config) (i : ℕ) (net : ℕ) (falling : Bool) : Type 0 where
   pub flop : Cell
   pub is : flip_flop (scanned style n config) (ports_in style n config) i ≡ Some flop
-  pub scan : flop.scan ≡ scan_of (pin_of ScanEnable i (pins_of (scanned style n config) i)) (pin_of ScanIn i (pins_of (scanned style n config) i))
+  pub takes : flop.takes ≡ takes_of i (pins_of (scanned style n config) i)
   pub on : flop.domain ≡ net
   pub edge : flop.falling ≡ falling
-  pub acts : ActsByPort (ports_in style n config) flop.force
+  pub act : ActByPorts (ports_in style n config) flop.forces
 
 modelled_in : (style : Style) (n : Netlist) (config : Config) (i : ℕ) (x : Instance) (it : IsScannedFlop n config i) (clock : IsClocked n config i it.domain it.falling) → IsReady n config → slice_get n.instances i ≡ Some x → IsModelled style n config i clock.net it.falling
 modelled_in style n config i x it clock ready at =
     let p : Ports = config_ports n config in
     let q : Ports = ports_in style n config in
     let w : Netlist = scanned style n config in
-    let force : ActsBy style n config (forcing n p (pin_of Reset i (pins_of n i)) (pin_of Preset i (pins_of n i))) = acts_pins style n config (pin_of Reset i (pins_of n i)) (pin_of Preset i (pins_of n i)) ready it.passed.is_held in
-    let input : Source = or_loose i (pin_of Din i (pins_of n i)) in
-    let scan : Option Scan = scan_of (pin_of ScanEnable i (pins_of n i)) (pin_of ScanIn i (pins_of n i)) in
-    let old : flip_flop n p i ≡ Some (record { domain = clock.net; falling = it.falling; input = input; scan = scan; force = force.force }) =
-    scanned_flop n config i it.domain it.falling force.force it.kind clock force.is in
-    let new = matched_new (places_in style n config) (flip_flop n p i) (flip_flop w q i) (record { domain = clock.net; falling = it.falling; input = input; scan = scan; force = force.force }) old (instance_matched style n config ready (spared style n config ready) i x at) in
+    let forces : ActsBy style n config (forcing n p (forces_of i (pins_of n i))) = acts_pins style n config (forces_of i (pins_of n i)) ready it.passed.is_held in
+    let was : Cell = record { domain = clock.net; falling = it.falling; takes = takes_of i (pins_of n i); forces = forces.forces } in
+    let old : flip_flop n p i ≡ Some was = scanned_flop n config i it.domain it.falling forces.forces it.kind clock forces.is in
+    let new = matched_new (places_in style n config) (flip_flop n p i) (flip_flop w q i) was old (instance_matched style n config ready (spared style n config ready) i x at) in
     record {
       flop = new.0;
       is = new.1;
-      scan = modelled_scan _ _ _ _ new.0 (if_some (is_flip_flop (kind_at w i)) (modelled_of w q i (pins_of w i)) new.0 new.1);
+      takes = modelled_takes _ _ _ new.0 (if_some (is_flip_flop (kind_at w i)) (modelled_of w q i (pins_of w i)) new.0 new.1);
       on = new.2.domain ∙ port_stays style n config i it.domain it.falling ready clock;
       edge = new.2.falling;
-      acts = acts_alike p q new.0.force (ports_alike style n config).resets (subst (ActsByPort p) (sym new.2.force) force.acts);
+      act = act_alike p q new.0.forces (ports_alike style n config).resets (subst (ActByPorts p) (sym new.2.forces) forces.act);
     }
 
 pub planned : (style : Style) (n : Netlist) (config : Config) (chain place : ℕ) (cell : InstanceId) → IsReady n config → cell_at (plan_of n config).chains chain place ≡ Some cell → IsPlanned style n config cell.0
@@ -189,10 +187,10 @@ planned style n config chain place cell ready stands =
           );
       flop = its.flop;
       is = its.is;
-      scan = its.scan;
+      takes = its.takes;
       on = its.on;
       edge = its.edge;
-      acts = its.acts;
+      act = its.act;
     }
 
 -- ---- its pins
@@ -214,6 +212,10 @@ enable_source style n config i s =
 
 -- ---- the scan cell
 
+-- what has scan pins is not plain
+plain_not : (takes : Takes Source) (scan : Scan Source) → takes.scan ≡ Some scan → (source : Source) → takes ≡ plain source → ⊥
+plain_not takes scan has source is = none-some scan (sym (ap (λ (t : Takes Source). t.scan) is) ∙ has)
+
 pub flop_is : (style : Style) (n : Netlist) (config : Config) (i : ℕ) (s : IsPlanned style n config i) → (logic_of (scanned style n config) (ports_in style n config)).cell i ≡ s.flop
 flop_is style n config i s = flop_cell (scanned style n config) (ports_in style n config) i s.flop s.is
 
@@ -230,10 +232,16 @@ scan_cell style n config cell s net ready joined =
     let q : Ports = ports_in style n config in
     let same = flop_is style n config cell.0 s in
     let pin = pin_source style n config cell.0 s net joined in
+    let pins : List Connection = pins_of (scanned style n config) cell.0 in
+    let scan : Scan Source = record { enable = Net (gap_in style n config).before; input = taken_by (scanned style n config) (Some cell) } in
+    let takes : ((logic_of (scanned style n config) q).cell cell.0).takes ≡ takes_of cell.0 pins = ap (λ (c : Cell). c.takes) same ∙ s.takes in
+    let enabled : (takes_of cell.0 pins).scan ≡ Some scan =
+    ap (λ o. scan_of o (pin_of ScanIn cell.0 pins)) (enable_source style n config cell.0 s) ∙ ap (λ o. scan_of (Some (Net (gap_in style n config).before)) o) pin
+    ∙ ap (λ o. Some (record { enable = Net (gap_in style n config).before; input = or_loose cell.0 o })) (sym pin) in
+    let clocked : q.is_clock ((logic_of (scanned style n config) q).cell cell.0).domain ≡ true = ap (λ (c : Cell). q.is_clock c.domain) same ∙ ap q.is_clock s.on ∙ clock_in style n config cell.0 s.domain s.falling ready s.clock in
     record {
-      scan = ap (λ (c : Cell). c.scan) same ∙ s.scan ∙ ap (λ o. scan_of o (pin_of ScanIn cell.0 (pins_of (scanned style n config) cell.0))) (enable_source style n config cell.0 s)
-          ∙ ap (λ o. scan_of (Some (Net (gap_in style n config).before)) o) pin
-          ∙ ap (λ o. Some (record { enable = Net (gap_in style n config).before; input = or_loose cell.0 o })) (sym pin);
-      domain = ap (λ (c : Cell). q.is_clock c.domain) same ∙ ap q.is_clock s.on ∙ clock_in style n config cell.0 s.domain s.falling ready s.clock;
-      force = subst (λ (c : Cell). ActsByPort q c.force) (sym same) s.acts;
+      takes = subst (TakesOn (gap_in style n config).before scan.input) (sym takes) (λ own values on. taken_on (takes_of cell.0 pins) scan own values enabled on);
+      modelled = λ none. plain_not (takes_of cell.0 pins) scan enabled (Loose cell.0 0) (sym takes ∙ ap (λ (c : Cell). c.takes) none);
+      domain = clocked;
+      forces = subst (λ (c : Cell). ActByPorts q c.forces) (sym same) s.act;
     }

@@ -1,9 +1,10 @@
 -- A scanned netlist contains its design: each net means the same, and each flip-flop is kept.
-use Rattle.std.proofs.Common.{ℕ, zero, suc, ◌≡◌, ◌<◌, Bool, true, false, List, ◌∷◌, map, Option, None, Some, option_map, refl, sym, subst, ap, ◌∙◌, []}
+use Rattle.std.proofs.Common.{ℕ, zero, suc, ◌≡◌, ◌<◌, Bool, true, false, List, ◌∷◌, map, inl, inr, Option, None, Some, option_map, refl, sym, subst, ap, ◌∙◌, []}
 use Rattle.std.specs.Prelude.{if◌then◌else◌}
 use Rattle.std.proofs.lemmas.Option.{none-some, same_Some}
 use Rattle.dft_cells.specs.declared.kind.Role.{Role}
 use Rattle.dft_cells.specs.declared.kind.Role.TheVariants as role
+use Rattle.dft_cells.specs.FlipFlops.{Takes, Forces, moved_forces}
 use Rattle.dft_netlist.specs.declared.instance.Signal.{Signal}
 use Rattle.dft_netlist.specs.declared.instance.Signal.TheVariants as signal
 use Rattle.dft_netlist.specs.Netlist.{Netlist}
@@ -12,11 +13,12 @@ use Rattle.dft_netlist.specs.Drivers.{Source, Connection, connections_from, sour
 use Rattle.dft_behavior.specs.Traces.{Root, Port, Constant, Other, root_of}
 use Rattle.dft_behavior.specs.ClockRoots.{ClockRoot, clock_root_of}
 use Rattle.dft_netlist.specs.Connections.{same_role, pin_of}
-use Rattle.dft_behavior.specs.Logic.{Ports, Force, Scan, Cell, or_loose, domain_of, domain_at, force_of, forcing, scan_of, modelled, modelled_of}
+use Rattle.dft_behavior.specs.Logic.{Ports, Cell, or_loose, domain_of, domain_at, force_of, force_at, both_forces, forcing, scan_of, takes_of, forces_of, modelled, modelled_of}
+use Rattle.dft_behavior.proofs.StoredLemmas.{both_parts}
 use Rattle.dft_scan_frame.specs.Moves.{Gap, moved, moved_signal}
-use Rattle.dft_chains.specs.ScanOff.{moved_source, moved_force, IsWithin, IsForceWithin, IsEnabledBy, Places, KeepsFlop}
-use Rattle.dft_scan_frame.proofs.MovedRoots.{moved_root}
-use Rattle.dft_scan_frame.proofs.MovedClocks.{moved_clock}
+use Rattle.dft_chains.specs.ScanOff.{moved_source, IsWithin, AreForcesWithin, IsEnabledBy, Places, KeepsFlop}
+use Rattle.dft_chains.proofs.ScanOffLemmas.{pins_keep}
+use Rattle.dft_scan_frame.proofs.MovedRoots.{moved_root, moved_clock}
 use Rattle.dft_scan_frame.proofs.Mergings as mergings
 
 -- ---- domains, resets and sets
@@ -30,27 +32,26 @@ domain_moved : (f : ℕ → ℕ) (ports : Ports) (o : Option ClockRoot) → ((cl
 domain_moved f ports None stays = refl
 domain_moved f ports (Some clock) stays = ap (λ k. if ports.is_clock k then Some (moved_clock f clock) else None) (stays clock refl) ∙ domain_choice f clock (ports.is_clock clock.port)
 
-force_choice : (f : ℕ → ℕ) (value : Bool) (net : ℕ) (b : Bool) → ◌≡◌ {A = Option (Option Force)} (if b then Some (Some (record { port = f net; value = value })) else None) (option_map (moved_force f) (if b then Some (Some (record { port = net; value = value })) else None))
-force_choice f value net true = refl
-force_choice f value net false = refl
+force_choice : (f : ℕ → ℕ) (net : ℕ) (b : Bool) → ◌≡◌ {A = Option (Option ℕ)} (if b then Some (Some (f net)) else None) (option_map (option_map f) (if b then Some (Some net) else None))
+force_choice f net true = refl
+force_choice f net false = refl
 
-force_moved : (f : ℕ → ℕ) (ports : Ports) (value : Bool) (r : Root) → ((net : ℕ) → r ≡ Port net → f net ≡ net) → force_of ports value (moved_root f r) ≡ option_map (moved_force f) (force_of ports value r)
-force_moved f ports value (Port net) stays =
-    ap (λ k. if ports.is_reset k then Some (Some (record { port = f net; value = value })) else None) (stays net refl) ∙ force_choice f value net (ports.is_reset net)
-force_moved f ports value (Constant true) stays = refl
-force_moved f ports value (Constant false) stays = refl
-force_moved f ports value Other stays = refl
+force_moved : (f : ℕ → ℕ) (ports : Ports) (r : Root) → ((net : ℕ) → r ≡ Port net → f net ≡ net) → force_of ports (moved_root f r) ≡ option_map (option_map f) (force_of ports r)
+force_moved f ports (Port net) stays = ap (λ k. if ports.is_reset k then Some (Some (f net)) else None) (stays net refl) ∙ force_choice f net (ports.is_reset net)
+force_moved f ports (Constant true) stays = refl
+force_moved f ports (Constant false) stays = refl
+force_moved f ports Other stays = refl
 
-force_by : (b value : Bool) (net size : ℕ) (force : Option Force) → net < size → (if b then Some (Some (record { port = net; value = value })) else None) ≡ Some force → IsForceWithin size force
-force_by true value net size force less e = subst (IsForceWithin size) (same_Some (Some (record { port = net; value = value })) force e) less
-force_by false value net size force less e = absurd (none-some force e)
+force_by : (b : Bool) (net port size : ℕ) → net < size → ◌≡◌ {A = Option (Option ℕ)} (if b then Some (Some net) else None) (Some (Some port)) → port < size
+force_by true net port size less e = subst (λ (k : ℕ). k < size) (same_Some net port (same_Some (Some net) (Some port) e)) less
+force_by false net port size less e = absurd (none-some (Some port) e)
 
 -- a reset or set has a port among the first nets
-force_inside : (ports : Ports) (value : Bool) (size : ℕ) (r : Root) (force : Option Force) → ((net : ℕ) → r ≡ Port net → net < size) → force_of ports value r ≡ Some force → IsForceWithin size force
-force_inside ports value size (Port net) force inside e = force_by (ports.is_reset net) value net size force (inside net refl) e
-force_inside ports value size (Constant true) force inside e = subst (IsForceWithin size) (same_Some None force e) tt
-force_inside ports value size (Constant false) force inside e = absurd (none-some force e)
-force_inside ports value size Other force inside e = absurd (none-some force e)
+force_inside : (ports : Ports) (size port : ℕ) (r : Root) → ((net : ℕ) → r ≡ Port net → net < size) → force_of ports r ≡ Some (Some port) → port < size
+force_inside ports size port (Port net) inside e = force_by (ports.is_reset net) net port size (inside net refl) e
+force_inside ports size port (Constant true) inside e = absurd (none-some port (same_Some None (Some port) e))
+force_inside ports size port (Constant false) inside e = absurd (none-some (Some port) e)
+force_inside ports size port Other inside e = absurd (none-some (Some port) e)
 
 -- ---- the flip-flop of an instance
 
@@ -78,19 +79,27 @@ domain_kept : (n w : Netlist) (f : ℕ → ℕ) (size : ℕ) (ports : Ports) (o 
 domain_kept n w f size ports None kept inside = refl
 domain_kept n w f size ports (Some source) kept inside = ap (domain_of ports) (kept.clocks source inside) ∙ domain_moved f ports (clock_root_of n source) (λ clock is. kept.clock_stays source clock is)
 
-force_kept : (n w : Netlist) (f : ℕ → ℕ) (size : ℕ) (ports : Ports) (value : Bool) (source : Source) → RootsKept n w f size → IsWithin size source → force_of ports value (root_of w (moved_source f source)) ≡ option_map (moved_force f) (force_of ports value (root_of n source))
-force_kept n w f size ports value source kept inside = ap (force_of ports value) (kept.roots source inside) ∙ force_moved f ports value (root_of n source) (λ net is. kept.stays source net is)
+force_kept : (n w : Netlist) (f : ℕ → ℕ) (size : ℕ) (ports : Ports) (pin : Option Source) → RootsKept n w f size → IsPinWithin size pin → force_at w ports (option_map (moved_source f) pin) ≡ option_map (option_map f) (force_at n ports pin)
+force_kept n w f size ports None kept inside = refl
+force_kept n w f size ports (Some source) kept inside = ap (force_of ports) (kept.roots source inside) ∙ force_moved f ports (root_of n source) (λ net is. kept.stays source net is)
 
-forcing_kept : (n w : Netlist) (f : ℕ → ℕ) (size : ℕ) (ports : Ports) (reset preset : Option Source) → RootsKept n w f size → IsPinWithin size reset → IsPinWithin size preset →
-    forcing w ports (option_map (moved_source f) reset) (option_map (moved_source f) preset) ≡ option_map (moved_force f) (forcing n ports reset preset)
-forcing_kept n w f size ports (Some reset) preset kept a b = force_kept n w f size ports false reset kept a
-forcing_kept n w f size ports None (Some preset) kept a b = force_kept n w f size ports true preset kept b
-forcing_kept n w f size ports None None kept a b = refl
+both_moved : (f : ℕ → ℕ) (clear preset : Option (Option ℕ)) → both_forces (option_map (option_map f) clear) (option_map (option_map f) preset) ≡ option_map (moved_forces f) (both_forces clear preset)
+both_moved f (Some clear) (Some preset) = refl
+both_moved f (Some clear) None = refl
+both_moved f None preset = refl
 
-forcing_inside : (n w : Netlist) (f : ℕ → ℕ) (size : ℕ) (ports : Ports) (reset preset : Option Source) (force : Option Force) → RootsKept n w f size → forcing n ports reset preset ≡ Some force → IsForceWithin size force
-forcing_inside n w f size ports (Some reset) preset force kept e = force_inside ports false size (root_of n reset) force (λ net is. kept.inside reset net is) e
-forcing_inside n w f size ports None (Some preset) force kept e = force_inside ports true size (root_of n preset) force (λ net is. kept.inside preset net is) e
-forcing_inside n w f size ports None None force kept e = subst (IsForceWithin size) (same_Some None force e) tt
+forcing_kept : (n w : Netlist) (f : ℕ → ℕ) (size : ℕ) (ports : Ports) (pins : Forces Source) → RootsKept n w f size → IsPinWithin size pins.clear → IsPinWithin size pins.preset →
+    forcing w ports (moved_forces (moved_source f) pins) ≡ option_map (moved_forces f) (forcing n ports pins)
+forcing_kept n w f size ports pins kept a b =
+    (λ t. both_forces (force_kept n w f size ports pins.clear kept a t) (force_kept n w f size ports pins.preset kept b t)) ∙ both_moved f (force_at n ports pins.clear) (force_at n ports pins.preset)
+
+force_pin_inside : (n w : Netlist) (f : ℕ → ℕ) (size port : ℕ) (ports : Ports) (pin : Option Source) → RootsKept n w f size → force_at n ports pin ≡ Some (Some port) → port < size
+force_pin_inside n w f size port ports None kept e = absurd (none-some port (same_Some None (Some port) e))
+force_pin_inside n w f size port ports (Some source) kept e = force_inside ports size port (root_of n source) (λ net is. kept.inside source net is) e
+
+forcing_inside : (n w : Netlist) (f : ℕ → ℕ) (size : ℕ) (ports : Ports) (pins : Forces Source) (forces : Forces ℕ) → RootsKept n w f size → forcing n ports pins ≡ Some forces → AreForcesWithin size forces
+forcing_inside n w f size ports pins forces kept e port (inl is) = force_pin_inside n w f size port ports pins.clear kept ((both_parts (force_at n ports pins.clear) (force_at n ports pins.preset) forces e).0 ∙ ap Some is)
+forcing_inside n w f size ports pins forces kept e port (inr is) = force_pin_inside n w f size port ports pins.preset kept ((both_parts (force_at n ports pins.clear) (force_at n ports pins.preset) forces e).1 ∙ ap Some is)
 
 data_kept : (f : ℕ → ℕ) (i : ℕ) (o : Option Source) → or_loose i (option_map (moved_source f) o) ≡ moved_source f (or_loose i o)
 data_kept f i None = refl
@@ -107,41 +116,38 @@ AreMatched p (Some old) (Some new) = KeepsFlop p old new
 AreMatched p None (Some new) = ⊥
 AreMatched p (Some old) None = ⊥
 
-match_by : (p : Places) (domain : Option ClockRoot) (force : Option (Option Force)) (input : Source) (old new : Option Scan) → old ≡ None → IsEnabledBy p.enable new → IsWithin p.size input → ((x : Option Force) → force ≡ Some x → IsForceWithin p.size x) →
-    AreMatched p (modelled domain force input old) (modelled (option_map (moved_clock p.moved) domain) (option_map (moved_force p.moved) force) (moved_source p.moved input) new)
-match_by p None force input old new plain enabled inside within = tt
-match_by p (Some d) None input old new plain enabled inside within = tt
-match_by p (Some d) (Some x) input old new plain enabled inside within = record {
+match_by : (p : Places) (domain : Option ClockRoot) (forces : Option (Forces ℕ)) (old new : Takes Source) → old.scan ≡ None → IsEnabledBy p.enable new.scan → new.input ≡ moved_source p.moved old.input → IsWithin p.size old.input →
+    ((x : Forces ℕ) → forces ≡ Some x → AreForcesWithin p.size x) → AreMatched p (modelled domain forces old) (modelled (option_map (moved_clock p.moved) domain) (option_map (moved_forces p.moved) forces) new)
+match_by p None forces old new plain enabled input inside within = tt
+match_by p (Some d) None old new plain enabled input inside within = tt
+match_by p (Some d) (Some x) old new plain enabled input inside within = pins_keep p _ _ (record {
   plain = plain;
   domain = refl;
   falling = refl;
-  input = refl;
+  input = input;
   input_within = inside;
-  force = refl;
-  force_within = within x refl;
+  forces = refl;
+  forces_within = within x refl;
   scan = enabled;
-}
+})
 
-same_modelled : (w : Netlist) (ports : Ports) (i : ℕ) (new : List Connection) (domain : Option ClockRoot) (force : Option (Option Force)) (input : Source) →
-    domain_at w ports (pin_of role.Clock i new) ≡ domain → forcing w ports (pin_of role.Reset i new) (pin_of role.Preset i new) ≡ force → or_loose i (pin_of role.Din i new) ≡ input →
-    modelled_of w ports i new ≡ modelled domain force input (scan_of (pin_of role.ScanEnable i new) (pin_of role.ScanIn i new))
-same_modelled w ports i new domain force input a b c = rw (a, b, c) refl
+same_modelled : (w : Netlist) (ports : Ports) (i : ℕ) (new : List Connection) (domain : Option ClockRoot) (forces : Option (Forces ℕ)) →
+    domain_at w ports (pin_of role.Clock i new) ≡ domain → forcing w ports (forces_of i new) ≡ forces → modelled_of w ports i new ≡ modelled domain forces (takes_of i new)
+same_modelled w ports i new domain forces a b = rw (a, b) refl
 
 -- an instance with these pins is kept
 pub modelled_kept : (n w : Netlist) (ports : Ports) (p : Places) (i : ℕ) (old new : List Connection) → RootsKept n w p.moved p.size → SamePins p.moved i old new →
     IsPinWithin p.size (pin_of role.Clock i old) → IsPinWithin p.size (pin_of role.Din i old) → IsPinWithin p.size (pin_of role.Reset i old) → IsPinWithin p.size (pin_of role.Preset i old) →
     pin_of role.ScanEnable i old ≡ None → IsEnabledBy p.enable (scan_of (pin_of role.ScanEnable i new) (pin_of role.ScanIn i new)) → AreMatched p (modelled_of n ports i old) (modelled_of w ports i new)
 modelled_kept n w ports p i old new kept same clock data_in reset preset no_scan enabled =
+    let pins : forces_of i new ≡ moved_forces (moved_source p.moved) (forces_of i old) = λ t. record { clear = same.reset t; preset = same.preset t } in
     subst (AreMatched p (modelled_of n ports i old))
-    (sym (same_modelled w ports i new (option_map (moved_clock p.moved) (domain_at n ports (pin_of role.Clock i old))) (option_map (moved_force p.moved) (forcing n ports (pin_of role.Reset i old) (pin_of role.Preset i old))) (moved_source p.moved (or_loose i (pin_of role.Din i old)))
+    (sym (same_modelled w ports i new (option_map (moved_clock p.moved) (domain_at n ports (pin_of role.Clock i old))) (option_map (moved_forces p.moved) (forcing n ports (forces_of i old)))
     (ap (domain_at w ports) same.clock ∙ domain_kept n w p.moved p.size ports (pin_of role.Clock i old) kept clock)
-    (ap (λ o. forcing w ports o (pin_of role.Preset i new)) same.reset ∙ ap (forcing w ports (option_map (moved_source p.moved) (pin_of role.Reset i old))) same.preset
-    ∙ forcing_kept n w p.moved p.size ports (pin_of role.Reset i old) (pin_of role.Preset i old) kept reset preset)
-    (ap (or_loose i) same.data_in ∙ data_kept p.moved i (pin_of role.Din i old))))
-    (match_by p (domain_at n ports (pin_of role.Clock i old)) (forcing n ports (pin_of role.Reset i old) (pin_of role.Preset i old)) (or_loose i (pin_of role.Din i old))
-    (scan_of (pin_of role.ScanEnable i old) (pin_of role.ScanIn i old)) (scan_of (pin_of role.ScanEnable i new) (pin_of role.ScanIn i new))
-    (ap (λ o. scan_of o (pin_of role.ScanIn i old)) no_scan) enabled (data_inside p.size i (pin_of role.Din i old) data_in)
-    (λ x is. forcing_inside n w p.moved p.size ports (pin_of role.Reset i old) (pin_of role.Preset i old) x kept is))
+    (ap (forcing w ports) pins ∙ forcing_kept n w p.moved p.size ports (forces_of i old) kept reset preset)))
+    (match_by p (domain_at n ports (pin_of role.Clock i old)) (forcing n ports (forces_of i old)) (takes_of i old) (takes_of i new)
+    (ap (λ o. scan_of o (pin_of role.ScanIn i old)) no_scan) enabled (ap (or_loose i) same.data_in ∙ data_kept p.moved i (pin_of role.Din i old)) (data_inside p.size i (pin_of role.Din i old) data_in)
+    (λ x is. forcing_inside n w p.moved p.size ports (forces_of i old) x kept is))
 
 -- ---- pins are among the design's nets
 

@@ -20,13 +20,13 @@ use Rattle.dft_netlist.specs.declared.instance.CellRef.TheVariants as cell_ref
 use Rattle.dft_netlist.specs.declared.instance.Instance.{Instance}
 use Rattle.dft_netlist.specs.declared.instance.Join.{Join}
 use Rattle.dft_netlist.specs.Netlist.{Netlist}
-use Rattle.dft_netlist.specs.Sound.{bits_of, IsCellOf, is_primitive}
+use Rattle.dft_netlist.specs.Sound.{bits_of, IsCellOf, IsNetlist, is_primitive}
 use Rattle.dft_netlist.specs.Drivers.{Source, Driver, Input, Gate, Joined, Flop, Lockup, Free, Driven, Connection, driver_of_kind, at_signal, at_role, driven_by_pins, driven_by, driven_by_instances, driven_by_bits, driven_by_ports, driven_by_joins, all_driven, driver_in, driver, inputs_of, connections_of, shape_of}
 use Rattle.dft_netlist.proofs.LiveDriven.{AreBefore, before_front, before_back, nets_before}
 use Rattle.dft_config.specs.Config.{Config}
 use Rattle.dft_rules.specs.declared.error.RuleError.{RuleError}
 use Rattle.dft_rules.specs.declared.error.RuleError.TheVariants.{ScanCellPresent}
-use Rattle.dft_rules.specs.Refusals.{present_as, present, first_failing}
+use Rattle.dft_rules.specs.Refusals.{present_as, present, first_failing, refusal}
 use Rattle.dft_rules.proofs.CheckLemmas.{none_present}
 use Rattle.dft_scan_frame.specs.Statements.{IsReady}
 
@@ -69,9 +69,11 @@ each_passes library (y ∷ xs) zero x e at = subst (λ (z : Instance). present l
 each_passes library (y ∷ xs) (suc k) x e at = each_passes library xs k x (none_fails (present library y) (map (present library) xs) e).rest at
 
 -- each instance is of such a kind
+pub passed_plain : (n : Netlist) (config : Config) (i : ℕ) (instance : Instance) → IsNetlist n → refusal n config ≡ None → slice_get n.instances i ≡ Some instance → is_plain (shape_of n.library instance.cell).kind ≡ true
+passed_plain n config i instance sound passed at = plain_by n.library instance.name instance.cell (sound.instances i instance at).fits (each_passes n.library n.instances i instance (none_present n config passed) at)
+
 pub instance_plain : (n : Netlist) (config : Config) (i : ℕ) (instance : Instance) → IsReady n config → slice_get n.instances i ≡ Some instance → is_plain (shape_of n.library instance.cell).kind ≡ true
-instance_plain n config i instance ready at =
-    plain_by n.library instance.name instance.cell (ready.netlist.instances i instance at).fits (each_passes n.library n.instances i instance (none_present n config ready.passed) at)
+instance_plain n config i instance ready at = passed_plain n config i instance ready.netlist ready.passed at
 
 -- ---- drivers
 

@@ -1,5 +1,5 @@
 -- How many ports are added, and the nets of a design that are read and that are roots.
-use Rattle.std.proofs.Common.{ℕ, ◌+◌, ◌≡◌, ◌<◌, inl, inr, Some, List, ◌∷◌, length, refl, sym, subst, ap, arith, ◌∙◌, []}
+use Rattle.std.proofs.Common.{ℕ, ◌+◌, ◌≡◌, ◌<◌, inl, inr, false, Some, List, ◌∷◌, length, refl, sym, subst, ap, arith, ◌∙◌, []}
 use Rattle.std.specs.List.{AllByRecursion, range_with_len}
 use Rattle.std.proofs.lemmas.List.{length-append, length-map}
 use Rattle.std.proofs.lemmas.List.FromFn.{length-range_with_len}
@@ -10,10 +10,9 @@ use Rattle.dft_netlist.specs.Netlist.{Netlist}
 use Rattle.dft_netlist.specs.Sound.{bits_of}
 use Rattle.dft_netlist.specs.Drivers.{Source, Driver, Input, driver, nets_read, AreBelow}
 use Rattle.dft_netlist.specs.Orders.{Has, reads_of, IsOrderFrom}
-use Rattle.dft_behavior.specs.Traces.{Root, Port, Traces, AtPort, AtConstant, AtTie, ThroughBuffer, ThroughJoin, root_of}
+use Rattle.dft_behavior.specs.Traces.{Port, root_of}
 use Rattle.dft_behavior.specs.ClockRoots.{ClockRoot, clock_root_of}
-use Rattle.dft_behavior.proofs.ClockWalks.{clock_found, clock_driven}
-use Rattle.dft_behavior.proofs.Walks.{port_found}
+use Rattle.dft_behavior.proofs.ClockWalks.{clock_found, clock_driven, traced_clock}
 use Rattle.dft_netlist.proofs.LiveDriven.{ports_fit}
 use Rattle.dft_config.specs.Config.{Config}
 use Rattle.dft_scan_frame.specs.AddedPorts.{new_port, numbered, numbered_ports, plain_ports}
@@ -50,17 +49,10 @@ reads_inside n config net ready less = reads_before n [] ready.order ready.order
 
 -- ---- roots
 
-pub port_driven : (n : Netlist) (net : ℕ) {source : Source} {root : Root} → Traces n source root → root ≡ Port net → driver n net ≡ Input
-port_driven n net (AtPort {net = k} is) e = let same : k ≡ net = cc in ap (driver n) (sym same) ∙ is
-port_driven n net AtConstant e = absurd cc
-port_driven n net (AtTie is passes) e = absurd cc
-port_driven n net (ThroughBuffer is passes rest) e = port_driven n net rest e
-port_driven n net (ThroughJoin is rest) e = port_driven n net rest e
-
 -- a port that is a root is one of the first nets
 pub root_among : (n : Netlist) (config : Config) (source : Source) (net : ℕ) → IsReady n config → root_of n source ≡ Port net → net < length (bits_of n.ports)
 root_among n config source net ready is =
-    let driven : driver n net ≡ Input = port_driven n net (port_found n source net is) refl in
+    let driven : driver n net ≡ Input = clock_driven n (clock_found n source (record { port = net; inverted = false }) (traced_clock n source net is)) in
     subst (λ (d : Driver). fine.FineBy n net d) driven (driver_fine n config net ready)
 
 -- a port whose clock is shown is one of the first nets

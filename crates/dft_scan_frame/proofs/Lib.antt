@@ -5,7 +5,6 @@ pub mod Carried
 pub mod Standing
 pub mod Whole
 pub mod MovedRoots
-pub mod MovedClocks
 pub mod Fine
 pub mod Kept
 pub mod Contained

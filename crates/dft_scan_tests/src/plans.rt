@@ -9,9 +9,10 @@ use dft_cells::Library;
 use dft_config::Config;
 use dft_insert::{InsertError, Style, insert};
 use dft_netlist::{Counted, Design};
+use dft_netlist_reader::read;
 use dft_rules::{Verdicts, judge};
 use dft_stitch::{Chains, StitchError, plan};
-use dft_verilog::{MAX_TEXT, read};
+use dft_verilog::MAX_TEXT;
 use std::alloc::{AllocError, Global};
 
 // How many instances are made of these texts.

@@ -11,10 +11,11 @@ use Rattle.dft_base.specs.Lexing.{Text}
 use Rattle.dft_base.proofs.BitLemmas.{or_false}
 use Rattle.dft_netlist.specs.declared.ids.NetId.{NetId}
 use Rattle.dft_netlist.specs.Netlist.{Netlist}
-use Rattle.dft_behavior.specs.declared.root.Root.{Root}
+use Rattle.dft_behavior.specs.declared.root.NetRoot.{NetRoot}
 use Rattle.dft_netlist.specs.Connections.{input_net}
 use Rattle.dft_netlist.specs.Drivers.{Net}
 use Rattle.dft_behavior.specs.RootTables.{AreRoots}
+use Rattle.dft_behavior.proofs.RootTables.{root_is}
 use Rattle.dft_config.specs.Config.{Config}
 use Rattle.dft_rules.specs.Rules.{is_net}
 use Rattle.dft_faults.specs.declared.fault.Fault.{Fault}
@@ -55,10 +56,10 @@ kept_skip f xs k d left out less no_it same before =
     same ∙ before ∙ sym (kept_more f xs k d less ∙ ap (λ (b : Bool). filter f (take k xs) ++ (if b then get_or xs k d ∷ [] else [])) no_it ∙ append-nil (filter f (take k xs)))
 
 -- the faults that are sought, by the nets of domains and resets and by the roots of all nets
-pub sought_same : (n : Netlist) (config : Config) (roots : List Root) (clocks resets : List NetId) → AreRoots n roots → ((net : ℕ) → is_clock_in clocks net ≡ is_named n config.domains net) → ((net : ℕ) → is_clock_in resets net ≡ is_named n config.resets net) →
+pub sought_same : (n : Netlist) (config : Config) (roots : List NetRoot) (clocks resets : List NetId) → AreRoots n roots → ((net : ℕ) → is_clock_in clocks net ≡ is_named n config.domains net) → ((net : ℕ) → is_clock_in resets net ≡ is_named n config.resets net) →
     filter (is_left roots resets) (faults n (is_clock_in clocks)) ≡ seek_faults n config
 sought_same n config roots clocks resets are of_clocks of_resets =
-    λ i. filter (λ (f : Fault). not (is_root_of (λ net. of_resets net i) (are.each (Net f.net.0) i))) (faults n (λ net. of_clocks net i))
+    λ i. filter (λ (f : Fault). not (is_root_of (λ net. of_resets net i) (root_is n roots are (Net f.net.0) i))) (faults n (λ net. of_clocks net i))
 
 -- what is left is another list that is the same
 pub left_are : (r : Result (Vec Fault Global) AllocError) (xs ys : List Fault) → xs ≡ ys → IfOk r (λ left. left.items ≡ xs) → IfOk r (λ left. left.items ≡ ys)

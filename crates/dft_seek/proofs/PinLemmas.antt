@@ -9,19 +9,18 @@ use Rattle.dft_base.specs.Tri.{known}
 use Rattle.dft_cells.specs.declared.cell.Cell.{Cell}
 use Rattle.dft_cells.specs.declared.kind.Role.{Role}
 use Rattle.dft_cells.specs.declared.kind.Role.TheVariants as role
-use Rattle.dft_cells.specs.FlipFlops.{tri_forced}
+use Rattle.dft_cells.specs.FlipFlops.{Scan, tri_forced, tri_forced_where, tri_scanned}
 use Rattle.dft_netlist.specs.declared.instance.Signal.{Signal}
 use Rattle.dft_netlist.specs.declared.instance.Instance.{Instance}
 use Rattle.dft_netlist.specs.Netlist.{Netlist}
 use Rattle.dft_netlist.specs.Drivers.{Source, Net, Tied, Loose, Connection, connections_from, nets_of, pins_at, pins_of, shape_of, source_of}
 use Rattle.dft_netlist.specs.Connections.{same_role, pin_of}
-use Rattle.dft_behavior.specs.Logic.{Scan, or_loose, scan_of}
+use Rattle.dft_behavior.specs.Logic.{or_loose, scan_of}
 use Rattle.dft_behavior.specs.Settled.{value_from}
-use Rattle.dft_abstract.specs.Cycle.{tri_taken_by}
 use Rattle.dft_stitch.specs.Chains.{listed}
 use Rattle.dft_faults.specs.declared.fault.Fault.{Fault}
 use Rattle.dft_faults.specs.Faulty.{faulty, loosened, loosened_pin, loosened_pins}
-use Rattle.dft_capture.specs.Captures.{forced_by_pin, next_by_pins}
+use Rattle.dft_capture.specs.Captures.{next_by_pins}
 use Rattle.dft_seek.specs.Walks.{is_among, taken_by_pins, taken_nets}
 
 -- ---- pins of a design with a stuck net
@@ -60,7 +59,7 @@ pin_stays n f r i out inv =
 -- the next value from these sources
 abbrev pub next_of : (instance : ℕ) → (reset preset enable input data_pin : Option Source) → (values : ℕ → Tri) → Tri
 next_of i reset preset enable input data_pin values =
-    forced_by_pin false reset values (forced_by_pin true preset values (tri_taken_by (scan_of enable input) (value_from values) (value_from values (or_loose i data_pin))))
+    tri_forced_where false reset (value_from values) (tri_forced_where true preset (value_from values) (tri_scanned (scan_of enable input) (value_from values) (value_from values (or_loose i data_pin))))
 
 -- a flip-flop's next value by its pins is the same function of the values in the design with a stuck net
 pub next_stays : (n : Netlist) (f : Fault) (values : ℕ → Tri) (c : ℕ) → next_by_pins (faulty n f) values c ≡ next_by_pins n values c
@@ -104,7 +103,7 @@ all_sources (Loose i pin ∷ inputs) a b same = λ t. value_from a (Loose i pin)
 
 -- ---- next values of assignments that agree at the pins
 
-forced_same : (value : Bool) (o : Option Source) (a b : ℕ → Tri) (t u : Tri) → AgreeAt (nets_of (listed o)) a b → t ≡ u → forced_by_pin value o a t ≡ forced_by_pin value o b u
+forced_same : (value : Bool) (o : Option Source) (a b : ℕ → Tri) (t u : Tri) → AgreeAt (nets_of (listed o)) a b → t ≡ u → tri_forced_where value o (value_from a) t ≡ tri_forced_where value o (value_from b) u
 forced_same value None a b t u same e = e
 forced_same value (Some pin) a b t u same e = λ x. tri_forced value (one_source pin a b same x) (e x)
 
@@ -122,11 +121,11 @@ next_same n a b c none same =
     let cut : nets_of (taken_by_pins c pins) ≡ nets_of (listed data_pin) ++ (nets_of (listed reset) ++ nets_of (listed preset)) =
     nets-append (listed data_pin) (listed reset ++ listed preset) ∙ ap (λ (nets : List ℕ). nets_of (listed data_pin) ++ nets) (nets-append (listed reset) (listed preset)) in
     let at : AgreeAt (nets_of (listed data_pin) ++ (nets_of (listed reset) ++ nets_of (listed preset))) a b = λ from is. same from (ap (is_among from) cut ∙ is) in
-    let taken : tri_taken_by None (value_from a) (value_from a (or_loose c data_pin)) ≡ tri_taken_by None (value_from b) (value_from b (or_loose c data_pin)) =
+    let taken : tri_scanned None (value_from a) (value_from a (or_loose c data_pin)) ≡ tri_scanned None (value_from b) (value_from b (or_loose c data_pin)) =
     data_same c data_pin a b (λ from is. at from (among_left from (nets_of (listed data_pin)) (nets_of (listed reset) ++ nets_of (listed preset)) is)) in
-    let scan : Option Scan = scan_of (pin_of role.ScanEnable c pins) (pin_of role.ScanIn c pins) in
-    let shown : tri_taken_by scan (value_from a) (value_from a (or_loose c data_pin)) ≡ tri_taken_by scan (value_from b) (value_from b (or_loose c data_pin)) =
-    ap (λ (o : Option Scan). tri_taken_by o (value_from a) (value_from a (or_loose c data_pin))) none ∙ taken
-    ∙ sym (ap (λ (o : Option Scan). tri_taken_by o (value_from b) (value_from b (or_loose c data_pin))) none) in
+    let scan : Option (Scan Source) = scan_of (pin_of role.ScanEnable c pins) (pin_of role.ScanIn c pins) in
+    let shown : tri_scanned scan (value_from a) (value_from a (or_loose c data_pin)) ≡ tri_scanned scan (value_from b) (value_from b (or_loose c data_pin)) =
+    ap (λ (o : Option (Scan Source)). tri_scanned o (value_from a) (value_from a (or_loose c data_pin))) none ∙ taken
+    ∙ sym (ap (λ (o : Option (Scan Source)). tri_scanned o (value_from b) (value_from b (or_loose c data_pin))) none) in
     forced_same false reset a b _ _ (λ from is. at from (among_right from (nets_of (listed data_pin)) (nets_of (listed reset) ++ nets_of (listed preset)) (among_left from (nets_of (listed reset)) (nets_of (listed preset)) is)))
     (forced_same true preset a b _ _ (λ from is. at from (among_right from (nets_of (listed data_pin)) (nets_of (listed reset) ++ nets_of (listed preset)) (among_right from (nets_of (listed reset)) (nets_of (listed preset)) is))) shown)

@@ -4,7 +4,7 @@ use Rattle.std.specs.Prelude.{if◌then◌else◌}
 use Rattle.dft_base.specs.declared.tri.Tri.{Tri}
 use Rattle.dft_cells.specs.declared.kind.Role.{Role}
 use Rattle.dft_cells.specs.declared.kind.Role.TheVariants as role
-use Rattle.dft_cells.specs.FlipFlops.{tri_chosen, tri_forced}
+use Rattle.dft_cells.specs.FlipFlops.{tri_chosen, tri_forced, tri_forced_where, tri_scanned}
 use Rattle.dft_netlist.specs.declared.instance.Signal.{Signal}
 use Rattle.dft_netlist.specs.declared.instance.Signal.TheVariants as signal
 use Rattle.dft_netlist.specs.Netlist.{Netlist}
@@ -12,9 +12,8 @@ use Rattle.dft_netlist.specs.Connections.{joined_to, signal_of, same_role, pin_o
 use Rattle.dft_netlist.specs.Drivers.{Source, Connection, nets_of, pins_of, source_of}
 use Rattle.dft_behavior.specs.Logic.{or_loose, scan_of}
 use Rattle.dft_behavior.specs.Settled.{value_from}
-use Rattle.dft_abstract.specs.Cycle.{tri_taken_by}
 use Rattle.dft_stitch.specs.Chains.{listed}
-use Rattle.dft_capture.specs.Captures.{forced_by_pin, next_by_pins}
+use Rattle.dft_capture.specs.Captures.{next_by_pins}
 use Rattle.dft_seek.specs.Walks.{taken_nets}
 use Rattle.dft_seek.specs.Pins.{ArePinsOf, forced_by, next_by, pin_nets, pin_value, taken, taken_by}
 use Rattle.dft_seek.specs.declared.pins.Pins.{Pins}
@@ -43,7 +42,7 @@ source_value values i pin (signal.Net net) = refl
 source_value values i pin (signal.Constant bit) = refl
 source_value values i pin signal.Unconnected = refl
 
-forced_found : (value : Bool) (values : ℕ → Tri) (i : ℕ) (o : Option Connection) (next : Tri) → forced_by value (option_map joined_to o) values next ≡ forced_by_pin value (option_map (at_pin i) o) values next
+forced_found : (value : Bool) (values : ℕ → Tri) (i : ℕ) (o : Option Connection) (next : Tri) → forced_by value (option_map joined_to o) values next ≡ tri_forced_where value (option_map (at_pin i) o) (value_from values) next
 forced_found value values i None next = refl
 forced_found value values i (Some c) next = ap (λ (t : Tri). tri_forced value t next) (source_value values i c.pin c.to)
 
@@ -52,7 +51,7 @@ data_found values i None = refl
 data_found values i (Some c) = source_value values i c.pin c.to
 
 taken_found : (values : ℕ → Tri) (i : ℕ) (enable scan : Option Connection) (data_in : Tri) →
-    taken (option_map joined_to enable) (option_map joined_to scan) values data_in ≡ tri_taken_by (scan_of (option_map (at_pin i) enable) (option_map (at_pin i) scan)) (value_from values) data_in
+    taken (option_map joined_to enable) (option_map joined_to scan) values data_in ≡ tri_scanned (scan_of (option_map (at_pin i) enable) (option_map (at_pin i) scan)) (value_from values) data_in
 taken_found values i None scan data_in = refl
 taken_found values i (Some c) None data_in = refl
 taken_found values i (Some c) (Some d) data_in = λ t. tri_chosen (source_value values i c.pin c.to t) (source_value values i d.pin d.to t) data_in
@@ -60,8 +59,8 @@ taken_found values i (Some c) (Some d) data_in = λ t. tri_chosen (source_value 
 -- the next value from these pins
 abbrev next_from : (instance : ℕ) → (reset preset enable scan input : Option Connection) → (values : ℕ → Tri) → Tri
 next_from i reset preset enable scan input values =
-    forced_by_pin false (option_map (at_pin i) reset) values (forced_by_pin true (option_map (at_pin i) preset) values
-    (tri_taken_by (scan_of (option_map (at_pin i) enable) (option_map (at_pin i) scan)) (value_from values) (value_from values (or_loose i (option_map (at_pin i) input)))))
+    tri_forced_where false (option_map (at_pin i) reset) (value_from values) (tri_forced_where true (option_map (at_pin i) preset) (value_from values)
+    (tri_scanned (scan_of (option_map (at_pin i) enable) (option_map (at_pin i) scan)) (value_from values) (value_from values (or_loose i (option_map (at_pin i) input)))))
 
 kept_next : (values : ℕ → Tri) (i : ℕ) (reset preset enable scan input : Option Connection) →
     forced_by false (option_map joined_to reset) values (forced_by true (option_map joined_to preset) values (taken (option_map joined_to enable) (option_map joined_to scan) values (pin_value values (option_map joined_to input))))
@@ -76,8 +75,8 @@ pub next_kept : (n : Netlist) (i : ℕ) (p : Pins) (values : ℕ → Tri) → Ar
 next_kept n i p values are =
     (λ t. forced_by false (are.reset t) values (forced_by true (are.preset t) values (taken (are.enable t) (are.scan t) values (pin_value values (are.input t)))))
     ∙ kept_next values i (found_pin role.Reset (pins_of n i)) (found_pin role.Preset (pins_of n i)) (found_pin role.ScanEnable (pins_of n i)) (found_pin role.ScanIn (pins_of n i)) (found_pin role.Din (pins_of n i))
-    ∙ sym (λ t. forced_by_pin false (pin_found role.Reset i (pins_of n i) t) values (forced_by_pin true (pin_found role.Preset i (pins_of n i) t) values
-    (tri_taken_by (scan_of (pin_found role.ScanEnable i (pins_of n i) t) (pin_found role.ScanIn i (pins_of n i) t)) (value_from values) (value_from values (or_loose i (pin_found role.Din i (pins_of n i) t))))))
+    ∙ sym (λ t. tri_forced_where false (pin_found role.Reset i (pins_of n i) t) (value_from values) (tri_forced_where true (pin_found role.Preset i (pins_of n i) t) (value_from values)
+    (tri_scanned (scan_of (pin_found role.ScanEnable i (pins_of n i) t) (pin_found role.ScanIn i (pins_of n i) t)) (value_from values) (value_from values (or_loose i (pin_found role.Din i (pins_of n i) t))))))
 
 -- ---- nets
 

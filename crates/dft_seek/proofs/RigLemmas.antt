@@ -8,7 +8,8 @@ use Rattle.std.proofs.lemmas.Bool.Decides.{leb_tells}
 use Rattle.std.proofs.lemmas.Option.{none-some, same_Some, slice_get_past}
 use Rattle.dft_base.specs.Lexing.{Text}
 use Rattle.dft_base.proofs.TextLemmas.{bytes_eq-self}
-use Rattle.dft_cells.specs.FlipFlops.{is_flip_flop}
+use Rattle.dft_cells.specs.FlipFlops.{is_flip_flop, Takes, Forces}
+use Rattle.dft_behavior.proofs.StoredLemmas.{both_parts}
 use Rattle.dft_cells.specs.declared.kind.Role.TheVariants as role
 use Rattle.dft_netlist.proofs.FindLemmas.{found_at}
 use Rattle.dft_netlist.specs.declared.ids.NetId.{NetId}
@@ -18,7 +19,7 @@ use Rattle.dft_netlist.specs.Connections.{input_net, is_input, pin_of}
 use Rattle.dft_netlist.specs.Names.{find_net}
 use Rattle.dft_netlist.specs.Drivers.{Source, Driver, driver, kind_at, kind_of, pins_of}
 use Rattle.dft_netlist.specs.Drivers as drivers
-use Rattle.dft_behavior.specs.Logic.{Cell, Force, Ports, Scan, Input, Clock, Flop, Free, domain_at, domain_of, flip_flop, flop_meaning, force_of, forcing, lockup_meaning, meaning_of, modelled, modelled_of, or_loose, scan_of}
+use Rattle.dft_behavior.specs.Logic.{Cell, Ports, Input, Clock, Flop, Free, domain_at, domain_of, flip_flop, flop_meaning, force_of, force_at, both_forces, forcing, takes_of, forces_of, lockup_meaning, meaning_of, modelled, modelled_of, or_loose}
 use Rattle.dft_behavior.specs.ClockRoots.{ClockRoot, clock_root_of}
 use Rattle.dft_behavior.specs.Traces.{Root, Port, Constant, Other, root_of}
 use Rattle.dft_config.specs.Config.{Config}
@@ -94,49 +95,56 @@ domain_same n one other (Some source) more = by (clock_root_of n source)
 abbrev pub IsThere : {A : Type 0} → Option A → Type 0
 IsThere {A} o = (x : A) × (o ≡ Some x)
 
-abbrev forced_at : (net : ℕ) → (value : Bool) → Option (Option Force)
-forced_at net value = Some (Some (record { port = net; value = value }))
+abbrev pub forced_at : (net : ℕ) → Option (Option ℕ)
+forced_at net = Some (Some net)
 
-force_more : (one other : Ports) (value : Bool) (r : Root) → MoreResets one other → IsThere (force_of one value r) → IsThere (force_of other value r)
-force_more one other value (Port net) more is = by (one.is_reset net) refl is
+force_more : (one other : Ports) (r : Root) → MoreResets one other → IsThere (force_of one r) → IsThere (force_of other r)
+force_more one other (Port net) more is = by (one.is_reset net) refl is
   where
-    by : (b : Bool) → one.is_reset net ≡ b → IsThere (if b then forced_at net value else None) → IsThere (force_of other value (Port net))
-    by true reset h = (Some (record { port = net; value = value }), ap (λ (x : Bool). if x then forced_at net value else None) (more.resets net reset))
+    by : (b : Bool) → one.is_reset net ≡ b → IsThere (if b then forced_at net else None) → IsThere (force_of other (Port net))
+    by true reset h = (Some net, ap (λ (x : Bool). if x then forced_at net else None) (more.resets net reset))
     by false reset h = absurd (none-some h.0 h.1)
-force_more one other value (Constant true) more is = is
-force_more one other value (Constant false) more is = is
-force_more one other value Other more is = is
+force_more one other (Constant true) more is = is
+force_more one other (Constant false) more is = is
+force_more one other Other more is = is
 
-forcing_more : (n : Netlist) (one other : Ports) (reset preset : Option Source) → MoreResets one other → IsThere (forcing n one reset preset) → IsThere (forcing n other reset preset)
-forcing_more n one other (Some reset) preset more is = force_more one other false (root_of n reset) more is
-forcing_more n one other None (Some preset) more is = force_more one other true (root_of n preset) more is
-forcing_more n one other None None more is = is
+pin_more : (n : Netlist) (one other : Ports) (pin : Option Source) → MoreResets one other → IsThere (force_at n one pin) → IsThere (force_at n other pin)
+pin_more n one other None more is = is
+pin_more n one other (Some source) more is = force_more one other (root_of n source) more is
+
+both_there : (clear preset : Option (Option ℕ)) → IsThere clear → IsThere preset → IsThere (both_forces clear preset)
+both_there None preset a b = absurd (none-some a.0 a.1)
+both_there (Some clear) None a b = absurd (none-some b.0 b.1)
+both_there (Some clear) (Some preset) a b = (record { clear = clear; preset = preset }, refl)
+
+each_there : (clear preset : Option (Option ℕ)) → IsThere (both_forces clear preset) → IsThere clear × IsThere preset
+each_there clear preset is = (let both = both_parts clear preset is.0 is.1 in ((is.0.clear, both.0), (is.0.preset, both.1)))
+
+forcing_more : (n : Netlist) (one other : Ports) (pins : Forces Source) → MoreResets one other → IsThere (forcing n one pins) → IsThere (forcing n other pins)
+forcing_more n one other pins more is =
+    let each = each_there (force_at n one pins.clear) (force_at n one pins.preset) is in
+    both_there (force_at n other pins.clear) (force_at n other pins.preset) (pin_more n one other pins.clear more each.0) (pin_more n one other pins.preset more each.1)
 
 -- what is modelled has a clock and may be forced
-modelled_clock : (d : Option ClockRoot) (force : Option (Option Force)) (input : Source) (scan : Option Scan) → IsThere (modelled d force input scan) → IsThere d × IsThere force
-modelled_clock None force input scan is = absurd (none-some is.0 is.1)
-modelled_clock (Some d) None input scan is = absurd (none-some is.0 is.1)
-modelled_clock (Some d) (Some force) input scan is = ((d, refl), (force, refl))
+modelled_clock : (d : Option ClockRoot) (forces : Option (Forces ℕ)) (takes : Takes Source) → IsThere (modelled d forces takes) → IsThere d × IsThere forces
+modelled_clock None forces takes is = absurd (none-some is.0 is.1)
+modelled_clock (Some d) None takes is = absurd (none-some is.0 is.1)
+modelled_clock (Some d) (Some forces) takes is = ((d, refl), (forces, refl))
 
-modelled_there : (d : Option ClockRoot) (force : Option (Option Force)) (input : Source) (scan : Option Scan) → IsThere d → IsThere force → IsThere (modelled d force input scan)
-modelled_there None force input scan one two = absurd (none-some one.0 one.1)
-modelled_there (Some d) None input scan one two = absurd (none-some two.0 two.1)
-modelled_there (Some d) (Some force) input scan one two = (record { domain = d.port; falling = d.inverted; input = input; scan = scan; force = force }, refl)
+modelled_there : (d : Option ClockRoot) (forces : Option (Forces ℕ)) (takes : Takes Source) → IsThere d → IsThere forces → IsThere (modelled d forces takes)
+modelled_there None forces takes one two = absurd (none-some one.0 one.1)
+modelled_there (Some d) None takes one two = absurd (none-some two.0 two.1)
+modelled_there (Some d) (Some forces) takes one two = (record { domain = d.port; falling = d.inverted; takes = takes; forces = forces }, refl)
 
 pub flop_more : (n : Netlist) (one other : Ports) (i : ℕ) → MoreResets one other → IsThere (flip_flop n one i) → IsThere (flip_flop n other i)
 flop_more n one other i more is = by (is_flip_flop (kind_at n i)) is
   where
-    input : Source
-    input = or_loose i (pin_of role.Din i (pins_of n i))
-
-    scan : Option Scan
-    scan = scan_of (pin_of role.ScanEnable i (pins_of n i)) (pin_of role.ScanIn i (pins_of n i))
-
     by : (b : Bool) → IsThere (if b then modelled_of n one i (pins_of n i) else None) → IsThere (if b then modelled_of n other i (pins_of n i) else None)
     by true h =
-        let parts = modelled_clock (domain_at n one (pin_of role.Clock i (pins_of n i))) (forcing n one (pin_of role.Reset i (pins_of n i)) (pin_of role.Preset i (pins_of n i))) input scan h in
-        modelled_there (domain_at n other (pin_of role.Clock i (pins_of n i))) (forcing n other (pin_of role.Reset i (pins_of n i)) (pin_of role.Preset i (pins_of n i))) input scan
-        (parts.0.0, sym (domain_same n one other (pin_of role.Clock i (pins_of n i)) more) ∙ parts.0.1) (forcing_more n one other (pin_of role.Reset i (pins_of n i)) (pin_of role.Preset i (pins_of n i)) more parts.1)
+        let pins : Forces Source = forces_of i (pins_of n i) in
+        let parts = modelled_clock (domain_at n one (pin_of role.Clock i (pins_of n i))) (forcing n one pins) (takes_of i (pins_of n i)) h in
+        modelled_there (domain_at n other (pin_of role.Clock i (pins_of n i))) (forcing n other pins) (takes_of i (pins_of n i))
+        (parts.0.0, sym (domain_same n one other (pin_of role.Clock i (pins_of n i)) more) ∙ parts.0.1) (forcing_more n one other pins more parts.1)
     by false h = h
 
 pub flags_more : (n : Netlist) (config : Config) (flags : List Bool) → IsInRange config → ((net : ℕ) → flag_at flags net ≡ (config_ports n config).is_clock net) → MoreResets (config_ports n config) (ports_by flags)

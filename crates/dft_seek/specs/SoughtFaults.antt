@@ -3,7 +3,7 @@ use Rattle.std.specs.Prelude.{ℕ, Bool, false, not, List, filter}
 use Rattle.std.specs.List.{list_any}
 use Rattle.dft_base.specs.Lexing.{Text}
 use Rattle.dft_netlist.specs.declared.ids.NetId.{NetId}
-use Rattle.dft_behavior.specs.declared.root.Root as declared
+use Rattle.dft_behavior.specs.declared.root.NetRoot.{NetRoot}
 use Rattle.dft_netlist.specs.Netlist.{Netlist}
 use Rattle.dft_netlist.specs.Connections.{input_net}
 use Rattle.dft_netlist.specs.Drivers.{Net}
@@ -36,9 +36,9 @@ seek_faults n config = filter (is_untraced n (config_ports n config).is_reset) (
 -- ---- by the roots of the nets
 
 -- whether a net traces to one of these ports
-abbrev pub traces_port : List declared.Root → List NetId → (net : ℕ) → Bool
+abbrev pub traces_port : List NetRoot → List NetId → (net : ℕ) → Bool
 traces_port roots ports net = is_root_of (is_clock_in ports) (root_among roots (Net net))
 
 -- whether a fault's net traces to none
-abbrev pub is_left : List declared.Root → List NetId → Fault → Bool
+abbrev pub is_left : List NetRoot → List NetId → Fault → Bool
 is_left roots ports f = not (traces_port roots ports f.net.0)

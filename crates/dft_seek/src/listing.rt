@@ -5,7 +5,7 @@ ghost use Rattle.dft_faults.specs.Faults.{is_clock_in};
 ghost use Rattle.dft_seek.specs.SoughtFaults as spec;
 
 use dft_base::Name;
-use dft_behavior::{Root, find_roots, root_in};
+use dft_behavior::{NetRoot, Root, find_roots, root_in};
 use dft_config::Config;
 use dft_faults::{Fault, faults};
 use dft_netlist::{Design, NetId, Signal};
@@ -33,7 +33,7 @@ fn is_among(nets: &[NetId], net: NetId) -> bool
 }
 
 // Whether the net traces to one of these ports, by the roots of the nets.
-fn traces_port(roots: &[Root], ports: &[NetId], net: NetId) -> bool
+fn traces_port(roots: &[NetRoot], ports: &[NetId], net: NetId) -> bool
     ensures { result ≡ spec.traces_port roots.now ports.now net.0 }
 {
     match root_in(roots, Signal::Net(net)) {
@@ -46,7 +46,7 @@ fn traces_port(roots: &[Root], ports: &[NetId], net: NetId) -> bool
 fn untraced(
     alloc: Global,
     faults: &[Fault],
-    roots: &[Root],
+    roots: &[NetRoot],
     ports: &[NetId],
 ) -> Result<Vec<Fault>, AllocError>
     ensures { IfOk result (λ left. left.items ≡ filter (spec.is_left roots.now ports.now) faults.now) }

@@ -15,11 +15,12 @@ use Rattle.dft_netlist.specs.Netlist.{Netlist}
 use Rattle.dft_netlist.specs.Connections.{input_net, pin_of}
 use Rattle.dft_netlist.specs.Drivers.{Source, Driver, driver, pins_of}
 use Rattle.dft_netlist.specs.Drivers as drivers
-use Rattle.dft_behavior.specs.Logic.{Cell, Clock, Flop, Free, Input, Logic, Scan, flip_flop, flop_meaning, meaning_of, or_loose, scan_of}
+use Rattle.dft_behavior.specs.Logic.{Cell, Clock, Flop, Free, Input, Logic, flip_flop, flop_meaning, meaning_of, takes_of, forces_of}
 use Rattle.dft_behavior.specs.Runs.{Vector, takes}
 use Rattle.dft_behavior.specs.Settled.{inverse, value_from, value_given}
 use Rattle.dft_behavior.proofs.StoredLemmas.{flop_cell, lockup_kind}
-use Rattle.dft_abstract.specs.Cycle.{strobe_sources, tri_forced_by, tri_taken_by}
+use Rattle.dft_cells.specs.FlipFlops.{Takes, tri_taken_by, tri_forced_by}
+use Rattle.dft_abstract.specs.Cycle.{strobe_sources}
 use Rattle.dft_abstract.specs.Laws.{next_from}
 use Rattle.dft_config.specs.Config.{Config}
 use Rattle.dft_config.specs.Range.{IsInRange}
@@ -49,7 +50,7 @@ use Rattle.dft_seek.proofs.RigLemmas.{cell_live, cell_there, net_named}
 use Rattle.dft_seeking.specs.Expected.{ExpectedIsShown, IsShown, given_by}
 use Rattle.dft_seeking.proofs.ApartLemmas.{StandsIn}
 use Rattle.dft_seeking.proofs.CellsGiven.{scanned_there}
-use Rattle.dft_seeking.proofs.PinsHigh.{one_pin, pins_high}
+use Rattle.dft_seeking.proofs.PinsHigh.{pins_high}
 
 -- ---- the clock that pulses
 
@@ -117,7 +118,7 @@ module _ (s : Search) (can : CanCapture s.design s.config) (merged : Merged) (lo
   state = loaded_values chains loaded
 
   -- in a capture no reset or set acts
-  idle : (c : ℕ) (t : Tri) → tri_forced_by (l.cell c).force x.ports t ≡ t
+  idle : (c : ℕ) (t : Tri) → tri_forced_by (l.cell c).forces x.ports t ≡ t
   idle c t = stays s.design s.config merged c t
 
   high : (net : ℕ) → (config_ports s.design s.config).is_reset net ≡ true → ports net ≡ One
@@ -161,7 +162,7 @@ module _ (s : Search) (can : CanCapture s.design s.config) (merged : Merged) (lo
 
   -- what is expected to move moves, and takes the same value
   moved_same : (rising : Bool) (values held from : ℕ → Tri) → IsSettledFrom s.design (moving_of s) ports from values → (c : ℕ) (h : Bool) → has_cell (cells_in s) c ≡ h →
-      (if h && (x.pulsed (l.cell c).domain && takes rising (l.cell c).falling) then next_from l x values c else held c)
+      (if h && (x.pulsed (l.cell c).domain && takes rising (l.cell c).falling) then next_from l x values (held c) c else held c)
       ≡ (if h && is_of s.domain (not rising) (clock_of (judgements s.design s.config) (record { 0 = c })) then next_by_pins s.design values c else held c)
   moved_same rising values held from settled c false holds = refl
   moved_same rising values held from settled c true holds =
@@ -169,22 +170,20 @@ module _ (s : Search) (can : CanCapture s.design s.config) (merged : Merged) (lo
       let config : Config = s.config in
       let reset : Option Source = pin_of role.Reset c (pins_of n c) in
       let preset : Option Source = pin_of role.Preset c (pins_of n c) in
-      let scan : Option Scan = scan_of (pin_of role.ScanEnable c (pins_of n c)) (pin_of role.ScanIn c (pins_of n c)) in
-      let input : Source = or_loose c (pin_of role.Din c (pins_of n c)) in
+      let own : Takes Source = takes_of c (pins_of n c) in
       let it : IsScanned n config c = scanned_there n config can.range (record { 0 = c }) (stands_by c (cells_in s) holds) in
       let verdict : IsVerdict n config c it.domain it.falling = verdict_passes n config c it.domain it.falling it.is in
       let clock : IsClocked n config c it.domain it.falling = clocked n config c it.domain it.falling verdict.passed.is_clock in
       let force = force_pins n config reset preset verdict.passed.is_held in
-      let q : Cell = record { domain = clock.net; falling = it.falling; input = input; scan = scan; force = force.0 } in
+      let q : Cell = record { domain = clock.net; falling = it.falling; takes = own; forces = force.0 } in
       let e : l.cell c ≡ q = flop_cell n (config_ports n config) c q (scanned_flop n config c it.domain it.falling force.0 verdict.kind clock force.1) in
       let pulse = pulse_is n config clock.net it.domain s.domain clock.name can.range clock.named clock.is in
       let edge = edge_bit rising it.falling in
       let test : (x.pulsed (l.cell c).domain && takes rising (l.cell c).falling) ≡ is_of s.domain (not rising) (clock_of (judgements n config) (record { 0 = c })) =
       ap (λ (k : Cell). x.pulsed k.domain && takes rising k.falling) e ∙ (λ i. pulse i && edge i) ∙ sym (ap (is_of s.domain (not rising)) (clock_at c it.domain it.falling holds it.is)) in
-      let taken : Tri = tri_taken_by scan (value_from values) (value_from values input) in
-      let next : next_from l x values c ≡ next_by_pins n values c =
-      idle c (tri_taken_by (l.cell c).scan (value_from values) (value_from values (l.cell c).input)) ∙ ap (λ (k : Cell). tri_taken_by k.scan (value_from values) (value_from values k.input)) e
-      ∙ sym (pins_high s can.range ports from values high settled reset preset force.0 taken (one_pin n c can.library verdict.kind) force.1) in
+      let next : next_from l x values (held c) c ≡ next_by_pins n values c =
+      idle c (tri_taken_by (l.cell c).takes (held c) (value_from values)) ∙ ap (λ (k : Cell). tri_taken_by k.takes (held c) (value_from values)) e
+      ∙ sym (pins_high s can.range ports from values high settled (forces_of c (pins_of n c)) force.0 (tri_taken_by own (held c) (value_from values)) force.1) in
       λ i. if test i then next i else held c
 
   edge_same : (rising : Bool) (values held from : ℕ → Tri) → IsSettledFrom s.design (moving_of s) ports from values → after_edges l chains x rising values held ≡ after_moves s.design (takes_at s (not rising)) values held

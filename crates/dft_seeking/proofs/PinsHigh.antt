@@ -2,7 +2,7 @@
 use Rattle.std.proofs.Common.{ℕ, zero, suc, ◌≡◌, ◌∙◌, ◌⊎◌, inl, inr, Bool, true, false, List, [], ◌∷◌, map, Option, None, Some, slice_get, refl, sym, ap, subst, not, ◌++◌}
 use Rattle.std.specs.Prelude.{if◌then◌else◌}
 use Rattle.std.specs.List.{AllByRecursion}
-use Rattle.std.proofs.lemmas.Option.{none-some}
+use Rattle.std.proofs.lemmas.Option.{none-some, same_Some}
 use Rattle.dft_base.specs.declared.tri.Tri.{Tri}
 use Rattle.dft_base.specs.declared.tri.Tri.TheVariants.{Zero, One, Unknown}
 use Rattle.dft_base.specs.Tri.{known, join}
@@ -16,7 +16,9 @@ use Rattle.dft_cells.specs.declared.kind.Gate.TheVariants as gate
 use Rattle.dft_cells.specs.declared.kind.Role.{Role}
 use Rattle.dft_cells.specs.declared.kind.Role.TheVariants as role
 use Rattle.dft_cells.specs.Gates.{bit_of, completing, shared, tri_of}
-use Rattle.dft_cells.specs.FlipFlops.{tri_forced}
+use Rattle.dft_cells.specs.FlipFlops.{Forces, tri_forced_by}
+use Rattle.dft_cells.proofs.TakesLemmas.{left_rests}
+use Rattle.dft_behavior.proofs.StoredLemmas.{both_parts}
 use Rattle.dft_cells.specs.WellFormed.{front_roles, HasRoles, IsWellFormed}
 use Rattle.dft_cells.proofs.TriLemmas.{forced_one}
 use Rattle.dft_netlist.specs.declared.instance.Signal.{Signal}
@@ -24,17 +26,19 @@ use Rattle.dft_netlist.specs.declared.instance.Instance.{Instance}
 use Rattle.dft_netlist.specs.declared.instance.CellRef.{CellRef}
 use Rattle.dft_netlist.specs.declared.instance.CellRef.TheVariants as cell_ref
 use Rattle.dft_netlist.specs.Netlist.{Netlist}
-use Rattle.dft_netlist.specs.Drivers.{Source, Driver, connections_from, driver, gate_roles, kind_at, kind_of, pins_at, pins_of, shape_of, shape_of_cell, source_of}
+use Rattle.dft_netlist.specs.Drivers.{Source, Net, Driver, connections_from, driver, gate_roles, kind_at, kind_of, pins_at, pins_of, shape_of, shape_of_cell, source_of}
 use Rattle.dft_netlist.specs.Drivers as drivers
 use Rattle.dft_netlist.specs.Connections.{pin_of, same_role}
-use Rattle.dft_behavior.specs.Logic.{Clock, Force, Input, force_of, forcing}
+use Rattle.dft_behavior.specs.Logic.{Clock, Input, force_of, force_at, forcing}
 use Rattle.dft_behavior.specs.Settled.{value_from, value_given}
-use Rattle.dft_behavior.specs.Traces.{Root, Port, Constant, Other, Traces, AtPort, AtConstant, AtTie, ThroughBuffer, ThroughJoin, Bit, From, passed_by_gate, root_of}
+use Rattle.dft_behavior.specs.NetRoots.{NetRoot, Bit, From, passed_by_gate, Rooted, AtPort, AtConstant, AtTie, ThroughGate, ThroughJoin}
+use Rattle.dft_behavior.specs.Traces.{Root, Port, Constant, Other, Traces, root_of}
+use Rattle.dft_behavior.proofs.RootForms.{OfTraced, traced_on, traced_over, traced_out}
 use Rattle.dft_behavior.proofs.Walks.{constant_found, port_found}
 use Rattle.dft_config.specs.Range.{IsInRange}
 use Rattle.dft_rules.specs.ConfigPorts.{config_ports}
 use Rattle.dft_rules.specs.Rules.{may_be_scanned}
-use Rattle.dft_capture.specs.Captures.{IsSettledFrom, forced_by_pin, meaning_in, sources_at}
+use Rattle.dft_capture.specs.Captures.{IsSettledFrom, meaning_in, sources_at}
 use Rattle.dft_seek.specs.Searches.{Search, moving_of}
 use Rattle.dft_seek.proofs.RigLemmas.{no_clock_resets}
 
@@ -62,6 +66,9 @@ tie_value gate.Tie1 inputs bit values is = let e : true ≡ bit = cc in shared_s
 tie_value gate.Buf [] bit values is = absurd cc
 tie_value gate.Buf (source ∷ []) bit values is = absurd cc
 tie_value gate.Buf (source ∷ more ∷ inputs) bit values is = absurd cc
+tie_value gate.Inv [] bit values is = absurd cc
+tie_value gate.Inv (source ∷ []) bit values is = absurd cc
+tie_value gate.Inv (source ∷ more ∷ inputs) bit values is = absurd cc
 tie_value _ inputs bit values is = absurd cc
 
 passed_value : (t : Tri) → tri_of gate.Buf (t ∷ []) ≡ t
@@ -69,10 +76,13 @@ passed_value Zero = refl
 passed_value One = refl
 passed_value Unknown = refl
 
-buffer_value : (k : Gate) (inputs : List Source) (source : Source) (values : ℕ → Tri) → passed_by_gate k inputs ≡ From source → tri_of k (map (value_from values) inputs) ≡ value_from values source
+buffer_value : (k : Gate) (inputs : List Source) (source : Source) (values : ℕ → Tri) → passed_by_gate k inputs ≡ From source false → tri_of k (map (value_from values) inputs) ≡ value_from values source
 buffer_value gate.Buf [] source values is = absurd cc
 buffer_value gate.Buf (one ∷ []) source values is = let e : one ≡ source = cc in passed_value (value_from values one) ∙ ap (value_from values) e
 buffer_value gate.Buf (one ∷ more ∷ inputs) source values is = absurd cc
+buffer_value gate.Inv [] source values is = absurd cc
+buffer_value gate.Inv (one ∷ []) source values is = absurd cc
+buffer_value gate.Inv (one ∷ more ∷ inputs) source values is = absurd cc
 buffer_value _ inputs source values is = absurd cc
 
 -- ---- what traces to a reset port or to constant 1
@@ -91,83 +101,40 @@ module _ (s : Search) (range : IsInRange s.config) (ports state values : ℕ →
   port_high net true clock reset = absurd (no_clock_resets s.design s.config net range clock reset)
   port_high net false clock reset = high net reset
 
-  traced_high : {source : Source} {root : Root} → Traces s.design source root → IsIdle root → value_from values source ≡ One
-  traced_high (AtPort {net = net} is) idle = at_driver net drivers.Input is ∙ port_high net ((config_ports s.design s.config).is_clock net) refl idle
-  traced_high (AtConstant {bit = bit}) idle = ap known idle
-  traced_high (AtTie {net = net} {kind = k} {inputs = inputs} {bit = bit} is passes) idle = at_driver net (drivers.Gate k inputs) is ∙ tie_value k inputs bit values passes ∙ ap known idle
-  traced_high (ThroughBuffer {net = net} {kind = k} {inputs = inputs} {source = source} is passes rest) idle = at_driver net (drivers.Gate k inputs) is ∙ buffer_value k inputs source values passes ∙ traced_high rest idle
-  traced_high (ThroughJoin {net = net} {source = source} is rest) idle = at_driver net (drivers.Joined source) is ∙ traced_high rest idle
+  abbrev IsHigh : Source → Root → Type 0
+  IsHigh source root = IsIdle root → value_from values source ≡ One
 
-  reset_by : (value : Bool) (net : ℕ) (b : Bool) (force : Option Force) → (config_ports s.design s.config).is_reset net ≡ b → (if b then Some (Some (record { port = net; value = value })) else None) ≡ Some force → (config_ports s.design s.config).is_reset net ≡ true
-  reset_by value net true force reset is = reset
-  reset_by value net false force reset is = absurd (none-some force is)
+  traced_high : (source : Source) (root : NetRoot) → Rooted s.design source root → OfTraced (IsHigh source) root
+  traced_high source root (AtPort {net = net} is) = λ idle. at_driver net drivers.Input is ∙ port_high net ((config_ports s.design s.config).is_clock net) refl idle
+  traced_high source root (AtConstant {bit = bit}) = λ idle. ap known idle
+  traced_high source root (AtTie {net = net} {kind = k} {inputs = inputs} {bit = bit} is passes) = λ idle. at_driver net (drivers.Gate k inputs) is ∙ tie_value k inputs bit values passes ∙ ap known idle
+  traced_high source root (ThroughGate {net = net} {kind = k} {inputs = inputs} {source = from} {turns = turns} {root = far} is passes rest) =
+      traced_on (IsHigh from) (IsHigh (Net net)) turns far (λ straight r high idle. at_driver net (drivers.Gate k inputs) is ∙ buffer_value k inputs from values (passes ∙ ap (From from) straight) ∙ high idle) (traced_high from far rest)
+  traced_high source root (ThroughJoin {net = net} {source = from} is rest) =
+      traced_over (IsHigh from) (IsHigh (Net net)) root (λ r high idle. at_driver net (drivers.Joined from) is ∙ high idle) (traced_high from root rest)
 
-  root_high : (value : Bool) (source : Source) (root : Root) (force : Option Force) → root_of s.design source ≡ root → force_of (config_ports s.design s.config) value root ≡ Some force → value_from values source ≡ One
-  root_high value source (Port net) force at is = traced_high (port_found s.design source net at) (reset_by value net ((config_ports s.design s.config).is_reset net) force refl is)
-  root_high value source (Constant true) force at is = traced_high (constant_found s.design source true at) refl
-  root_high value source (Constant false) force at is = absurd (none-some force is)
-  root_high value source Other force at is = absurd (none-some force is)
+  trace_high : (source : Source) (root : Root) → Traces s.design source root → IsHigh source root
+  trace_high source root traces idle = traced_out (IsHigh source) traces.whole root traces.straight (λ other. subst IsIdle other idle) (traced_high source traces.whole traces.rooted) idle
 
-  pin_high : (value : Bool) (source : Source) (force : Option Force) → force_of (config_ports s.design s.config) value (root_of s.design source) ≡ Some force → (t : Tri) → forced_by_pin value (Some source) values t ≡ t
-  pin_high value source force is t = ap (λ (u : Tri). tri_forced value u t) (root_high value source (root_of s.design source) force refl is) ∙ forced_one value t
+  reset_by : (net : ℕ) (b : Bool) (force : Option ℕ) → (config_ports s.design s.config).is_reset net ≡ b → ◌≡◌ {A = Option (Option ℕ)} (if b then Some (Some net) else None) (Some force) → (config_ports s.design s.config).is_reset net ≡ true
+  reset_by net true force reset is = reset
+  reset_by net false force reset is = absurd (none-some force is)
 
-  -- a flip-flop that has a reset or a set, and not both, takes what it takes without
-  pub pins_high : (reset preset : Option Source) (force : Option Force) (t : Tri) → (reset ≡ None) ⊎ (preset ≡ None) → forcing s.design (config_ports s.design s.config) reset preset ≡ Some force → forced_by_pin false reset values (forced_by_pin true preset values t) ≡ t
-  pins_high None None force t one is = refl
-  pins_high None (Some preset) force t one is = pin_high true preset force is t
-  pins_high (Some reset) None force t one is = pin_high false reset force is t
-  pins_high (Some reset) (Some preset) force t (inl none) is = absurd (none-some reset (sym none))
-  pins_high (Some reset) (Some preset) force t (inr none) is = absurd (none-some preset (sym none))
+  root_high : (source : Source) (root : Root) (force : Option ℕ) → root_of s.design source ≡ root → force_of (config_ports s.design s.config) root ≡ Some force → value_from values source ≡ One
+  root_high source (Port net) force at is = trace_high source (Port net) (port_found s.design source net at) (reset_by net ((config_ports s.design s.config).is_reset net) force refl is)
+  root_high source (Constant true) force at is = trace_high source (Constant true) (constant_found s.design source true at) refl
+  root_high source (Constant false) force at is = absurd (none-some force is)
+  root_high source Other force at is = absurd (none-some force is)
 
--- ---- a flip-flop that may be scanned has not both
+  pin_high : (pin : Option Source) (force : Option ℕ) → force_at s.design (config_ports s.design s.config) pin ≡ Some force → (source : Source) → pin ≡ Some source → value_from values source ≡ One
+  pin_high None force is source has = absurd (none-some source has)
+  pin_high (Some own) force is source has = ap (value_from values) (sym (same_Some own source has)) ∙ root_high own (root_of s.design own) force refl is
 
-abbrev Lacks : Role → List Role → Type 0
-Lacks r roles = AllByRecursion (λ q. same_role r q ≡ false) roles
-
-abbrev LacksOne : List Role → Type 0
-LacksOne roles = Lacks role.Reset roles ⊎ Lacks role.Preset roles
-
-no_pin : (r : Role) (i pin : ℕ) (roles : List Role) (signals : List Signal) → Lacks r roles → pin_of r i (connections_from pin roles signals) ≡ None
-no_pin r i pin [] signals none = refl
-no_pin r i pin (q ∷ roles) [] none = refl
-no_pin r i pin (q ∷ roles) (to ∷ signals) none =
-    ap (λ b. if b then Some (source_of i pin to) else pin_of r i (connections_from (suc pin) roles signals)) none.0 ∙ no_pin r i (suc pin) roles signals none.1
-
-gate_lacks : (inputs : ℕ) → Lacks role.Reset (gate_roles inputs)
-gate_lacks zero = (refl, tt)
-gate_lacks (suc inputs) = (refl, gate_lacks inputs)
-
-front_lacks : (its : Forcing) (rest : List Role) → Lacks role.Reset rest → Lacks role.Preset rest → LacksOne (front_roles (record { force = its; scan = false }) ++ rest)
-front_lacks force.Nothing rest h g = inl (refl, (refl, h))
-front_lacks force.Reset rest h g = inr (refl, (refl, (refl, g)))
-front_lacks force.Set rest h g = inl (refl, (refl, (refl, h)))
-
-flop_lacks : (its : Forcing) (scan : Bool) (roles : List Role) → not scan ≡ true → HasRoles (kind.Flop (record { force = its; scan = scan })) roles → LacksOne roles
-flop_lacks its true roles may has = absurd cc
-flop_lacks its false roles may (inl e) = subst LacksOne (sym e) (front_lacks its (role.Output ∷ []) (refl, tt) (refl, tt))
-flop_lacks its false roles may (inr e) = subst LacksOne (sym e) (front_lacks its (role.Output ∷ role.Inverted ∷ []) (refl, (refl, tt)) (refl, (refl, tt)))
-
-kind_lacks : (k : Kind) (roles : List Role) → may_be_scanned k ≡ true → HasRoles k roles → LacksOne roles
-kind_lacks (kind.Flop flop) roles may has = flop_lacks flop.force flop.scan roles may has
-kind_lacks (kind.Gate gate) roles may has = absurd cc
-kind_lacks kind.Lockup roles may has = absurd cc
-kind_lacks kind.Opaque roles may has = absurd cc
-
-cell_lacks : (library : List declared.Cell) (id : ℕ) (o : Option declared.Cell) → IsWellFormed library → slice_get library id ≡ o → may_be_scanned (shape_of_cell o).kind ≡ true → LacksOne (shape_of_cell o).roles
-cell_lacks library id None well at may = absurd cc
-cell_lacks library id (Some cell) well at may = kind_lacks cell.kind _ may (well.each id cell at).roles
-
-shape_lacks : (library : List declared.Cell) (cell : CellRef) → IsWellFormed library → may_be_scanned (shape_of library cell).kind ≡ true → LacksOne (shape_of library cell).roles
-shape_lacks library (cell_ref.Library id) well may = cell_lacks library id.0 (slice_get library id.0) well refl may
-shape_lacks library (cell_ref.Gate k inputs) well may = inl (gate_lacks inputs)
-
-either_none : (i : ℕ) (roles : List Role) (signals : List Signal) → LacksOne roles → (pin_of role.Reset i (connections_from 0 roles signals) ≡ None) ⊎ (pin_of role.Preset i (connections_from 0 roles signals) ≡ None)
-either_none i roles signals (inl lacks) = inl (no_pin role.Reset i 0 roles signals lacks)
-either_none i roles signals (inr lacks) = inr (no_pin role.Preset i 0 roles signals lacks)
-
-one_by : (library : List declared.Cell) (i : ℕ) (o : Option Instance) → IsWellFormed library → may_be_scanned (kind_of library o) ≡ true → (pin_of role.Reset i (pins_at library o) ≡ None) ⊎ (pin_of role.Preset i (pins_at library o) ≡ None)
-one_by library i None well may = inl refl
-one_by library i (Some x) well may = either_none i (shape_of library x.cell).roles x.pins (shape_lacks library x.cell well may)
-
-pub one_pin : (n : Netlist) (i : ℕ) → IsWellFormed n.library → may_be_scanned (kind_at n i) ≡ true → (pin_of role.Reset i (pins_of n i) ≡ None) ⊎ (pin_of role.Preset i (pins_of n i) ≡ None)
-one_pin n i well may = one_by n.library i (slice_get n.instances i) well may
+  -- a flip-flop takes what it takes without its reset and its set
+  pub pins_high : (pins : Forces Source) (forces : Forces ℕ) (t : Tri) → forcing s.design (config_ports s.design s.config) pins ≡ Some forces → tri_forced_by pins (value_from values) t ≡ t
+  pins_high pins forces t is =
+      let both = both_parts (force_at s.design (config_ports s.design s.config) pins.clear) (force_at s.design (config_ports s.design s.config) pins.preset) forces is in
+      left_rests pins (value_from values) t (λ source has. elim has [
+        | inl clear ↦ pin_high pins.clear forces.clear both.0 source clear
+        | inr set ↦ pin_high pins.preset forces.preset both.1 source set
+      ])

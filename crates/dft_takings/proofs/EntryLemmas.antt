@@ -1,19 +1,19 @@
 -- Entries tell what flip-flops take.
-use Rattle.std.proofs.Common.{ℕ, Bool, true, false, List, [], ◌∷◌, ◌≡◌, refl, sym, ap, subst, ◌∙◌, Option, None, Some}
+use Rattle.std.proofs.Common.{ℕ, Bool, true, false, List, [], ◌∷◌, inl, inr, ◌≡◌, refl, sym, ap, subst, ◌∙◌, Option, None, Some}
 use Rattle.std.specs.Prelude.{◌&&◌, if◌then◌else◌}
 use Rattle.std.proofs.lemmas.Bool.{and_parts}
 use Rattle.dft_base.specs.declared.tri.Tri.{Tri}
 use Rattle.dft_base.specs.declared.tri.Tri.TheVariants.{Zero, One, Unknown}
 use Rattle.dft_base.specs.Tri.{known}
-use Rattle.dft_cells.specs.FlipFlops.{tri_forced, tri_chosen}
+use Rattle.dft_cells.specs.FlipFlops.{tri_forced, tri_chosen, Scan, Forces, IsForceOf, tri_taken_by, tri_forced_by, tri_scanned, tri_forced_where}
 use Rattle.dft_cells.proofs.TriLemmas.{forced_one, chosen_one, chosen_zero}
 use Rattle.dft_netlist.specs.Drivers.{Source, Net, Tied, Loose, nets_of}
-use Rattle.dft_behavior.specs.Logic.{Logic, Force, Scan, reads}
+use Rattle.dft_behavior.specs.Logic.{Logic, reads}
 use Rattle.dft_behavior.specs.Settled.{value_from}
-use Rattle.dft_abstract.specs.Cycle.{Pulse, changes, level_before, tri_forced_by, tri_taken_by, next_value}
-use Rattle.dft_takings.specs.Needs.{HasAll, chosen_reads, taken_reads, reads_at, forced_reads}
+use Rattle.dft_abstract.specs.Cycle.{Pulse, changes, level_before, next_value}
+use Rattle.dft_takings.specs.Needs.{HasAll, chosen_reads, taken_reads, reads_at, reads_where, forced_reads}
 use Rattle.dft_takings.specs.Shows.{Shown, still_needs, HasStillReads}
-use Rattle.dft_takings.specs.Entries.{Entry, Keeps, Takes, Follows, Reads, Computes, entry_value, net_entry, source_entry, is_still_source, entry_if, chosen_entry, taken_entry, computed, entry_at, forced_entry, entry_given}
+use Rattle.dft_takings.specs.Entries.{Entry, Keeps, Takes, Follows, Reads, Computes, entry_value, net_entry, source_entry, is_still_source, entry_if, chosen_entry, taken_entry, computed, entry_at, entry_where, forced_entry, entry_given}
 use Rattle.dft_takings.specs.Laws.{EntryIsNext, PassOfEntries, PassOfNeeded, EntryStays}
 use Rattle.dft_takings.proofs.ReadLemmas.{source_agrees, set_agrees}
 use Rattle.dft_takings.proofs.NeededLemmas.{needed_before}
@@ -57,9 +57,9 @@ chosen_value still origin old settled c Unknown si d entry same is =
     let next : Tri = tri_chosen Unknown (value_from settled si) (value_from settled d) in
     ap (entry_value old settled next c) (sym (same_entry Computes entry (if_there (still si && still d) (Some Computes) entry is).1))
 
-taken_value : (still : Source → Bool) (origin : ℕ → Option ℕ) (old settled : ℕ → Tri) (c : ℕ) (scan : Option Scan) (data_in : Source) (entry : Entry) → ((net k : ℕ) → origin net ≡ Some k → settled net ≡ old k) →
+taken_value : (still : Source → Bool) (origin : ℕ → Option ℕ) (old settled : ℕ → Tri) (c : ℕ) (scan : Option (Scan Source)) (data_in : Source) (entry : Entry) → ((net k : ℕ) → origin net ≡ Some k → settled net ≡ old k) →
     taken_entry still origin scan (value_from settled) data_in ≡ Some entry →
-    entry_value old settled (tri_taken_by scan (value_from settled) (value_from settled data_in)) c entry ≡ tri_taken_by scan (value_from settled) (value_from settled data_in)
+    entry_value old settled (tri_scanned scan (value_from settled) (value_from settled data_in)) c entry ≡ tri_scanned scan (value_from settled) (value_from settled data_in)
 taken_value still origin old settled c None d entry same is = one_value origin old settled _ c (still d) d entry same is
 taken_value still origin old settled c (Some scan) d entry same is =
     chosen_value still origin old settled c (value_from settled scan.enable) scan.input d entry same
@@ -76,10 +76,15 @@ pressed_value old settled c value Zero t found entry is taken =
 pressed_value old settled c value One t found entry is taken = subst (λ (n : Tri). entry_value old settled n c entry ≡ n) (sym (forced_one value t)) (taken is)
 pressed_value old settled c value Unknown t found entry is taken = ap (entry_value old settled (tri_forced value Unknown t) c) (sym (computes found entry is))
 
-forced_value : (old settled : ℕ → Tri) (c : ℕ) (force : Option Force) (ports : ℕ → Tri) (t : Tri) (found : Option Entry) (entry : Entry) → forced_entry force ports found ≡ Some entry →
-    (found ≡ Some entry → entry_value old settled t c entry ≡ t) → entry_value old settled (tri_forced_by force ports t) c entry ≡ tri_forced_by force ports t
-forced_value old settled c None ports t found entry is taken = taken is
-forced_value old settled c (Some force) ports t found entry is taken = pressed_value old settled c force.value (ports force.port) t found entry is taken
+where_value : (old settled : ℕ → Tri) (c : ℕ) (value : Bool) (pin : Option ℕ) (ports : ℕ → Tri) (t : Tri) (found : Option Entry) (entry : Entry) → entry_where value pin ports found ≡ Some entry →
+    (found ≡ Some entry → entry_value old settled t c entry ≡ t) → entry_value old settled (tri_forced_where value pin ports t) c entry ≡ tri_forced_where value pin ports t
+where_value old settled c value None ports t found entry is taken = taken is
+where_value old settled c value (Some port) ports t found entry is taken = pressed_value old settled c value (ports port) t found entry is taken
+
+forced_value : (old settled : ℕ → Tri) (c : ℕ) (forces : Forces ℕ) (ports : ℕ → Tri) (t : Tri) (found : Option Entry) (entry : Entry) → forced_entry forces ports found ≡ Some entry →
+    (found ≡ Some entry → entry_value old settled t c entry ≡ t) → entry_value old settled (tri_forced_by forces ports t) c entry ≡ tri_forced_by forces ports t
+forced_value old settled c forces ports t found entry is taken =
+    where_value old settled c false forces.clear ports _ (entry_where true forces.preset ports found) entry is (λ was. where_value old settled c true forces.preset ports t found entry was taken)
 
 -- a flip-flop whose clock does not pulse keeps its value
 after_entry : (old settled : ℕ → Tri) (c : ℕ) (up : Bool) (next : Tri) (found : Option Entry) (entry : Entry) → (if up then found else Some Keeps) ≡ Some entry → (found ≡ Some entry → entry_value old settled next c entry ≡ next) →
@@ -92,10 +97,10 @@ entry_is_next l rank p origin shown settled ranked origins strobe c entry is =
     let d : ℕ = (l.cell c).domain in
     let still : Source → Bool = is_still_source d shown in
     let same : (net k : ℕ) → origin net ≡ Some k → settled net ≡ p.old k = origin_is_shown l rank origin (level_before p) p.ports p.old settled ranked origins strobe in
-    after_entry p.old settled c (changes l p c) (next_value l p (λ e. settled) c) (forced_entry (l.cell c).force p.ports (taken_entry still origin (l.cell c).scan (value_from settled) (l.cell c).input)) entry is
-    (λ there. forced_value p.old settled c (l.cell c).force p.ports (tri_taken_by (l.cell c).scan (value_from settled) (value_from settled (l.cell c).input))
-    (taken_entry still origin (l.cell c).scan (value_from settled) (l.cell c).input) entry there
-    (λ found. taken_value still origin p.old settled c (l.cell c).scan (l.cell c).input entry same found))
+    after_entry p.old settled c (changes l p c) (next_value l p (λ e. settled) c) (forced_entry (l.cell c).forces p.ports (taken_entry still origin (l.cell c).takes.scan (value_from settled) (l.cell c).takes.input)) entry is
+    (λ there. forced_value p.old settled c (l.cell c).forces p.ports (tri_taken_by (l.cell c).takes (p.old c) (value_from settled))
+    (taken_entry still origin (l.cell c).takes.scan (value_from settled) (l.cell c).takes.input) entry there
+    (λ found. taken_value still origin p.old settled c (l.cell c).takes.scan (l.cell c).takes.input entry same found))
 
 -- ---- what an entry needs is still
 
@@ -115,7 +120,7 @@ chosen_still shown d origin Unknown si di entry is =
     let both = and_parts (is_still_source d shown si) (is_still_source d shown di) (if_there (is_still_source d shown si && is_still_source d shown di) (Some Computes) entry is).0 in
     still_first shown d si (di ∷ []) both.0 (still_first shown d di [] both.1 tt)
 
-taken_still : (shown : ℕ → Shown) (d : ℕ) (origin : ℕ → Option ℕ) (scan : Option Scan) (at : Source → Tri) (data_in : Source) (entry : Entry) → taken_entry (is_still_source d shown) origin scan at data_in ≡ Some entry →
+taken_still : (shown : ℕ → Shown) (d : ℕ) (origin : ℕ → Option ℕ) (scan : Option (Scan Source)) (at : Source → Tri) (data_in : Source) (entry : Entry) → taken_entry (is_still_source d shown) origin scan at data_in ≡ Some entry →
     StillAll shown d (nets_of (taken_reads scan at data_in))
 taken_still shown d origin None at di entry is = still_first shown d di [] (if_there (is_still_source d shown di) (Some (source_entry origin di)) entry is).0 tt
 taken_still shown d origin (Some scan) at di entry is =
@@ -129,10 +134,16 @@ pressed_still shown d value One found sources entry is taken = taken entry is
 pressed_still shown d value Unknown None sources entry is taken = absurd cc
 pressed_still shown d value Unknown (Some was) sources entry is taken = taken was refl
 
-forced_still : (shown : ℕ → Shown) (d : ℕ) (force : Option Force) (ports : ℕ → Tri) (found : Option Entry) (sources : List Source) (entry : Entry) → forced_entry force ports found ≡ Some entry →
-    ((was : Entry) → found ≡ Some was → StillAll shown d (nets_of sources)) → StillAll shown d (nets_of (forced_reads force ports sources))
-forced_still shown d None ports found sources entry is taken = taken entry is
-forced_still shown d (Some force) ports found sources entry is taken = pressed_still shown d force.value (ports force.port) found sources entry is taken
+where_still : (shown : ℕ → Shown) (d : ℕ) (value : Bool) (pin : Option ℕ) (ports : ℕ → Tri) (found : Option Entry) (sources : List Source) (entry : Entry) → entry_where value pin ports found ≡ Some entry →
+    ((was : Entry) → found ≡ Some was → StillAll shown d (nets_of sources)) → StillAll shown d (nets_of (reads_where pin ports sources))
+where_still shown d value None ports found sources entry is taken = taken entry is
+where_still shown d value (Some port) ports found sources entry is taken = pressed_still shown d value (ports port) found sources entry is taken
+
+forced_still : (shown : ℕ → Shown) (d : ℕ) (forces : Forces ℕ) (ports : ℕ → Tri) (found : Option Entry) (sources : List Source) (entry : Entry) → forced_entry forces ports found ≡ Some entry →
+    ((was : Entry) → found ≡ Some was → StillAll shown d (nets_of sources)) → StillAll shown d (nets_of (forced_reads forces ports sources))
+forced_still shown d forces ports found sources entry is taken =
+    where_still shown d false forces.clear ports (entry_where true forces.preset ports found) (reads_where forces.preset ports sources) entry is
+    (λ was at. where_still shown d true forces.preset ports found sources was at taken)
 
 where_up : (up : Bool) (found : Option Entry) (entry : Entry) → up ≡ true → (if up then found else Some Keeps) ≡ Some entry → found ≡ Some entry
 where_up true found entry up is = is
@@ -142,10 +153,10 @@ entry_still : (l : Logic) (p : Pulse) (origin : ℕ → Option ℕ) (shown : ℕ
     HasStillReads l p (λ net. true) shown settled c
 entry_still l p origin shown settled c entry is up =
     let d : ℕ = (l.cell c).domain in
-    let taken : Option Entry = taken_entry (is_still_source d shown) origin (l.cell c).scan (value_from settled) (l.cell c).input in
-    forced_still shown d (l.cell c).force p.ports taken (taken_reads (l.cell c).scan (value_from settled) (l.cell c).input) entry
-    (where_up (changes l p c) (forced_entry (l.cell c).force p.ports taken) entry up is)
-    (λ was found. taken_still shown d origin (l.cell c).scan (value_from settled) (l.cell c).input was found)
+    let taken : Option Entry = taken_entry (is_still_source d shown) origin (l.cell c).takes.scan (value_from settled) (l.cell c).takes.input in
+    forced_still shown d (l.cell c).forces p.ports taken (taken_reads (l.cell c).takes.scan (value_from settled) (l.cell c).takes.input) entry
+    (where_up (changes l p c) (forced_entry (l.cell c).forces p.ports taken) entry up is)
+    (λ was found. taken_still shown d origin (l.cell c).takes.scan (value_from settled) (l.cell c).takes.input was found)
 
 pub every : (nets : List ℕ) → HasAll (λ net. true) nets
 every [] = tt
@@ -159,13 +170,17 @@ pass_of_entries l rank p origin shown settled entries ranked origins on strobe g
 
 -- ---- the same state
 
-taken_stays : (still : Source → Bool) (origin : ℕ → Option ℕ) (scan : Option Scan) (at to : Source → Tri) (data_in : Source) → ((s : Scan) → scan ≡ Some s → at s.enable ≡ to s.enable) → taken_entry still origin scan at data_in ≡ taken_entry still origin scan to data_in
+taken_stays : (still : Source → Bool) (origin : ℕ → Option ℕ) (scan : Option (Scan Source)) (at to : Source → Tri) (data_in : Source) → ((s : Scan Source) → scan ≡ Some s → at s.enable ≡ to s.enable) → taken_entry still origin scan at data_in ≡ taken_entry still origin scan to data_in
 taken_stays still origin None at to di same = refl
 taken_stays still origin (Some scan) at to di same = ap (λ (t : Tri). entry_if (still scan.enable) (chosen_entry still origin t scan.input di)) (same scan refl)
 
-forced_stays : (force : Option Force) (ports others : ℕ → Tri) (one two : Option Entry) → ((f : Force) → force ≡ Some f → ports f.port ≡ others f.port) → one ≡ two → forced_entry force ports one ≡ forced_entry force others two
-forced_stays None ports others one two same is = is
-forced_stays (Some force) ports others one two same is = rw (same force refl, is) refl
+where_stays : (value : Bool) (pin : Option ℕ) (ports others : ℕ → Tri) (one two : Option Entry) → ((port : ℕ) → pin ≡ Some port → ports port ≡ others port) → one ≡ two → entry_where value pin ports one ≡ entry_where value pin others two
+where_stays value None ports others one two same is = is
+where_stays value (Some port) ports others one two same is = rw (same port refl, is) refl
+
+forced_stays : (forces : Forces ℕ) (ports others : ℕ → Tri) (one two : Option Entry) → ((port : ℕ) → IsForceOf forces port → ports port ≡ others port) → one ≡ two → forced_entry forces ports one ≡ forced_entry forces others two
+forced_stays forces ports others one two same is =
+    where_stays false forces.clear ports others _ _ (λ port at. same port (inl at)) (where_stays true forces.preset ports others one two (λ port at. same port (inr at)) is)
 
 up_stays : (up also : Bool) (one two : Option Entry) → up ≡ also → one ≡ two → (if up then one else Some Keeps) ≡ (if also then two else Some Keeps)
 up_stays up also one two same is = rw (same, is) refl
@@ -174,7 +189,7 @@ pub entry_stays : EntryStays
 entry_stays l p q origin shown settled other c up ports enable =
     let d : ℕ = (l.cell c).domain in
     up_stays (changes l p c) (changes l q c) _ _ up
-    (forced_stays (l.cell c).force p.ports q.ports _ _ ports (taken_stays (is_still_source d shown) origin (l.cell c).scan (value_from settled) (value_from other) (l.cell c).input enable))
+    (forced_stays (l.cell c).forces p.ports q.ports _ _ ports (taken_stays (is_still_source d shown) origin (l.cell c).takes.scan (value_from settled) (value_from other) (l.cell c).takes.input enable))
 
 -- ---- from the needed nets alone
 
@@ -192,10 +207,10 @@ pass_of_needed l rank p origin shown needs values entries ranked origins on clos
     let found = before_there l rank p ranked in
     let settled : ℕ → Tri = found.0 in
     let same : (net : ℕ) → needs net ≡ true → values net ≡ settled net = needed_before l rank p needs values settled ranked closed given found.1 in
-    let enable : (c : ℕ) (scan : Scan) → (l.cell c).scan ≡ Some scan → value_from values scan.enable ≡ value_from settled scan.enable = λ c scan is.
+    let enable : (c : ℕ) (scan : Scan Source) → (l.cell c).takes.scan ≡ Some scan → value_from values scan.enable ≡ value_from settled scan.enable = λ c scan is.
     source_agrees values settled scan.enable (set_agrees needs values settled (nets_of (scan.enable ∷ [])) (enables c scan is) same) in
     let stays : (c : ℕ) → entry_given l p origin shown values c ≡ entry_given l p origin shown settled c = λ c.
-    entry_stays l p p origin shown values settled c refl (λ force is. refl) (enable c) in
+    entry_stays l p p origin shown values settled c refl (λ port is. refl) (enable c) in
     let pass = pass_of_entries l rank p origin shown settled entries ranked origins on found.1 (λ c. sym (stays c) ∙ has c) in (
       pass.0,
       (

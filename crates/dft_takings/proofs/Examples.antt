@@ -3,8 +3,9 @@ use Rattle.std.proofs.Common.{ℕ, Bool, true, false, List, [], ◌∷◌, ◌�
 use Rattle.std.specs.Prelude.{slice_index_or, ◌&&◌, if◌then◌else◌}
 use Rattle.dft_base.specs.declared.tri.Tri.{Tri}
 use Rattle.dft_base.specs.declared.tri.Tri.TheVariants.{Zero, One, Unknown}
+use Rattle.dft_cells.specs.FlipFlops.{no_forces}
 use Rattle.dft_netlist.specs.Drivers.{Source, Net}
-use Rattle.dft_behavior.specs.Logic.{Logic, Cell, Meaning, Input, Clock, Flop, Lockup, Free, reads}
+use Rattle.dft_behavior.specs.Logic.{Logic, Cell, plain as plain_of, Meaning, Input, Clock, Flop, Lockup, Free, reads}
 use Rattle.dft_abstract.specs.Cycle.{Pulse, next_value}
 use Rattle.dft_takings.specs.Needs.{read_in, next_reads}
 use Rattle.dft_takings.specs.Moves.{moves, is_other_clock}
@@ -14,7 +15,7 @@ use Rattle.dft_takings.specs.Shows.{Shown, Nothing, Domain, Several, is_still, w
 
 -- a flip-flop of a domain that takes the bit of a net
 abbrev plain : (domain data_in : ℕ) → Cell
-plain e net = record { domain = e; falling = false; input = Net net; scan = None; force = None }
+plain e net = record { domain = e; falling = false; takes = plain_of (Net net); forces = no_forces }
 
 abbrev cell_in : List Cell → ℕ → Cell
 cell_in cells c = slice_index_or cells c (plain 0 0)
@@ -91,7 +92,7 @@ quiet_takes others = refl
 
 -- nets ck, se, si, d, rn, q
 abbrev scan_cell : Cell
-scan_cell = record { domain = 0; falling = false; input = Net 3; scan = Some (record { enable = Net 1; input = Net 2 }); force = Some (record { port = 4; value = false }) }
+scan_cell = record { domain = 0; falling = false; takes = record { input = Net 3; scan = Some (record { enable = Net 1; input = Net 2 }) }; forces = record { clear = Some 4; preset = None } }
 
 shifts : next_reads scan_cell (λ k. One) (λ s. One) ≡ Net 1 ∷ Net 2 ∷ []
 shifts = refl
@@ -122,7 +123,7 @@ sees_none = refl
 abbrev meeting : Logic
 meeting = record {
   net = net_in (Clock ∷ Clock ∷ Input ∷ Input ∷ Input ∷ Flop 0 false ∷ Flop 1 false ∷ []);
-  cell = cell_in (record { domain = 0; falling = false; input = Net 6; scan = Some (record { enable = Net 2; input = Net 3 }); force = None } ∷ plain 1 4 ∷ []);
+  cell = cell_in (record { domain = 0; falling = false; takes = record { input = Net 6; scan = Some (record { enable = Net 2; input = Net 3 }) }; forces = no_forces } ∷ plain 1 4 ∷ []);
 }
 
 -- it needs nothing that moves while it shifts

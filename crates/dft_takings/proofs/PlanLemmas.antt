@@ -7,13 +7,14 @@ use Rattle.std.proofs.lemmas.List.{get_or_past}
 use Rattle.std.proofs.lemmas.Bool.{or_left, or_right}
 use Rattle.dft_base.specs.declared.tri.Tri.{Tri}
 use Rattle.dft_base.specs.declared.tri.Tri.TheVariants.{Zero, One, Unknown}
+use Rattle.dft_cells.specs.FlipFlops.{Scan, Forces}
 use Rattle.dft_netlist.specs.Drivers.{Source, Net, Tied, Loose, nets_of}
-use Rattle.dft_behavior.specs.Logic.{Cell, Force, Scan, reads}
+use Rattle.dft_behavior.specs.Logic.{Cell, reads}
 use Rattle.dft_behavior.specs.Settled.{value_from, value_given}
 use Rattle.dft_netlist.specs.Orders.{Has}
 use Rattle.dft_behavior.specs.Runs.{takes}
 use Rattle.dft_abstract.specs.Cycle.{Pulse, IsLeast, after_pulse, level_before}
-use Rattle.dft_takings.specs.Needs.{HasAll, IsStrobeClosed, still_from, chosen_reads, taken_reads, reads_at, forced_reads, next_reads, IsStillOn, IsBeforeOn}
+use Rattle.dft_takings.specs.Needs.{HasAll, IsStrobeClosed, still_from, chosen_reads, taken_reads, reads_at, reads_where, forced_reads, next_reads, IsStillOn, IsBeforeOn}
 use Rattle.dft_takings.specs.Takes.{AreOrigins}
 use Rattle.dft_takings.specs.Shows.{Shown, IsShownOn}
 use Rattle.dft_takings.specs.Entries.{Entry, Keeps, Takes, Follows, Reads, Computes, entry_value}
@@ -54,19 +55,19 @@ has_right : (k : ℕ) (xs ys : List ℕ) → Has ys k → Has (xs ++ ys) k
 has_right k [] ys h = h
 has_right k (x ∷ xs) ys h = inr (has_right k xs ys h)
 
-enable_scan : (k : ℕ) (alone : Bool) (found : Option Scan) (scan : Scan) → found ≡ Some scan → Has (nets_of (scan.enable ∷ [])) k → Has (scan_needs alone found) k
+enable_scan : (k : ℕ) (alone : Bool) (found : Option (Scan Source)) (scan : Scan Source) → found ≡ Some scan → Has (nets_of (scan.enable ∷ [])) k → Has (scan_needs alone found) k
 enable_scan k alone None scan is h = absurd cc
-enable_scan k true (Some s) scan is h = let e : s ≡ scan = cc in subst (λ (t : Scan). Has (nets_of (t.enable ∷ [])) k) (sym e) h
-enable_scan k false (Some s) scan is h = let e : s ≡ scan = cc in first k s.enable (s.input ∷ []) (subst (λ (t : Scan). Has (nets_of (t.enable ∷ [])) k) (sym e) h)
+enable_scan k true (Some s) scan is h = let e : s ≡ scan = cc in subst (λ (t : Scan Source). Has (nets_of (t.enable ∷ [])) k) (sym e) h
+enable_scan k false (Some s) scan is h = let e : s ≡ scan = cc in first k s.enable (s.input ∷ []) (subst (λ (t : Scan Source). Has (nets_of (t.enable ∷ [])) k) (sym e) h)
 
-enable_needed : (k : ℕ) (cell : Cell) (entry : Entry) (scan : Scan) → cell.scan ≡ Some scan → Has (nets_of (scan.enable ∷ [])) k → Has (entry_needs cell entry) k
-enable_needed k cell Keeps scan is h = enable_scan k true cell.scan scan is h
-enable_needed k cell (Takes value) scan is h = enable_scan k true cell.scan scan is h
-enable_needed k cell (Follows other) scan is h = enable_scan k true cell.scan scan is h
-enable_needed k cell (Reads net) scan is h = inr (enable_scan k true cell.scan scan is h)
-enable_needed k cell Computes scan is h = has_right k (nets_of (cell.input ∷ [])) (scan_needs false cell.scan) (enable_scan k false cell.scan scan is h)
+enable_needed : (k : ℕ) (cell : Cell) (entry : Entry) (scan : Scan Source) → cell.takes.scan ≡ Some scan → Has (nets_of (scan.enable ∷ [])) k → Has (entry_needs cell entry) k
+enable_needed k cell Keeps scan is h = enable_scan k true cell.takes.scan scan is h
+enable_needed k cell (Takes value) scan is h = enable_scan k true cell.takes.scan scan is h
+enable_needed k cell (Follows other) scan is h = enable_scan k true cell.takes.scan scan is h
+enable_needed k cell (Reads net) scan is h = inr (enable_scan k true cell.takes.scan scan is h)
+enable_needed k cell Computes scan is h = has_right k (nets_of (cell.takes.input ∷ [])) (scan_needs false cell.takes.scan) (enable_scan k false cell.takes.scan scan is h)
 
-chosen_needed : (k : ℕ) (enable : Tri) (scan : Scan) (data_in : Source) → Has (nets_of (chosen_reads enable scan.input data_in)) k → Has (nets_of (data_in ∷ []) ++ nets_of (scan.enable ∷ scan.input ∷ [])) k
+chosen_needed : (k : ℕ) (enable : Tri) (scan : Scan Source) (data_in : Source) → Has (nets_of (chosen_reads enable scan.input data_in)) k → Has (nets_of (data_in ∷ []) ++ nets_of (scan.enable ∷ scan.input ∷ [])) k
 chosen_needed k Zero scan d h = has_left k (nets_of (d ∷ [])) (nets_of (scan.enable ∷ scan.input ∷ [])) h
 chosen_needed k One scan d h = has_right k (nets_of (d ∷ [])) (nets_of (scan.enable ∷ scan.input ∷ [])) (second k scan.enable (scan.input ∷ []) h)
 chosen_needed k Unknown scan d h = elim (one_or_more k scan.input (d ∷ []) h) [
@@ -74,7 +75,7 @@ chosen_needed k Unknown scan d h = elim (one_or_more k scan.input (d ∷ []) h) 
   | inr di ↦ has_left k (nets_of (d ∷ [])) (nets_of (scan.enable ∷ scan.input ∷ [])) di
 ]
 
-taken_needed : (k : ℕ) (scan : Option Scan) (at : Source → Tri) (data_in : Source) → Has (nets_of (taken_reads scan at data_in)) k → Has (nets_of (data_in ∷ []) ++ scan_needs false scan) k
+taken_needed : (k : ℕ) (scan : Option (Scan Source)) (at : Source → Tri) (data_in : Source) → Has (nets_of (taken_reads scan at data_in)) k → Has (nets_of (data_in ∷ []) ++ scan_needs false scan) k
 taken_needed k None at d h = has_left k (nets_of (d ∷ [])) [] h
 taken_needed k (Some scan) at d h = elim (one_or_more k scan.enable (chosen_reads (at scan.enable) scan.input d) h) [
   | inl e ↦ has_right k (nets_of (d ∷ [])) (nets_of (scan.enable ∷ scan.input ∷ [])) (first k scan.enable (scan.input ∷ []) e)
@@ -86,12 +87,15 @@ pressed_needed k Zero sources h = absurd h
 pressed_needed k One sources h = h
 pressed_needed k Unknown sources h = h
 
-forced_needed : (k : ℕ) (force : Option Force) (ports : ℕ → Tri) (sources : List Source) → Has (nets_of (forced_reads force ports sources)) k → Has (nets_of sources) k
-forced_needed k None ports sources h = h
-forced_needed k (Some force) ports sources h = pressed_needed k (ports force.port) sources h
+where_needed : (k : ℕ) (pin : Option ℕ) (ports : ℕ → Tri) (sources : List Source) → Has (nets_of (reads_where pin ports sources)) k → Has (nets_of sources) k
+where_needed k None ports sources h = h
+where_needed k (Some port) ports sources h = pressed_needed k (ports port) sources h
+
+forced_needed : (k : ℕ) (forces : Forces ℕ) (ports : ℕ → Tri) (sources : List Source) → Has (nets_of (forced_reads forces ports sources)) k → Has (nets_of sources) k
+forced_needed k forces ports sources h = where_needed k forces.preset ports sources (where_needed k forces.clear ports (reads_where forces.preset ports sources) h)
 
 pub computes_needed : (k : ℕ) (cell : Cell) (ports : ℕ → Tri) (at : Source → Tri) → Has (nets_of (next_reads cell ports at)) k → Has (entry_needs cell Computes) k
-computes_needed k cell ports at h = taken_needed k cell.scan at cell.input (forced_needed k cell.force ports (taken_reads cell.scan at cell.input) h)
+computes_needed k cell ports at h = taken_needed k cell.takes.scan at cell.takes.input (forced_needed k cell.forces ports (taken_reads cell.takes.scan at cell.takes.input) h)
 
 -- ---- the marked nets, and all past the end
 
@@ -175,8 +179,8 @@ planned x p origin shown table marked values next is len origins on closed settl
       | inl out ↦ (let P : Cell → Type 0 = λ cell. found cell ≡ Some (or_keeps (found cell)) in subst P (sym (cell_past x.flops c out.1)) (past_there (p.pulsed 0 && takes p.rising false)))
       | inr live ↦ there (found (cells c)) (table c) (has c live.1)
     ] in
-    let enables : (c : ℕ) (scan : Scan) → (cells c).scan ≡ Some scan → HasAll (needs_of count marked) (nets_of (scan.enable ∷ [])) = λ c scan at. elim (leb_tells (length x.flops) c) [
-      | inl out ↦ (let none : (cells c).scan ≡ None = ap (λ (cell : Cell). cell.scan) (cell_past x.flops c out.1) in absurd cc)
+    let enables : (c : ℕ) (scan : Scan Source) → (cells c).takes.scan ≡ Some scan → HasAll (needs_of count marked) (nets_of (scan.enable ∷ [])) = λ c scan at. elim (leb_tells (length x.flops) c) [
+      | inl out ↦ (let none : (cells c).takes.scan ≡ None = ap (λ (cell : Cell). cell.takes.scan) (cell_past x.flops c out.1) in absurd cc)
       | inr live ↦ has_needs count marked (nets_of (scan.enable ∷ [])) (λ k less h. marks c live.1 k less (enable_needed k (cells c) (table c) scan at h))
     ] in
     let reading : (c net : ℕ) → entries c ≡ Reads net → needs_of count marked net ≡ true = λ c net at. elim (leb_tells (length x.flops) c) [

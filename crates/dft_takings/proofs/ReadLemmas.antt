@@ -6,14 +6,14 @@ use Rattle.dft_base.specs.declared.tri.Tri.{Tri}
 use Rattle.dft_base.specs.declared.tri.Tri.TheVariants.{Zero, One, Unknown}
 use Rattle.dft_base.specs.Tri.{known}
 use Rattle.dft_cells.specs.Gates.{tri_of}
-use Rattle.dft_cells.specs.FlipFlops.{tri_forced, tri_chosen}
+use Rattle.dft_cells.specs.FlipFlops.{tri_forced, tri_chosen, Scan, Forces, tri_forced_by, tri_scanned, tri_forced_where}
 use Rattle.dft_cells.proofs.TriLemmas.{chosen_one, chosen_zero}
 use Rattle.dft_netlist.specs.Drivers.{Source, Net, Tied, Loose, nets_of, AreBelow}
-use Rattle.dft_behavior.specs.Logic.{Logic, Cell, Force, Scan, Meaning, Input, Clock, Gate, Joined, Flop, Lockup, Free, reads, IsRanked}
+use Rattle.dft_behavior.specs.Logic.{Logic, Cell, Meaning, Input, Clock, Gate, Joined, Flop, Lockup, Free, reads, IsRanked}
 use Rattle.dft_behavior.specs.Settled.{TriSources, is_wire, value_from, value_given}
 use Rattle.dft_behavior.specs.Runs.{takes}
-use Rattle.dft_abstract.specs.Cycle.{Pulse, tri_forced_by, tri_taken_by, next_value}
-use Rattle.dft_takings.specs.Needs.{HasAll, shows_input, read_in, reads_in, still_from, IsReadClosed, chosen_reads, taken_reads, reads_at, forced_reads, next_reads}
+use Rattle.dft_abstract.specs.Cycle.{Pulse, next_value}
+use Rattle.dft_takings.specs.Needs.{HasAll, shows_input, read_in, reads_in, still_from, IsReadClosed, chosen_reads, taken_reads, reads_at, reads_where, forced_reads, next_reads}
 
 -- two assignments agree on these nets
 abbrev pub Agree : (v w : ℕ → Tri) → List ℕ → Type 0
@@ -143,8 +143,8 @@ chosen_agrees Unknown v w si d same =
     let t : value_from v d ≡ value_from w d = source_agrees v w d (rest_agree v w si (d ∷ []) same) in
     rw (s, t) refl
 
-taken_agrees : (scan : Option Scan) (v w : ℕ → Tri) (data_in : Source) → Agree v w (nets_of (taken_reads scan (value_from v) data_in)) →
-    tri_taken_by scan (value_from v) (value_from v data_in) ≡ tri_taken_by scan (value_from w) (value_from w data_in)
+taken_agrees : (scan : Option (Scan Source)) (v w : ℕ → Tri) (data_in : Source) → Agree v w (nets_of (taken_reads scan (value_from v) data_in)) →
+    tri_scanned scan (value_from v) (value_from v data_in) ≡ tri_scanned scan (value_from w) (value_from w data_in)
 taken_agrees None v w d same = source_agrees v w d same
 taken_agrees (Some scan) v w d same =
     let enable : Tri = value_from v scan.enable in
@@ -158,24 +158,29 @@ pressed_agrees value Zero v w sources t u same taken = forced_low value t u
 pressed_agrees value One v w sources t u same taken = ap (tri_forced value One) (taken same)
 pressed_agrees value Unknown v w sources t u same taken = ap (tri_forced value Unknown) (taken same)
 
-forced_agrees : (force : Option Force) (ports v w : ℕ → Tri) (sources : List Source) (t u : Tri) → Agree v w (nets_of (forced_reads force ports sources)) → (Agree v w (nets_of sources) → t ≡ u) →
-    tri_forced_by force ports t ≡ tri_forced_by force ports u
-forced_agrees None ports v w sources t u same taken = taken same
-forced_agrees (Some force) ports v w sources t u same taken = pressed_agrees force.value (ports force.port) v w sources t u same taken
+where_agrees : (value : Bool) (pin : Option ℕ) (ports v w : ℕ → Tri) (sources : List Source) (t u : Tri) → Agree v w (nets_of (reads_where pin ports sources)) → (Agree v w (nets_of sources) → t ≡ u) →
+    tri_forced_where value pin ports t ≡ tri_forced_where value pin ports u
+where_agrees value None ports v w sources t u same taken = taken same
+where_agrees value (Some port) ports v w sources t u same taken = pressed_agrees value (ports port) v w sources t u same taken
+
+forced_agrees : (forces : Forces ℕ) (ports v w : ℕ → Tri) (sources : List Source) (t u : Tri) → Agree v w (nets_of (forced_reads forces ports sources)) → (Agree v w (nets_of sources) → t ≡ u) →
+    tri_forced_by forces ports t ≡ tri_forced_by forces ports u
+forced_agrees forces ports v w sources t u same taken =
+    where_agrees false forces.clear ports v w (reads_where forces.preset ports sources) _ _ same (λ rest. where_agrees true forces.preset ports v w sources t u rest taken)
 
 -- assignments that agree on what a next value is read from give the same one
 pub next_agrees : (l : Logic) (p : Pulse) (c : ℕ) (v w : ℕ → ℕ → Tri) → Agree (v (l.cell c).domain) (w (l.cell c).domain) (nets_of (next_reads (l.cell c) p.ports (value_from (v (l.cell c).domain)))) →
     next_value l p v c ≡ next_value l p w c
 next_agrees l p c v w same =
     let d : ℕ = (l.cell c).domain in
-    forced_agrees (l.cell c).force p.ports (v d) (w d) (taken_reads (l.cell c).scan (value_from (v d)) (l.cell c).input) _ _ same (taken_agrees (l.cell c).scan (v d) (w d) (l.cell c).input)
+    forced_agrees (l.cell c).forces p.ports (v d) (w d) (taken_reads (l.cell c).takes.scan (value_from (v d)) (l.cell c).takes.input) _ _ same (taken_agrees (l.cell c).takes.scan (v d) (w d) (l.cell c).takes.input)
 
 -- nets of a set on which two assignments agree
 pub set_agrees : (needs : ℕ → Bool) (v w : ℕ → Tri) (nets : List ℕ) → HasAll needs nets → ((k : ℕ) → needs k ≡ true → v k ≡ w k) → Agree v w nets
 set_agrees needs v w [] all same = tt
 set_agrees needs v w (net ∷ nets) all same = (same net all.0, set_agrees needs v w nets all.1 same)
 
-taken_same : (needs : ℕ → Bool) (scan : Option Scan) (v w : ℕ → Tri) (data_in : Source) → Agree v w (nets_of (taken_reads scan (value_from v) data_in)) →
+taken_same : (needs : ℕ → Bool) (scan : Option (Scan Source)) (v w : ℕ → Tri) (data_in : Source) → Agree v w (nets_of (taken_reads scan (value_from v) data_in)) →
     HasAll needs (nets_of (taken_reads scan (value_from v) data_in)) → HasAll needs (nets_of (taken_reads scan (value_from w) data_in))
 taken_same needs None v w d same all = all
 taken_same needs (Some scan) v w d same all =
@@ -188,12 +193,17 @@ pressed_same needs Zero v w before after same taken all = tt
 pressed_same needs One v w before after same taken all = taken same all
 pressed_same needs Unknown v w before after same taken all = taken same all
 
-forced_same : (needs : ℕ → Bool) (force : Option Force) (ports v w : ℕ → Tri) (before after : List Source) → Agree v w (nets_of (forced_reads force ports before)) →
-    (Agree v w (nets_of before) → HasAll needs (nets_of before) → HasAll needs (nets_of after)) → HasAll needs (nets_of (forced_reads force ports before)) → HasAll needs (nets_of (forced_reads force ports after))
-forced_same needs None ports v w before after same taken all = taken same all
-forced_same needs (Some force) ports v w before after same taken all = pressed_same needs (ports force.port) v w before after same taken all
+where_same : (needs : ℕ → Bool) (pin : Option ℕ) (ports v w : ℕ → Tri) (before after : List Source) → Agree v w (nets_of (reads_where pin ports before)) →
+    (Agree v w (nets_of before) → HasAll needs (nets_of before) → HasAll needs (nets_of after)) → HasAll needs (nets_of (reads_where pin ports before)) → HasAll needs (nets_of (reads_where pin ports after))
+where_same needs None ports v w before after same taken all = taken same all
+where_same needs (Some port) ports v w before after same taken all = pressed_same needs (ports port) v w before after same taken all
+
+forced_same : (needs : ℕ → Bool) (forces : Forces ℕ) (ports v w : ℕ → Tri) (before after : List Source) → Agree v w (nets_of (forced_reads forces ports before)) →
+    (Agree v w (nets_of before) → HasAll needs (nets_of before) → HasAll needs (nets_of after)) → HasAll needs (nets_of (forced_reads forces ports before)) → HasAll needs (nets_of (forced_reads forces ports after))
+forced_same needs forces ports v w before after same taken all =
+    where_same needs forces.clear ports v w (reads_where forces.preset ports before) (reads_where forces.preset ports after) same (λ s a. where_same needs forces.preset ports v w before after s taken a) all
 
 -- assignments that agree on what a next value is read from read it from the same nets
 pub next_reads_same : (needs : ℕ → Bool) (cell : Cell) (ports v w : ℕ → Tri) → Agree v w (nets_of (next_reads cell ports (value_from v))) → HasAll needs (nets_of (next_reads cell ports (value_from v))) →
     HasAll needs (nets_of (next_reads cell ports (value_from w)))
-next_reads_same needs cell ports v w same all = forced_same needs cell.force ports v w _ _ same (taken_same needs cell.scan v w cell.input) all
+next_reads_same needs cell ports v w same all = forced_same needs cell.forces ports v w _ _ same (taken_same needs cell.takes.scan v w cell.takes.input) all

@@ -5,13 +5,14 @@ use Rattle.dft_base.specs.declared.tri.Tri.{Tri}
 use Rattle.dft_base.specs.declared.tri.Tri.TheVariants.{Zero, One, Unknown}
 use Rattle.dft_base.specs.Tri.{known, AboveTri}
 use Rattle.dft_cells.proofs.Completions.{above_self}
+use Rattle.dft_cells.specs.FlipFlops.{Scan, Forces}
 use Rattle.dft_netlist.specs.Drivers.{Source, Net, Tied, Loose, nets_of}
-use Rattle.dft_behavior.specs.Logic.{Logic, Force, Scan, IsRanked}
+use Rattle.dft_behavior.specs.Logic.{Logic, IsRanked}
 use Rattle.dft_behavior.specs.Settled.{value_from}
 use Rattle.dft_behavior.proofs.Meanings.{source_over, source_monotone, meaning_monotone, at_nets}
 use Rattle.dft_abstract.specs.Cycle.{Pulse, changes, view_sources, AreViews}
 use Rattle.dft_abstract.proofs.Least.{views_monotone}
-use Rattle.dft_takings.specs.Needs.{HasAll, before_from, IsBefore, chosen_reads, taken_reads, reads_at, forced_reads}
+use Rattle.dft_takings.specs.Needs.{HasAll, before_from, IsBefore, chosen_reads, taken_reads, reads_at, reads_where, forced_reads}
 use Rattle.dft_takings.proofs.LockupLemmas.{shown_above}
 use Rattle.dft_takings.proofs.ShownLemmas.{before_there}
 use Rattle.dft_takings.specs.Laws.{ViewIsAboveStrobe, NoTwoBits, ViewsRise, ReadsRise}
@@ -93,7 +94,7 @@ chosen_rise needs Unknown Zero si d over all = rest_all needs si (d ∷ []) all
 chosen_rise needs Unknown One si d over all = first_all needs si (d ∷ []) all
 chosen_rise needs Unknown Unknown si d over all = all
 
-taken_rise : (needs : ℕ → Bool) (scan : Option Scan) (high low : Source → Tri) (data_in : Source) → ((source : Source) → AboveTri (high source) (low source)) →
+taken_rise : (needs : ℕ → Bool) (scan : Option (Scan Source)) (high low : Source → Tri) (data_in : Source) → ((source : Source) → AboveTri (high source) (low source)) →
     HasAll needs (nets_of (taken_reads scan high data_in)) → HasAll needs (nets_of (taken_reads scan low data_in))
 taken_rise needs None high low d over all = all
 taken_rise needs (Some scan) high low d over all =
@@ -105,13 +106,18 @@ pressed_rise needs Zero high low rise all = tt
 pressed_rise needs One high low rise all = rise all
 pressed_rise needs Unknown high low rise all = rise all
 
-forced_rise : (needs : ℕ → Bool) (force : Option Force) (ports : ℕ → Tri) (high low : List Source) → (HasAll needs (nets_of high) → HasAll needs (nets_of low)) →
-    HasAll needs (nets_of (forced_reads force ports high)) → HasAll needs (nets_of (forced_reads force ports low))
-forced_rise needs None ports high low rise all = rise all
-forced_rise needs (Some force) ports high low rise all = pressed_rise needs (ports force.port) high low rise all
+where_rise : (needs : ℕ → Bool) (pin : Option ℕ) (ports : ℕ → Tri) (high low : List Source) → (HasAll needs (nets_of high) → HasAll needs (nets_of low)) →
+    HasAll needs (nets_of (reads_where pin ports high)) → HasAll needs (nets_of (reads_where pin ports low))
+where_rise needs None ports high low rise all = rise all
+where_rise needs (Some port) ports high low rise all = pressed_rise needs (ports port) high low rise all
+
+forced_rise : (needs : ℕ → Bool) (forces : Forces ℕ) (ports : ℕ → Tri) (high low : List Source) → (HasAll needs (nets_of high) → HasAll needs (nets_of low)) →
+    HasAll needs (nets_of (forced_reads forces ports high)) → HasAll needs (nets_of (forced_reads forces ports low))
+forced_rise needs forces ports high low rise all =
+    where_rise needs forces.clear ports (reads_where forces.preset ports high) (reads_where forces.preset ports low) (where_rise needs forces.preset ports high low rise) all
 
 pub reads_rise : ReadsRise
 reads_rise l p needs view its over c all =
     let d : ℕ = (l.cell c).domain in
-    forced_rise (needs d) (l.cell c).force p.ports _ _
-    (taken_rise (needs d) (l.cell c).scan (value_from (view d)) (value_from (its d)) (l.cell c).input (λ source. source_over (view d) (its d) source (over d))) all
+    forced_rise (needs d) (l.cell c).forces p.ports _ _
+    (taken_rise (needs d) (l.cell c).takes.scan (value_from (view d)) (value_from (its d)) (l.cell c).takes.input (λ source. source_over (view d) (its d) source (over d))) all

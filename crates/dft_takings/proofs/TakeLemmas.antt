@@ -1,17 +1,17 @@
 -- What a next value at a strobe takes.
-use Rattle.std.proofs.Common.{ℕ, Bool, true, false, [], ◌∷◌, ◌≡◌, ◌<◌, zero, suc, refl, sym, ap, arith, ◌∙◌, Option, None, Some}
+use Rattle.std.proofs.Common.{ℕ, Bool, true, false, [], ◌∷◌, inl, inr, ◌≡◌, ◌<◌, zero, suc, refl, sym, ap, arith, ◌∙◌, Option, None, Some}
 use Rattle.std.specs.Prelude.{if◌then◌else◌}
 use Rattle.dft_base.specs.declared.tri.Tri.{Tri}
 use Rattle.dft_base.specs.declared.tri.Tri.TheVariants.{Zero, One, Unknown}
 use Rattle.dft_base.specs.Tri.{known}
-use Rattle.dft_cells.specs.FlipFlops.{tri_forced, tri_chosen}
+use Rattle.dft_cells.specs.FlipFlops.{tri_forced, tri_chosen, Scan, Forces, tri_taken_by, tri_forced_by, tri_scanned, tri_forced_where}
 use Rattle.dft_cells.proofs.TriLemmas.{forced_one, chosen_one, chosen_zero}
+use Rattle.dft_cells.proofs.TakesLemmas.{left_rests}
 use Rattle.dft_netlist.specs.Drivers.{Source, Net, Tied, Loose, nets_of, AreBelow}
-use Rattle.dft_behavior.specs.Logic.{Logic, Force, Scan, Meaning, Input, Clock, Gate, Joined, Flop, Lockup, Free, reads, IsRanked}
+use Rattle.dft_behavior.specs.Logic.{Logic, Meaning, Input, Clock, Gate, Joined, Flop, Lockup, Free, reads, IsRanked}
 use Rattle.dft_behavior.specs.Settled.{is_wire, value_from, value_given}
-use Rattle.dft_abstract.specs.Cycle.{tri_forced_by, tri_taken_by}
 use Rattle.dft_takings.specs.Needs.{still_from, IsStillFrom, next_reads}
-use Rattle.dft_takings.specs.Takes.{chosen_source, taken_source, source_at, forced_source, origin_of, origin_given, AreOrigins}
+use Rattle.dft_takings.specs.Takes.{chosen_source, taken_source, source_at, source_where, forced_source, origin_of, origin_given, AreOrigins}
 use Rattle.dft_takings.specs.Laws.{NextOfStrobe, NextOfSource, NextOfForce, OriginIsShown}
 use Rattle.dft_takings.proofs.ReadLemmas.{next_agrees, set_agrees}
 use Rattle.dft_takings.proofs.NeededLemmas.{needed_before}
@@ -31,7 +31,7 @@ chosen_is Zero v si d source is = chosen_zero (value_from v si) (value_from v d)
 chosen_is One v si d source is = chosen_one (value_from v si) (value_from v d) ∙ same_source v si source is
 chosen_is Unknown v si d source is = absurd cc
 
-taken_is : (scan : Option Scan) (v : ℕ → Tri) (data_in source : Source) → taken_source scan (value_from v) data_in ≡ Some source → tri_taken_by scan (value_from v) (value_from v data_in) ≡ value_from v source
+taken_is : (scan : Option (Scan Source)) (v : ℕ → Tri) (data_in source : Source) → taken_source scan (value_from v) data_in ≡ Some source → tri_scanned scan (value_from v) (value_from v data_in) ≡ value_from v source
 taken_is None v d source is = same_source v d source is
 taken_is (Some scan) v d source is = chosen_is (value_from v scan.enable) v scan.input d source is
 
@@ -48,20 +48,31 @@ pressed_is value Zero t u found source is taken = absurd cc
 pressed_is value One t u found source is taken = forced_one value t ∙ taken is
 pressed_is value Unknown t u found source is taken = absurd cc
 
-forced_is : (force : Option Force) (ports : ℕ → Tri) (t u : Tri) (found : Option Source) (source : Source) → forced_source force ports found ≡ Some source → (found ≡ Some source → t ≡ u) → tri_forced_by force ports t ≡ u
-forced_is None ports t u found source is taken = taken is
-forced_is (Some force) ports t u found source is taken = pressed_is force.value (ports force.port) t u found source is taken
+where_is : (value : Bool) (pin : Option ℕ) (ports : ℕ → Tri) (t u : Tri) (found : Option Source) (source : Source) → source_where pin ports found ≡ Some source → (found ≡ Some source → t ≡ u) → tri_forced_where value pin ports t ≡ u
+where_is value None ports t u found source is taken = taken is
+where_is value (Some port) ports t u found source is taken = pressed_is value (ports port) t u found source is taken
+
+forced_is : (forces : Forces ℕ) (ports : ℕ → Tri) (t u : Tri) (found : Option Source) (source : Source) → forced_source forces ports found ≡ Some source → (found ≡ Some source → t ≡ u) → tri_forced_by forces ports t ≡ u
+forced_is forces ports t u found source is taken =
+    where_is false forces.clear ports _ u (source_where forces.preset ports found) source is (λ was. where_is true forces.preset ports t u found source was taken)
 
 pub next_of_source : NextOfSource
 next_of_source l p view c source is =
     let v : ℕ → Tri = view (l.cell c).domain in
-    forced_is (l.cell c).force p.ports _ (value_from v source) (taken_source (l.cell c).scan (value_from v) (l.cell c).input) source is (taken_is (l.cell c).scan v (l.cell c).input source)
+    forced_is (l.cell c).forces p.ports _ (value_from v source) (taken_source (l.cell c).takes.scan (value_from v) (l.cell c).takes.input) source is (taken_is (l.cell c).takes.scan v (l.cell c).takes.input source)
+
+-- a reset or a set that acts leaves its value
+where_acts : (value : Bool) (pin : Option ℕ) (ports : ℕ → Tri) (t : Tri) (port : ℕ) → pin ≡ Some port → ports port ≡ Zero → tri_forced_where value pin ports t ≡ known value
+where_acts value pin ports t port is acts = ap (λ (a : Option ℕ). tri_forced_where value a ports t) is ∙ ap (λ (v : Tri). tri_forced value v t) acts ∙ forced_known value t
 
 pub next_of_force : NextOfForce
-next_of_force l p view c force is acts =
-    let v : ℕ → Tri = view (l.cell c).domain in
-    let t : Tri = tri_taken_by (l.cell c).scan (value_from v) (value_from v (l.cell c).input) in
-    ap (λ (f : Option Force). tri_forced_by f p.ports t) is ∙ ap (λ (port : Tri). tri_forced force.value port t) acts ∙ forced_known force.value t
+next_of_force l p view c port acts =
+    let forces : Forces ℕ = (l.cell c).forces in
+    let t : Tri = tri_taken_by (l.cell c).takes (p.old c) (value_from (view (l.cell c).domain)) in (
+      λ is. where_acts false forces.clear p.ports _ port is acts,
+      λ is rests. left_rests (record { clear = forces.clear; preset = None }) p.ports _ (λ pin at. elim at [ inl has ↦ rests pin has | inr none ↦ absurd cc ])
+          ∙ where_acts true forces.preset p.ports t port is acts,
+    )
 
 -- ---- one flip-flop
 

@@ -1,13 +1,13 @@
 -- Lists of what flip-flops take.
-use Rattle.std.proofs.Common.{ℕ, zero, suc, Bool, true, ◌&&◌, Option, None, Some, is_none, map, List, [], ◌∷◌, ◌++◌, ◌≡◌, ◌<◌, ◌≤◌, ◌+◌, ◌≢◌, ◌⊎◌, inl, inr, refl, sym, ap, ◌∙◌, subst, length, get_or, slice_set, get_or-set_same, get_or-set_other, below_more, arith}
+use Rattle.std.proofs.Common.{ℕ, zero, suc, Bool, true, false, ◌&&◌, Option, None, Some, is_none, map, List, [], ◌∷◌, ◌++◌, ◌≡◌, ◌<◌, ◌≤◌, ◌+◌, ◌≢◌, ◌⊎◌, inl, inr, refl, sym, ap, ◌∙◌, subst, length, get_or, slice_set, get_or-set_same, get_or-set_other, below_more, arith}
 use Rattle.std.proofs.lemmas.List.{get_or_past, get_or_default, get_or_append_left, get_or_push, length-append}
 use Rattle.std.proofs.lemmas.Bool.Decides.{eqb_tells, leb_tells}
 use Rattle.dft_base.specs.declared.tri.Tri.{Tri}
 use Rattle.dft_base.specs.declared.tri.Tri.TheVariants.{Zero, One, Unknown}
+use Rattle.dft_cells.specs.FlipFlops.{Scan, tri_scanned, tri_forced_where}
 use Rattle.dft_netlist.specs.Drivers.{Source, Net, Tied, Loose}
-use Rattle.dft_behavior.specs.Logic.{Cell, Force, Scan}
+use Rattle.dft_behavior.specs.Logic.{Cell}
 use Rattle.dft_behavior.specs.Settled.{value_from}
-use Rattle.dft_abstract.specs.Cycle.{tri_forced_by, tri_taken_by}
 use Rattle.dft_takings.specs.Entries as entries
 use Rattle.dft_takings.specs.declared.entries.Entry.{Entry}
 use Rattle.dft_takings.specs.declared.entries.Entry.TheVariants.{Keeps}
@@ -28,14 +28,15 @@ use Rattle.dft_logic.proofs.Writings.{cell_read}
 
 -- a loose flip-flop takes Unknown
 pub next_loose : (cell : Cell) (ports values : ℕ → Tri) → is_loose cell ≡ true → next_at cell ports values ≡ Unknown
-next_loose cell ports values is = go cell.input cell.scan cell.force is where
-  go : (input : Source) (scan : Option Scan) (force : Option Force) → (is_loose_input input && (is_none scan && is_none force)) ≡ true →
-      tri_forced_by force ports (tri_taken_by scan (value_from values) (value_from values input)) ≡ Unknown
-  go (Net net) scan force is = absurd cc
-  go (Tied bit) scan force is = absurd cc
-  go (Loose i pin) None None is = refl
-  go (Loose i pin) None (Some force) is = absurd cc
-  go (Loose i pin) (Some scan) force is = absurd cc
+next_loose cell ports values is = go cell.takes.input cell.takes.scan cell.forces.clear cell.forces.preset is where
+  go : (input : Source) (scan : Option (Scan Source)) (clear preset : Option ℕ) → (is_loose_input input && (is_none scan && (is_none clear && is_none preset))) ≡ true →
+      tri_forced_where false clear ports (tri_forced_where true preset ports (tri_scanned scan (value_from values) (value_from values input))) ≡ Unknown
+  go (Net net) scan clear preset is = absurd cc
+  go (Tied bit) scan clear preset is = absurd cc
+  go (Loose i pin) None None None is = refl
+  go (Loose i pin) None None (Some port) is = absurd cc
+  go (Loose i pin) None (Some port) preset is = absurd cc
+  go (Loose i pin) (Some scan) clear preset is = absurd cc
 
 -- an idle flip-flop's entry tells the value that it has
 pub idle_value : (cell : Cell) (old values : ℕ → Tri) (next : Tri) (c : ℕ) (entry : entries.Entry) → is_idle cell entry ≡ true → (is_loose cell ≡ true → old c ≡ Unknown) →

@@ -1,10 +1,11 @@
 -- What each flip-flop takes in a pulse where nothing that it needs moves: its entry.
-use Rattle.std.specs.Prelude.{ℕ, Bool, true, ◌&&◌, Option, None, Some, if◌then◌else◌}
+use Rattle.std.specs.Prelude.{ℕ, Bool, true, false, ◌&&◌, Option, None, Some, if◌then◌else◌}
 use Rattle.dft_base.specs.declared.tri.Tri.{Tri}
 use Rattle.dft_base.specs.declared.tri.Tri.TheVariants.{Zero, One, Unknown}
 use Rattle.dft_base.specs.Tri.{known}
+use Rattle.dft_cells.specs.FlipFlops.{Scan, Forces}
 use Rattle.dft_netlist.specs.Drivers.{Source, Net, Tied, Loose}
-use Rattle.dft_behavior.specs.Logic.{Logic, Force, Scan}
+use Rattle.dft_behavior.specs.Logic.{Logic}
 use Rattle.dft_behavior.specs.Settled.{value_from}
 use Rattle.dft_abstract.specs.Cycle.{Pulse, changes}
 use Rattle.dft_takings.specs.Shows.{Shown, is_still}
@@ -56,7 +57,7 @@ chosen_entry still origin Zero scan_in data_in = entry_if (still data_in) (Some 
 chosen_entry still origin One scan_in data_in = entry_if (still scan_in) (Some (source_entry origin scan_in))
 chosen_entry still origin Unknown scan_in data_in = entry_if (still scan_in && still data_in) (Some Computes)
 
-abbrev pub taken_entry : (still : Source → Bool) → (origin : ℕ → Option ℕ) → Option Scan → (at : Source → Tri) → (data_in : Source) → Option Entry
+abbrev pub taken_entry : (still : Source → Bool) → (origin : ℕ → Option ℕ) → Option (Scan Source) → (at : Source → Tri) → (data_in : Source) → Option Entry
 taken_entry still origin None at data_in = entry_if (still data_in) (Some (source_entry origin data_in))
 taken_entry still origin (Some scan) at data_in = entry_if (still scan.enable) (chosen_entry still origin (at scan.enable) scan.input data_in)
 
@@ -70,12 +71,15 @@ entry_at value Zero entry = Some (Takes (known value))
 entry_at value One entry = entry
 entry_at value Unknown entry = computed entry
 
-abbrev pub forced_entry : Option Force → (ports : ℕ → Tri) → Option Entry → Option Entry
-forced_entry None ports entry = entry
-forced_entry (Some force) ports entry = entry_at force.value (ports force.port) entry
+abbrev pub entry_where : (value : Bool) → (pin : Option ℕ) → (ports : ℕ → Tri) → Option Entry → Option Entry
+entry_where value None ports entry = entry
+entry_where value (Some port) ports entry = entry_at value (ports port) entry
+
+abbrev pub forced_entry : Forces ℕ → (ports : ℕ → Tri) → Option Entry → Option Entry
+forced_entry forces ports entry = entry_where false forces.clear ports (entry_where true forces.preset ports entry)
 
 -- The entry of a flip-flop, by the strobe's value of its scan enable; none where something that it needs may move.
 abbrev pub entry_given : Logic → Pulse → (origin : ℕ → Option ℕ) → (shown : ℕ → Shown) → (settled : ℕ → Tri) → (cell : ℕ) → Option Entry
 entry_given l p origin shown settled c =
     let d = (l.cell c).domain in
-    if changes l p c then forced_entry (l.cell c).force p.ports (taken_entry (is_still_source d shown) origin (l.cell c).scan (value_from settled) (l.cell c).input) else Some Keeps
+    if changes l p c then forced_entry (l.cell c).forces p.ports (taken_entry (is_still_source d shown) origin (l.cell c).takes.scan (value_from settled) (l.cell c).takes.input) else Some Keeps

@@ -1,9 +1,10 @@
 -- What nets show of flip-flops, and what flip-flops take, as tables.
 use Rattle.std.specs.Prelude.{ℕ, Bool, true, false, ◌≡◌, ◌<◌, ◌++◌, List, [], ◌∷◌, Option, None, Some, length, slice_index_or}
 use Rattle.dft_base.specs.declared.tri.Tri.{Tri}
+use Rattle.dft_cells.specs.FlipFlops.{Scan}
 use Rattle.dft_netlist.specs.declared.ids.InstanceId.{InstanceId}
-use Rattle.dft_netlist.specs.Drivers.{nets_of}
-use Rattle.dft_behavior.specs.Logic.{Cell, Scan}
+use Rattle.dft_netlist.specs.Drivers.{Source, nets_of}
+use Rattle.dft_behavior.specs.Logic.{Cell}
 use Rattle.dft_behavior.specs.Logic as meanings
 use Rattle.dft_netlist.specs.Orders.{Has}
 use Rattle.dft_abstract.specs.Cycle as Cycle
@@ -47,15 +48,15 @@ pub record MarksAll (old new : List Bool) (nets : List ℕ) : Type 0 where
   pub all : (k : ℕ) → k < length old → Has nets k → flag_at new k ≡ true
 
 -- the nets of the pins that are there for scan
-abbrev pub scan_needs : (enable_alone : Bool) → Option Scan → List ℕ
+abbrev pub scan_needs : (enable_alone : Bool) → Option (Scan Source) → List ℕ
 scan_needs alone None = []
 scan_needs true (Some scan) = nets_of (scan.enable ∷ [])
 scan_needs false (Some scan) = nets_of (scan.enable ∷ scan.input ∷ [])
 
 -- The nets that have to be settled for a flip-flop with an entry: its scan enable, and what the entry reads.
 abbrev pub entry_needs : Cell → entries.Entry → List ℕ
-entry_needs cell entries.Keeps = scan_needs true cell.scan
-entry_needs cell (entries.Takes value) = scan_needs true cell.scan
-entry_needs cell (entries.Follows other) = scan_needs true cell.scan
-entry_needs cell (entries.Reads net) = net ∷ scan_needs true cell.scan
-entry_needs cell entries.Computes = nets_of (cell.input ∷ []) ++ scan_needs false cell.scan
+entry_needs cell entries.Keeps = scan_needs true cell.takes.scan
+entry_needs cell (entries.Takes value) = scan_needs true cell.takes.scan
+entry_needs cell (entries.Follows other) = scan_needs true cell.takes.scan
+entry_needs cell (entries.Reads net) = net ∷ scan_needs true cell.takes.scan
+entry_needs cell entries.Computes = nets_of (cell.takes.input ∷ []) ++ scan_needs false cell.takes.scan

@@ -1,11 +1,12 @@
 -- What need not be settled, and what is settled once.
 use Rattle.std.specs.Prelude.{ℕ, Bool, true, false, if◌then◌else◌, ◌≡◌, List, [], ◌∷◌, map, Option, Some}
 use Rattle.dft_base.specs.declared.tri.Tri.{Tri}
-use Rattle.dft_base.specs.declared.tri.Tri.TheVariants.{Zero}
+use Rattle.dft_base.specs.declared.tri.Tri.TheVariants.{Zero, One}
 use Rattle.dft_base.specs.Tri.{known, AboveTri}
+use Rattle.dft_cells.specs.FlipFlops.{Scan, IsForceOf}
 use Rattle.dft_netlist.specs.declared.ids.NetId.{NetId}
 use Rattle.dft_netlist.specs.Drivers.{Source, nets_of}
-use Rattle.dft_behavior.specs.Logic.{Logic, Lockup, Force, Scan, IsRanked}
+use Rattle.dft_behavior.specs.Logic.{Logic, Lockup, IsRanked}
 use Rattle.dft_behavior.specs.Settled.{value_from}
 use Rattle.dft_netlist.specs.Orders.{numbers_of}
 use Rattle.dft_abstract.specs.Cycle.{Pulse, changes, level_before, AreViews, next_value, IsLeast, after_pulse}
@@ -119,10 +120,11 @@ NextOfSource =
     (l : Logic) (p : Pulse) (view : ℕ → ℕ → Tri) (c : ℕ) (source : Source) → next_source (l.cell c) p.ports (value_from (view (l.cell c).domain)) ≡ Some source →
     next_value l p view c ≡ value_from (view (l.cell c).domain) source
 
--- Where its reset or set acts, that leaves its value.
+-- Where its reset acts, it is 0; and where its set acts and its reset does not, it is 1.
 abbrev pub NextOfForce : Type 0
 NextOfForce =
-    (l : Logic) (p : Pulse) (view : ℕ → ℕ → Tri) (c : ℕ) (force : Force) → (l.cell c).force ≡ Some force → p.ports force.port ≡ Zero → next_value l p view c ≡ known force.value
+    (l : Logic) (p : Pulse) (view : ℕ → ℕ → Tri) (c port : ℕ) → p.ports port ≡ Zero → ((l.cell c).forces.clear ≡ Some port → next_value l p view c ≡ Zero)
+    × ((l.cell c).forces.preset ≡ Some port → ((pin : ℕ) → (l.cell c).forces.clear ≡ Some pin → p.ports pin ≡ One) → next_value l p view c ≡ One)
 
 -- A net that shows a flip-flop through joins and lock-ups has its value at a strobe.
 abbrev pub OriginIsShown : Type 0
@@ -151,7 +153,7 @@ abbrev pub PassOfNeeded : Type 0
 PassOfNeeded =
     (l : Logic) (rank : ℕ → ℕ) (p : Pulse) (origin : ℕ → Option ℕ) (shown : ℕ → Shown) (needs : (net : ℕ) → Bool) (values : ℕ → Tri) (entries : ℕ → Entry) → IsRanked l rank → AreOrigins l (level_before p) origin →
     IsShownOn l p (λ net. true) shown → IsStrobeClosed l needs → IsBeforeOn l p needs values → ((c : ℕ) → entry_given l p origin shown values c ≡ Some (entries c)) →
-    ((c : ℕ) (scan : Scan) → (l.cell c).scan ≡ Some scan → HasAll needs (nets_of (scan.enable ∷ []))) → ((c net : ℕ) → entries c ≡ Reads net → needs net ≡ true) →
+    ((c : ℕ) (scan : Scan Source) → (l.cell c).takes.scan ≡ Some scan → HasAll needs (nets_of (scan.enable ∷ []))) → ((c net : ℕ) → entries c ≡ Reads net → needs net ≡ true) →
     ((c : ℕ) → entries c ≡ Computes → HasAll needs (nets_of (next_reads (l.cell c) p.ports (value_from values)))) →
     (poss : ℕ → Tri) × ((view : ℕ → ℕ → Tri) × (IsLeast l p poss view × ((c : ℕ) → after_pulse l p view c ≡ entry_value p.old values (next_value l p (λ d. values) c) c (entries c))))
 
@@ -159,7 +161,7 @@ PassOfNeeded =
 abbrev pub EntryStays : Type 0
 EntryStays =
     (l : Logic) (p q : Pulse) (origin : ℕ → Option ℕ) (shown : ℕ → Shown) (settled other : ℕ → Tri) (c : ℕ) → changes l p c ≡ changes l q c →
-    ((force : Force) → (l.cell c).force ≡ Some force → p.ports force.port ≡ q.ports force.port) → ((scan : Scan) → (l.cell c).scan ≡ Some scan → value_from settled scan.enable ≡ value_from other scan.enable) →
+    ((port : ℕ) → IsForceOf (l.cell c).forces port → p.ports port ≡ q.ports port) → ((scan : Scan Source) → (l.cell c).takes.scan ≡ Some scan → value_from settled scan.enable ≡ value_from other scan.enable) →
     entry_given l p origin shown settled c ≡ entry_given l q origin shown other c
 
 -- ---- lists

@@ -4,9 +4,10 @@ use Rattle.std.specs.List.{AllByRecursion}
 use Rattle.dft_base.specs.declared.tri.Tri.{Tri}
 use Rattle.dft_base.specs.declared.tri.Tri.TheVariants.{Zero, One, Unknown}
 use Rattle.dft_base.specs.Tri.{known}
+use Rattle.dft_cells.specs.FlipFlops.{Scan, Forces}
 use Rattle.dft_netlist.specs.declared.ids.NetId.{NetId}
 use Rattle.dft_netlist.specs.Drivers.{Source, nets_of}
-use Rattle.dft_behavior.specs.Logic.{Logic, Cell, Force, Scan, Meaning, Input, Clock, Gate, Joined, Flop, Lockup, Free, reads}
+use Rattle.dft_behavior.specs.Logic.{Logic, Cell, Meaning, Input, Clock, Gate, Joined, Flop, Lockup, Free, reads}
 use Rattle.dft_behavior.specs.Settled.{TriSources, is_wire, value_from, value_given, IsTriSettled}
 use Rattle.dft_behavior.specs.Runs.{takes}
 use Rattle.dft_abstract.specs.Cycle.{Pulse, level_before, view_sources}
@@ -106,7 +107,7 @@ chosen_reads One scan_in data_in = scan_in ∷ []
 chosen_reads Unknown scan_in data_in = scan_in ∷ data_in ∷ []
 
 -- the scan enable, and what it lets through
-abbrev pub taken_reads : Option Scan → (at : Source → Tri) → (data_in : Source) → List Source
+abbrev pub taken_reads : Option (Scan Source) → (at : Source → Tri) → (data_in : Source) → List Source
 taken_reads None at data_in = data_in ∷ []
 taken_reads (Some scan) at data_in = scan.enable ∷ chosen_reads (at scan.enable) scan.input data_in
 
@@ -116,13 +117,16 @@ reads_at Zero sources = []
 reads_at One sources = sources
 reads_at Unknown sources = sources
 
-abbrev pub forced_reads : Option Force → (ports : ℕ → Tri) → List Source → List Source
-forced_reads None ports sources = sources
-forced_reads (Some force) ports sources = reads_at (ports force.port) sources
+abbrev pub reads_where : (pin : Option ℕ) → (ports : ℕ → Tri) → List Source → List Source
+reads_where None ports sources = sources
+reads_where (Some port) ports sources = reads_at (ports port) sources
+
+abbrev pub forced_reads : Forces ℕ → (ports : ℕ → Tri) → List Source → List Source
+forced_reads forces ports sources = reads_where forces.clear ports (reads_where forces.preset ports sources)
 
 -- what the next value of a flip-flop is read from
 abbrev pub next_reads : Cell → (ports : ℕ → Tri) → (at : Source → Tri) → List Source
-next_reads cell ports at = forced_reads cell.force ports (taken_reads cell.scan at cell.input)
+next_reads cell ports at = forced_reads cell.forces ports (taken_reads cell.takes.scan at cell.takes.input)
 
 -- in the view of its domain, the set has the nets that a flip-flop's next value is read from
 abbrev pub HasNextReads : Logic → Pulse → (needs : (view net : ℕ) → Bool) → (values : ℕ → ℕ → Tri) → (cell : ℕ) → Type 0

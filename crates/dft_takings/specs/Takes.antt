@@ -2,9 +2,10 @@
 use Rattle.std.specs.Prelude.{ℕ, Bool, ◌≡◌, Option, None, Some, if◌then◌else◌}
 use Rattle.dft_base.specs.declared.tri.Tri.{Tri}
 use Rattle.dft_base.specs.declared.tri.Tri.TheVariants.{Zero, One, Unknown}
+use Rattle.dft_cells.specs.FlipFlops.{Scan, Forces}
 use Rattle.dft_netlist.specs.Drivers.{Source, Net, Tied, Loose}
 use Rattle.dft_behavior.specs.Settled.{is_wire}
-use Rattle.dft_behavior.specs.Logic.{Logic, Cell, Force, Scan, Meaning, Input, Clock, Gate, Joined, Flop, Lockup, Free}
+use Rattle.dft_behavior.specs.Logic.{Logic, Cell, Meaning, Input, Clock, Gate, Joined, Flop, Lockup, Free}
 
 -- ---- flip-flops
 
@@ -13,7 +14,7 @@ chosen_source Zero scan_in data_in = Some data_in
 chosen_source One scan_in data_in = Some scan_in
 chosen_source Unknown scan_in data_in = None
 
-abbrev pub taken_source : Option Scan → (at : Source → Tri) → (data_in : Source) → Option Source
+abbrev pub taken_source : Option (Scan Source) → (at : Source → Tri) → (data_in : Source) → Option Source
 taken_source None at data_in = Some data_in
 taken_source (Some scan) at data_in = chosen_source (at scan.enable) scan.input data_in
 
@@ -23,13 +24,16 @@ source_at Zero source = None
 source_at One source = source
 source_at Unknown source = None
 
-abbrev pub forced_source : Option Force → (ports : ℕ → Tri) → Option Source → Option Source
-forced_source None ports source = source
-forced_source (Some force) ports source = source_at (ports force.port) source
+abbrev pub source_where : (pin : Option ℕ) → (ports : ℕ → Tri) → Option Source → Option Source
+source_where None ports source = source
+source_where (Some port) ports source = source_at (ports port) source
+
+abbrev pub forced_source : Forces ℕ → (ports : ℕ → Tri) → Option Source → Option Source
+forced_source forces ports source = source_where forces.clear ports (source_where forces.preset ports source)
 
 -- the one source whose value a flip-flop takes, where no reset or set may act and its scan enable is known
 abbrev pub next_source : Cell → (ports : ℕ → Tri) → (at : Source → Tri) → Option Source
-next_source cell ports at = forced_source cell.force ports (taken_source cell.scan at cell.input)
+next_source cell ports at = forced_source cell.forces ports (taken_source cell.takes.scan at cell.takes.input)
 
 -- ---- nets
 

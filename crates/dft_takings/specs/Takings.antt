@@ -2,6 +2,7 @@
 use Rattle.std.specs.Prelude.{ℕ, suc, Bool, true, false, ◌&&◌, ◌≡◌, ◌<◌, ◌≤◌, ◌+◌, ◌-◌, ◌⊎◌, List, [], ◌∷◌, Option, None, Some, length, is_none, nat_lt, slice_index_or}
 use Rattle.dft_base.specs.declared.tri.Tri.{Tri}
 use Rattle.dft_base.specs.declared.tri.Tri.TheVariants.{Zero, One, Unknown}
+use Rattle.dft_cells.specs.FlipFlops.{Forces}
 use Rattle.dft_netlist.specs.Drivers.{Source, Net, Tied, Loose}
 use Rattle.dft_behavior.specs.Logic.{Cell}
 use Rattle.dft_abstract.specs.Cycle.{Pulse}
@@ -30,9 +31,13 @@ is_loose_input (Net net) = false
 is_loose_input (Tied bit) = false
 is_loose_input (Loose i pin) = true
 
+-- whether there is neither a reset nor a set
+abbrev pub is_unforced : Forces ℕ → Bool
+is_unforced forces = is_none forces.clear && is_none forces.preset
+
 -- Whether a flip-flop takes Unknown in every pulse: its data input is joined to no net, and it has no scan pins, reset or set.
 abbrev pub is_loose : Cell → Bool
-is_loose cell = is_loose_input cell.input && (is_none cell.scan && is_none cell.force)
+is_loose cell = is_loose_input cell.takes.input && (is_none cell.takes.scan && is_unforced cell.forces)
 
 abbrev pub is_unknown : Tri → Bool
 is_unknown Zero = false

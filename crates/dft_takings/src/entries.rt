@@ -112,20 +112,28 @@ impl Sights<'_, '_> {
     }
 }
 
+// The entry where a reset (value 0) or a set (value 1) has this value at its pin.
+fn entry_at(value: bool, pin: Tri, entry: Option<Entry>) -> Option<Entry>
+    ensures { entry_there result ≡ spec.entry_at value pin (entry_there entry) }
+{
+    match pin {
+        Tri::Zero => Some(Entry::Takes(if value { Tri::One } else { Tri::Zero })),
+        Tri::One => entry,
+        Tri::Unknown => match entry {
+            Some(_) => Some(Entry::Computes),
+            None => None,
+        },
+    }
+}
+
 // The entry where a reset or set may act.
 fn forced_entry(force: Option<Acting>, ports: &[Tri], entry: Option<Entry>) -> Option<Entry>
     ensures { entry_there result ≡ spec.forced_entry (force_at force) (machine.value_at ports.now) (entry_there entry) }
 {
     match force {
         None => entry,
-        Some(acting) => match value_at(ports, acting.port.0) {
-            Tri::Zero => Some(Entry::Takes(if acting.value { Tri::One } else { Tri::Zero })),
-            Tri::One => entry,
-            Tri::Unknown => match entry {
-                Some(_) => Some(Entry::Computes),
-                None => None,
-            },
-        },
+        Some(Acting::Clear(port)) => entry_at(false, value_at(ports, port.0), entry),
+        Some(Acting::Preset(port)) => entry_at(true, value_at(ports, port.0), entry),
     }
 }
 

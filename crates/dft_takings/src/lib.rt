@@ -22,4 +22,4 @@ pub use needs::{list_marked, mark_needed};
 pub use origins::find_origins;
 pub use settling::{Pulse, View, inverted, is_wire, op_before, op_value, settle, strobe_view};
 pub use shown::{Shown, show_all};
-pub use takings::{Taking, find_moves, find_values, list_takings, put_all};
+pub use takings::{Taking, find_moves, find_values, is_unforced, list_takings, put_all};

@@ -81,14 +81,14 @@ fn mark_force(force: Option<Acting>, marked: &mut [bool])
 {
     match force {
         None => (),
-        Some(acting) => mark_net(acting.port, marked),
+        Some(Acting::Clear(port)) | Some(Acting::Preset(port)) => mark_net(port, marked),
     }
 }
 
 /// Marks the ports of all resets and sets.
 pub fn mark_forces(flops: &[FlipFlop], marked: &mut [bool])
     ensures size { length marked.new ≡ length marked.old }
-    ensures each { (c : ℕ) → c < length flops.now → MarksAll marked.old marked.new (force_nets (cell_at (map cell_of flops.now) c).force) }
+    ensures each { (c : ℕ) → c < length flops.now → MarksAll marked.old marked.new (force_nets (cell_at (map cell_of flops.now) c).forces) }
 {
     for flop in flops {
         mark_force(flop.force, marked);

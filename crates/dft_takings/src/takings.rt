@@ -6,7 +6,7 @@ ghost use Rattle.dft_logic.specs.Values as machine;
 ghost use Rattle.dft_registers.specs.Layout.{cells_at};
 ghost use Rattle.dft_registers.specs.Cells.{move_at, course, CanMove};
 ghost use Rattle.dft_registers.specs.declared.moves.Move.TheVariants.{Stays};
-ghost use Rattle.dft_logic.specs.Circuit.{cell_of, cell_at};
+ghost use Rattle.dft_logic.specs.Circuit.{force_at, cell_of, cell_at};
 ghost use Rattle.dft_takings.specs.Views.{pulse_at};
 ghost use Rattle.dft_takings.specs.EntryTables.{entry_of, entry_at};
 ghost use Rattle.dft_takings.specs.Takings as spec;
@@ -16,7 +16,7 @@ ghost use Rattle.dft_takings.specs.Takings.{taking_at, taken_by, TakeFrom, Takes
 use crate::entries::Entry;
 use crate::settling::Pulse;
 use dft_base::Tri;
-use dft_logic::{FlipFlop, Operand};
+use dft_logic::{Acting, FlipFlop, Operand};
 use dft_registers::{Cells, Move, Place};
 
 /// A flip-flop, by its place, and what it takes.
@@ -26,13 +26,23 @@ pub struct Taking {
     pub entry: Entry,
 }
 
+/// Whether there is neither a reset nor a set.
+pub fn is_unforced(force: Option<Acting>) -> bool
+    ensures { result ≡ spec.is_unforced (force_at force) }
+{
+    match force {
+        None => true,
+        Some(Acting::Clear(_)) | Some(Acting::Preset(_)) => false,
+    }
+}
+
 // Whether a flip-flop takes `Unknown` in every pulse: its data input is joined to no net, and it has no scan pins,
 // reset or set. So it is with what stands for an instance that is no flip-flop.
 fn is_loose(flop: &FlipFlop) -> bool
     ensures { result ≡ spec.is_loose (cell_of flop.now) }
 {
-    match (flop.input, flop.scan, flop.force) {
-        (Operand::Loose(_, _), None, None) => true,
+    match (flop.input, flop.scan) {
+        (Operand::Loose(_, _), None) => is_unforced(flop.force),
         _ => false,
     }
 }

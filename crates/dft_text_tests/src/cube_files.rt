@@ -5,8 +5,8 @@ use dft_cells::Library;
 use dft_config::{Config, FillRule};
 use dft_cubes::{Cube, CubeError, read};
 use dft_netlist::Design;
+use dft_netlist_reader::read as read_netlist;
 use dft_test_configs::{Shape, config_of};
-use dft_verilog::read as read_netlist;
 use std::alloc::{AllocError, Global};
 use std::test::Fail;
 

@@ -2,7 +2,8 @@
 
 use crate::netlist_lines::line_of;
 use dft_cells::Library;
-use dft_verilog::{MAX_TEXT, VerilogError, read};
+use dft_netlist_reader::{DesignError, read};
+use dft_verilog::{MAX_TEXT, ModulesError, VerilogError};
 use std::alloc::{AllocError, Global};
 use std::test::Fail;
 
@@ -15,11 +16,9 @@ fn column_of(error: &VerilogError) -> Option<u32> {
         VerilogError::V1 { place }
         | VerilogError::V2 { place }
         | VerilogError::V3 { place, .. }
-        | VerilogError::V4 { place, .. }
         | VerilogError::V5 { place, .. }
         | VerilogError::V6 { place }
         | VerilogError::V7 { place }
-        | VerilogError::V8 { place }
         | VerilogError::V9 { place }
         | VerilogError::V10 { place }
         | VerilogError::V11 { place, .. }
@@ -35,8 +34,8 @@ fn refused_at(alloc: Global, text: &[u8]) -> Result<Option<u32>, AllocError> {
     }
     let library = Library::standard(alloc)?;
     match read(alloc, text, library).err() {
-        Some(error) => Ok(column_of(&error)),
-        None => Ok(None),
+        Some(DesignError::Text(ModulesError::Module(error))) => Ok(column_of(&error)),
+        _ => Ok(None),
     }
 }
 

@@ -3,7 +3,8 @@
 use dft_base::{Name, Place};
 use dft_cells::Library;
 use dft_netlist::{CellRef, Counted, Design, Instance, NetlistError, Signal};
-use dft_verilog::{MAX_TEXT, VerilogError, read};
+use dft_netlist_reader::{DesignError, read};
+use dft_verilog::{MAX_TEXT, ModulesError, VerilogError};
 use std::alloc::{AllocError, Global};
 
 fn push_name(line: &mut String, name: &Name) -> Result<(), AllocError> {
@@ -18,14 +19,6 @@ fn placed(alloc: Global, code: &str, place: &Place) -> Result<String, AllocError
     let line = place.line;
     let column = place.column;
     format!(in alloc; "{code} {line}:{column}")
-}
-
-// The same with a name.
-fn named(alloc: Global, code: &str, place: &Place, name: &Name) -> Result<String, AllocError> {
-    let mut line = placed(alloc, code, place)?;
-    line.push(' ')?;
-    push_name(&mut line, name)?;
-    Ok(line)
 }
 
 fn counted(what: &Counted) -> &'static str {
@@ -46,13 +39,18 @@ fn refusal_of(alloc: Global, error: &NetlistError) -> Result<String, AllocError>
     }
 }
 
-// A cell that the library has not, a second module, the end of a text, and what is too many; other refusals are shown by runs.
-fn error_of(alloc: Global, error: &VerilogError) -> Result<String, AllocError> {
+// The end of a text, and what is too many; other refusals are shown by runs.
+fn module_error_of(alloc: Global, error: &VerilogError) -> Result<String, AllocError> {
     match error {
-        VerilogError::V4 { place, name } => named(alloc, "V4", place, name),
-        VerilogError::V8 { place } => placed(alloc, "V8", place),
         VerilogError::V9 { place } => placed(alloc, "V9", place),
         VerilogError::Netlist(error) => refusal_of(alloc, error),
+        _ => String::from_str(alloc, "refused"),
+    }
+}
+
+fn error_of(alloc: Global, error: &DesignError) -> Result<String, AllocError> {
+    match error {
+        DesignError::Text(ModulesError::Module(error)) => module_error_of(alloc, error),
         _ => String::from_str(alloc, "refused"),
     }
 }

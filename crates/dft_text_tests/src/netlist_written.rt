@@ -3,7 +3,8 @@
 use crate::designs::ring_of_forty;
 use crate::netlist_lines::line_of;
 use dft_cells::Library;
-use dft_verilog::{MAX_TEXT, read};
+use dft_netlist_reader::read;
+use dft_verilog::MAX_TEXT;
 use dft_verilog_out::{gates_are_joined, write};
 use std::alloc::{AllocError, Global};
 use std::test::Fail;

@@ -61,7 +61,7 @@ use Rattle.dft_generate.specs.Cubes.{cubes_text as job_cubes}
 use Rattle.dft_generate.specs.Jobs.{IsSize}
 use Rattle.dft_generate.specs.Netlists.{netlist_text as job_netlist}
 use Rattle.dft_generate.specs.Words.{words_of}
-use Rattle.dft_generate.proofs.ReadConfiguration.{configuration_read}
+use Rattle.dft_generate_laws.proofs.ReadConfiguration.{configuration_read}
 use Rattle.dft_generate_laws.specs.CubeLists.{cubes_in}
 use Rattle.dft_generate_laws.specs.Designs.{design}
 use Rattle.dft_generate_laws.proofs.Bytes.{pattern_texts_fit}

@@ -185,11 +185,9 @@ is_reason : (error : DesignError) (refusal : Refusal) â†’ design_refusal error â
 is_reason (design.Text (modules.Module (verilog.V1 place))) refusal is = tt
 is_reason (design.Text (modules.Module (verilog.V2 place))) refusal is = tt
 is_reason (design.Text (modules.Module (verilog.V3 place word))) refusal is = tt
-is_reason (design.Text (modules.Module (verilog.V4 place word))) refusal is = tt
 is_reason (design.Text (modules.Module (verilog.V5 place word))) refusal is = tt
 is_reason (design.Text (modules.Module (verilog.V6 place))) refusal is = tt
 is_reason (design.Text (modules.Module (verilog.V7 place))) refusal is = tt
-is_reason (design.Text (modules.Module (verilog.V8 place))) refusal is = tt
 is_reason (design.Text (modules.Module (verilog.V9 place))) refusal is = tt
 is_reason (design.Text (modules.Module (verilog.V10 place))) refusal is = tt
 is_reason (design.Text (modules.Module (verilog.V11 place word))) refusal is = tt

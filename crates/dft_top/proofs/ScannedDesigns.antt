@@ -19,4 +19,4 @@ loaded_named cells name held n given = let design = design_of cells name held n 
 
 -- and neither has its scanned netlist, which keeps the name
 pub scanned_given : (style : Style) (cells : List Cell) (text : List ℕ) (n : Netlist) (c : Config) → find_cell cells n.name ≡ None → IsKept style n c → StandsFor cells text (scanned style n c) → Gives cells text (scanned style n c)
-scanned_given style cells text n c named keeps stands = one_module_gives cells text (scanned style n c) stands (ap (find_cell cells) keeps.name ∙ named)
+scanned_given style cells text n c named keeps stands = one_module_gives cells text (scanned style n c) stands (ap (find_cell cells) keeps.design.name ∙ named)

@@ -21,7 +21,6 @@ use Rattle.dft_modules.specs.ModuleTexts.{module_said, in_module, name_ahead, re
 use Rattle.dft_verilog_module.specs.SaidModules.{said}
 use Rattle.dft_verilog.specs.TextsSaid.{IsAlone, IsReadAlone}
 use Rattle.dft_verilog.proofs.ModulesLemmas.{modules_end}
-use Rattle.dft_verilog.proofs.KeptGrammarLemmas.{Goes}
 use Rattle.dft_verilog.proofs.KeptModuleLemmas.{Whole, names_one, one_keep}
 use Rattle.dft_verilog.proofs.LoneModuleLemmas.{behind_items, behind_module_items, no_value}
 
@@ -141,7 +140,7 @@ unfolding end_of_text
 ended_by (Ok p) m whole us is end =
     let s = same_said (record m { draft = p.0 }) whole p.1 us is in
     let here : sees kind.End p.1 ≡ true = ap (sees kind.End) s.1 ∙ end in
-    (ap (λ (b : Bool). cond b (Ok (p.0, p.1)) (cond (sees kind.Module p.1) (Err (fault cause.SecondModule (left p.1))) (refuse p.1))) here ∙ ap₂ (λ (x : Said) xs. Ok (x.draft, xs)) s.0 s.1, ap (λ (x : Said). x.subs) s.0)
+    (ap (λ (b : Bool). cond b (Ok (p.0, p.1)) (refuse p.1)) here ∙ ap₂ (λ (x : Said) xs. Ok (x.draft, xs)) s.0 s.1, ap (λ (x : Said). x.subs) s.0)
 ended_by (Err f) m whole us is end = absurd (no_value f (whole, us) is)
 
 body_by : (o : Outcome Said) (start : Draft) (whole : Said) (ts us : List Token) → module_items (record { draft = start; subs = [] }) ts ≡ o → parser.and_then o behind_module_items ≡ Ok (whole, us) → whole.subs ≡ [] → sees kind.End us ≡ true
@@ -179,7 +178,7 @@ unfolding next_module module_of
 alone_said library text m us is none end =
     let ts = tokens text in
     let read = next_by (repeats library [] ts) (several.Repeated (name_ahead ts)) (one_module library ts) m us is in
-    let kept : Whole library (name_ahead ts) (names_one ts) m = subst (Goes (Whole library (name_ahead ts) (names_one ts))) read.1 (one_keep library ts) in
+    let kept : Whole library (name_ahead ts) (names_one ts) m = subst (Yields (Whole library (name_ahead ts) (names_one ts))) read.1 (one_keep library ts) in
     let new : find_cell library (name_ahead ts) ≡ None = new_by (names_one ts) (find_cell library (name_ahead ts)) kept.1 read.0 in
     record {
       said = ap parser.value_of (module_alone library m ts us read.1 none end);

@@ -423,13 +423,13 @@ cells_by : (id : CellId) (cell : Option Cell) (d : Draft) → IsSaid 0 [] d → 
 cells_by id None d h ts = tt
 cells_by id (Some cell) d h ts = cells_all id cell d h ts
 
-cells_named : (place : ℕ) (word : Text) (id : Option CellId) (d : Draft) → IsSaid 0 [] d → (ts : List Token) → Yields (IsSaid 0 []) (instances_named place word id d ts)
-cells_named place word None d h ts = tt
-cells_named place word (Some id) d h ts = cells_by id (slice_get d.library id.0) d h ts
+cells_named : (place : ℕ) (id : Option CellId) (d : Draft) → IsSaid 0 [] d → (ts : List Token) → Yields (IsSaid 0 []) (instances_named place id d ts)
+cells_named place None d h ts = tt
+cells_named place (Some id) d h ts = cells_by id (slice_get d.library id.0) d h ts
 
 cell_item_said : (d : Draft) → IsSaid 0 [] d → (ts : List Token) → Yields (IsSaid 0 []) (cell_item d ts)
 unfolding cell_item
-cell_item_said d h ts = passed (IsSaid 0 []) (expect kind.Name ts) _ (λ word us. cells_named (left ts) word (find_cell d.library word) d h us)
+cell_item_said d h ts = passed (IsSaid 0 []) (expect kind.Name ts) _ (λ word us. cells_named (left ts) (find_cell d.library word) d h us)
 
 -- ---- items
 
@@ -501,7 +501,7 @@ module_end_said d h ts = passed (IsSaid 0 []) (expect kind.Endmodule ts) _ (λ w
 
 end_said : (d : Draft) → IsSaid 0 [] d → (ts : List Token) → Yields (IsSaid 0 []) (end_of_text d ts)
 unfolding end_of_text
-end_said d h ts = either (IsSaid 0 []) (sees kind.End ts) _ _ h (either (IsSaid 0 []) (sees kind.Module ts) _ _ tt tt)
+end_said d h ts = either (IsSaid 0 []) (sees kind.End ts) _ _ h tt
 
 module_said : (library : List Cell) (ts : List Token) → Yields (IsSaid 0 []) (module_text library ts)
 unfolding module_text

@@ -1,5 +1,4 @@
 -- What a draft keeps as the rules say more of it: its name and its cells, where the nets of its ports stand, and that its parts stand among its nets.
--- And that no rule finds fault with a cell that the library has not, or with a second module.
 use Rattle.std.proofs.Common.{◌≡◌, ℕ, zero, suc, ◌+◌, ◌≤◌, Bool, true, false, not, ◌&&◌, cond, nat_le, nat_lt, List, [], ◌∷◌, ◌++◌, length, map, set, slice_get, is_some, Option, Some, None, Ok, Err, refl, sym, ap, ◌∙◌, subst, arith, length-append}
 use Rattle.std.specs.List.{All}
 use Rattle.std.specs.Option.{option_and_then}
@@ -8,14 +7,12 @@ use Rattle.std.proofs.lemmas.List.Elements.{All-weaker, All-head, All-tail, All-
 use Rattle.dft_base.specs.declared.place.Range.{Range}
 use Rattle.dft_base.specs.declared.dir.Dir.{Dir}
 use Rattle.dft_base.specs.Lexing.{Text}
-use Rattle.dft_base.specs.Parser.{Checked}
 use Rattle.dft_netlist.specs.declared.instance.Instance.{Instance}
 use Rattle.dft_netlist.specs.declared.instance.Join.{Join}
 use Rattle.dft_netlist.specs.declared.error.Counted.TheVariants as counted
 use Rattle.dft_netlist.specs.declared.limits.TheConstants.{MAX_PORTS, MAX_NETS, MAX_INSTANCES}
 use Rattle.dft_netlist.specs.Names.{bit_names}
 use Rattle.dft_netlist.proofs.SoundLemmas.{instance_more, join_more}
-use Rattle.dft_netlist_text.specs.declared.text.Cause.{Cause}
 use Rattle.dft_netlist_text.specs.declared.text.Cause.TheVariants as cause
 use Rattle.dft_netlist_text.specs.declared.text.Fault.{Fault}
 use Rattle.dft_netlist_text.specs.declared.text.Meaning.{Meaning}
@@ -24,33 +21,22 @@ use Rattle.dft_netlist_text.specs.declared.text.Declared.{Declared}
 use Rattle.dft_netlist_text.specs.Steps.{fault}
 use Rattle.dft_netlist_text.specs.Modules.{Draft, HeaderPort, TakenName, empty_draft, meaning_of, is_taken, with_name, net_count, names_of_bits, first_taken, free_bits, next_shape, with_nets, declare_nets, declared_at, port_place, announce, with_declared, declare_found, declare_port, declare_new_port, same_range, repeat_port, declare_wire_as, declare_wire, room_for_instance, name_instance, with_instance, with_join}
 use Rattle.dft_modules.specs.SubInstances.{name_sub}
+use Rattle.dft_netlist_text.proofs.ParserLemmas.{Gives}
 use Rattle.dft_verilog_draft.specs.Drafts.{IsMeaningWithin, AreNamesWithin, IsDeclaredWithin, InstanceFits, JoinFits, nets_alone}
 use Rattle.dft_verilog_draft.specs.Free.{taken_bit}
 use Rattle.dft_verilog_draft.proofs.DeclareLemmas.{length-bit_names}
 use Rattle.dft_verilog_draft.proofs.DraftLemmas.{meaning_more}
 use Rattle.dft_verilog.proofs.SaidLemmas.{ArePlaced, port_list, port_named, entry, list_set, get_last, placed_left, placed_append, placed_bits, place_found, with_bits-is}
 
--- ---- faults
-
--- a fault that a text of several modules may have
-abbrev pub IsFine : Cause → Type 0
-IsFine (cause.NoCell word) = ⊥
-IsFine cause.SecondModule = ⊥
-IsFine _ = Unit {0}
-
--- a check that gives what has this property, or such a fault
-abbrev pub Passes : {A : Type 0} → (A → Type 0) → Checked Fault A → Type 0
-Passes P (Ok a) = P a
-Passes P (Err f) = IsFine f.cause
+-- ---- tests
 
 -- what passes its tests
-tested : (P : Draft → Type 0) (t u v : Bool) (o : Option Text) (f g i : Fault) (place : ℕ) (new : Draft) → IsFine f.cause → IsFine g.cause → IsFine i.cause → P new
-    → Passes P (cond t (Err f) (free_bits place o (cond u (Err g) (cond v (Err i) (Ok new)))))
-tested P true u v o f g i place new a b c k = a
-tested P false u v (Some w) f g i place new a b c k = tt
-tested P false true v None f g i place new a b c k = b
-tested P false false true None f g i place new a b c k = c
-tested P false false false None f g i place new a b c k = k
+tested : (P : Draft → Type 0) (t u v : Bool) (o : Option Text) (f g i : Fault) (place : ℕ) (new : Draft) → P new → Gives P (cond t (Err f) (free_bits place o (cond u (Err g) (cond v (Err i) (Ok new)))))
+tested P true u v o f g i place new k = tt
+tested P false u v (Some w) f g i place new k = tt
+tested P false true v None f g i place new k = tt
+tested P false false true None f g i place new k = tt
+tested P false false false None f g i place new k = k
 
 -- ---- where nets stand
 
@@ -171,7 +157,7 @@ names_behind n m d own ws le h here =
 
 -- ---- declarations
 
-pub nets_keep : (start : Draft) (floor place : ℕ) (word : Text) (range : Option Range) (d : Draft) → Keeps start floor d → Passes (Keeps start floor) (declare_nets place word range d)
+pub nets_keep : (start : Draft) (floor place : ℕ) (word : Text) (range : Option Range) (d : Draft) → Keeps start floor d → Gives (Keeps start floor) (declare_nets place word range d)
 nets_keep start floor place word range d h =
     let bits = bit_names word range in
     let ws = names_of_bits word range in
@@ -179,7 +165,7 @@ nets_keep start floor place word range d h =
     let names = (d.names ++ own ∷ []) ++ map taken_bit ws in
     let count = length-append d.nets bits in
     tested (Keeps start floor) (is_taken d word) false (nat_lt MAX_NETS (length d.nets + net_count range)) (first_taken d ws) (fault (cause.Taken word) place) (fault (cause.Taken word) place) (fault (cause.Full counted.Nets) place) place
-    (with_nets word range (with_name word (meaning.Nets (next_shape d range)) d)) tt tt tt
+    (with_nets word range (with_name word (meaning.Nets (next_shape d range)) d))
     (subst (Keeps start floor) (sym (with_bits-is ws (record d { names = d.names ++ own ∷ []; nets = d.nets ++ bits })))
     (grown start floor d names d.ports bits h
     (placed_append (port_list d.ports) (d.names ++ own ∷ []) (map taken_bit ws) (placed_append (port_list d.ports) d.names (own ∷ []) h.places (tt, tt)) (placed_bits (port_list d.ports) ws))
@@ -203,32 +189,32 @@ push_keep start floor d word declared bits ws h stands =
     (names_behind (length d.nets) (length (d.nets ++ bits)) d own ws (omega (arith, count)) h.names tt)
     (All-append (PortStands (d.nets ++ bits)) d.ports (port_named word declared ∷ []) (ports_more d.nets bits d.ports h.ports) (All-cons (PortStands (d.nets ++ bits)) (port_named word declared) [] stands (All-nil (PortStands (d.nets ++ bits)))))
 
-pub announce_keep : (start : Draft) (floor place : ℕ) (word : Text) (d : Draft) → Keeps start floor d → Passes (Keeps start floor) (announce place word d)
+pub announce_keep : (start : Draft) (floor place : ℕ) (word : Text) (d : Draft) → Keeps start floor d → Gives (Keeps start floor) (announce place word d)
 announce_keep start floor place word d h =
     let own = entry word (meaning.Port (length d.ports)) in
     let ports = d.ports ++ port_named word None ∷ [] in
     tested (Keeps start floor) (is_taken d word) false (nat_le MAX_PORTS (length d.ports)) None (fault (cause.Taken word) place) (fault (cause.Taken word) place) (fault (cause.Full counted.Ports) place) place
-    (with_name word (meaning.Port (length d.ports)) (record d { ports = ports })) tt tt tt
+    (with_name word (meaning.Port (length d.ports)) (record d { ports = ports }))
     (subst (λ (names : List TakenName). Keeps start floor (record d { names = names; ports = ports })) (append-nil (d.names ++ own ∷ []))
     (subst (λ (nets : List Text). Keeps start floor (record d { names = (d.names ++ own ∷ []) ++ []; ports = ports; nets = nets })) (append-nil d.nets) (push_keep start floor d word None [] [] h tt)))
 
 abbrev facing : Dir → Option Range → Draft → Declared
 facing dir range d = record { dir = dir; shape = next_shape d range; repeated = false }
 
-pub new_port_keep : (start : Draft) (floor place : ℕ) (word : Text) (dir : Dir) (range : Option Range) (d : Draft) → Keeps start floor d → Passes (Keeps start floor) (declare_new_port place word dir range d)
+pub new_port_keep : (start : Draft) (floor place : ℕ) (word : Text) (dir : Dir) (range : Option Range) (d : Draft) → Keeps start floor d → Gives (Keeps start floor) (declare_new_port place word dir range d)
 new_port_keep start floor place word dir range d h =
     let bits = bit_names word range in
     let ws = names_of_bits word range in
     let own = entry word (meaning.Port (length d.ports)) in
     let ports = d.ports ++ port_named word (Some (facing dir range d)) ∷ [] in
     tested (Keeps start floor) (is_taken d word) (nat_le MAX_PORTS (length d.ports)) (nat_lt MAX_NETS (length d.nets + net_count range)) (first_taken d ws) (fault (cause.Taken word) place) (fault (cause.Full counted.Ports) place) (fault (cause.Full counted.Nets) place) place
-    (with_nets word range (with_name word (meaning.Port (length d.ports)) (record d { ports = ports }))) tt tt tt
+    (with_nets word range (with_name word (meaning.Port (length d.ports)) (record d { ports = ports })))
     (subst (Keeps start floor) (sym (with_bits-is ws (record d { names = d.names ++ own ∷ []; ports = ports; nets = d.nets ++ bits })))
     (push_keep start floor d word (Some (facing dir range d)) bits ws h (names_new d.nets bits)))
 
 -- a port of the header is declared
 at_keep : (start : Draft) (floor place : ℕ) (word : Text) (dir : Dir) (range : Option Range) (port : ℕ) (d : Draft) → Keeps start floor d → slice_get (port_list d.ports) port ≡ Some word
-    → Passes (Keeps start floor) (declare_found place word dir range d (Some port))
+    → Gives (Keeps start floor) (declare_found place word dir range d (Some port))
 at_keep start floor place word dir range port d h stands =
     let bits = bit_names word range in
     let ws = names_of_bits word range in
@@ -238,21 +224,21 @@ at_keep start floor place word dir range port d h stands =
     let count = length-append d.nets bits in
     let P : TakenName → Type 0 = λ e. IsMeaningWithin (length (d.nets ++ bits)) e.meaning in
     tested (Keeps start floor) (is_some (declared_at d port)) false (nat_lt MAX_NETS (length d.nets + net_count range)) (first_taken d ws) (fault (cause.Taken word) place) (fault (cause.Taken word) place) (fault (cause.Full counted.Nets) place) place
-    (with_nets word range (with_declared port word (facing dir range d) d)) tt tt tt
+    (with_nets word range (with_declared port word (facing dir range d) d))
     (subst (Keeps start floor) (sym (with_bits-is ws (record d { ports = ports; nets = d.nets ++ bits })))
     (grown start floor d names ports bits h
     (subst (λ ps. ArePlaced ps names) (sym (list_set d.ports port word (Some (facing dir range d)) stands)) (placed_append (port_list d.ports) d.names (map taken_bit ws) h.places (placed_bits (port_list d.ports) ws)))
     (All-append P d.names (map taken_bit ws) (names_within_more (length d.nets) (length (d.nets ++ bits)) (omega (arith, count)) d.names h.names) (bits_within (length (d.nets ++ bits)) ws))
     (All-set (PortStands (d.nets ++ bits)) d.ports port one (names_new d.nets bits) (ports_more d.nets bits d.ports h.ports))))
 
-port_by : (start : Draft) (floor place : ℕ) (word : Text) (dir : Dir) (range : Option Range) (d : Draft) (m : Option Meaning) → Keeps start floor d → meaning_of d word ≡ m → Passes (Keeps start floor) (declare_found place word dir range d (port_place m))
+port_by : (start : Draft) (floor place : ℕ) (word : Text) (dir : Dir) (range : Option Range) (d : Draft) (m : Option Meaning) → Keeps start floor d → meaning_of d word ≡ m → Gives (Keeps start floor) (declare_found place word dir range d (port_place m))
 port_by start floor place word dir range d None h e = tt
 port_by start floor place word dir range d (Some (meaning.Port port)) h e = at_keep start floor place word dir range port d h (place_found (port_list d.ports) d.names word port h.places e)
 port_by start floor place word dir range d (Some (meaning.Nets shape)) h e = tt
 port_by start floor place word dir range d (Some meaning.Bit) h e = tt
 port_by start floor place word dir range d (Some meaning.Instance) h e = tt
 
-pub port_keep : (start : Draft) (floor place : ℕ) (word : Text) (dir : Dir) (range : Option Range) (d : Draft) → Keeps start floor d → Passes (Keeps start floor) (declare_port place word dir range d)
+pub port_keep : (start : Draft) (floor place : ℕ) (word : Text) (dir : Dir) (range : Option Range) (d : Draft) → Keeps start floor d → Gives (Keeps start floor) (declare_port place word dir range d)
 port_keep start floor place word dir range d h = port_by start floor place word dir range d (meaning_of d word) h refl
 
 -- a port that was declared stands so
@@ -264,17 +250,17 @@ stands_at nets (p ∷ ports) zero word declared h named was =
     subst (λ w. DeclaredStands nets w (Some declared)) own (subst (λ o. DeclaredStands nets p.name o) was (All-head (PortStands nets) p ports h))
 stands_at nets (p ∷ ports) (suc place) word declared h named was = stands_at nets ports place word declared (All-tail (PortStands nets) p ports h) named was
 
-repeat_by : (start : Draft) (floor : ℕ) (b : Bool) (f : Fault) (new : Draft) → IsFine f.cause → Keeps start floor new → Passes (Keeps start floor) (cond b (Ok new) (Err f))
-repeat_by start floor true f new fine h = h
-repeat_by start floor false f new fine h = fine
+repeat_by : (start : Draft) (floor : ℕ) (b : Bool) (f : Fault) (new : Draft) → Keeps start floor new → Gives (Keeps start floor) (cond b (Ok new) (Err f))
+repeat_by start floor true f new h = h
+repeat_by start floor false f new h = tt
 
 repeat_keep : (start : Draft) (floor place : ℕ) (word : Text) (range : Option Range) (d : Draft) (port : ℕ) (declared : Option Declared) → Keeps start floor d → slice_get (port_list d.ports) port ≡ Some word → declared_at d port ≡ declared
-    → Passes (Keeps start floor) (repeat_port place word range d port declared)
+    → Gives (Keeps start floor) (repeat_port place word range d port declared)
 repeat_keep start floor place word range d port None h named was = tt
 repeat_keep start floor place word range d port (Some declared) h named was =
     let again : Declared = record declared { repeated = true } in
     let one = port_named word (Some again) in
-    repeat_by start floor (same_range declared.shape.range range && not declared.repeated) (fault (cause.Taken word) place) (with_declared port word again d) tt (record {
+    repeat_by start floor (same_range declared.shape.range range && not declared.repeated) (fault (cause.Taken word) place) (with_declared port word again d) (record {
       name = h.name;
       library = h.library;
       many = h.many;
@@ -285,14 +271,14 @@ repeat_keep start floor place word range d port (Some declared) h named was =
       joins = h.joins;
     })
 
-wire_by : (start : Draft) (floor place : ℕ) (word : Text) (range : Option Range) (d : Draft) (m : Option Meaning) → Keeps start floor d → meaning_of d word ≡ m → Passes (Keeps start floor) (declare_wire_as place word range d (port_place m))
+wire_by : (start : Draft) (floor place : ℕ) (word : Text) (range : Option Range) (d : Draft) (m : Option Meaning) → Keeps start floor d → meaning_of d word ≡ m → Gives (Keeps start floor) (declare_wire_as place word range d (port_place m))
 wire_by start floor place word range d None h e = nets_keep start floor place word range d h
 wire_by start floor place word range d (Some (meaning.Port port)) h e = repeat_keep start floor place word range d port (declared_at d port) h (place_found (port_list d.ports) d.names word port h.places e) refl
 wire_by start floor place word range d (Some (meaning.Nets shape)) h e = nets_keep start floor place word range d h
 wire_by start floor place word range d (Some meaning.Bit) h e = nets_keep start floor place word range d h
 wire_by start floor place word range d (Some meaning.Instance) h e = nets_keep start floor place word range d h
 
-pub wire_keep : (start : Draft) (floor place : ℕ) (word : Text) (range : Option Range) (d : Draft) → Keeps start floor d → Passes (Keeps start floor) (declare_wire place word range d)
+pub wire_keep : (start : Draft) (floor place : ℕ) (word : Text) (range : Option Range) (d : Draft) → Keeps start floor d → Gives (Keeps start floor) (declare_wire place word range d)
 wire_keep start floor place word range d h = wire_by start floor place word range d (meaning_of d word) h refl
 
 -- ---- instances and joins
@@ -303,17 +289,17 @@ instance_named start floor word d h =
     let P : TakenName → Type 0 = λ e. IsMeaningWithin (length d.nets) e.meaning in
     renamed start floor d (d.names ++ own ∷ []) h (placed_append (port_list d.ports) d.names (own ∷ []) h.places (tt, tt)) (All-append P d.names (own ∷ []) h.names (All-cons P own [] tt (All-nil P)))
 
-pub name_keep : (start : Draft) (floor place : ℕ) (word : Text) (d : Draft) → Keeps start floor d → Passes (Keeps start floor) (name_instance place word d)
+pub name_keep : (start : Draft) (floor place : ℕ) (word : Text) (d : Draft) → Keeps start floor d → Gives (Keeps start floor) (name_instance place word d)
 name_keep start floor place word d h =
-    tested (Keeps start floor) (is_taken d word) false (nat_le MAX_INSTANCES (length d.instances)) None (fault (cause.Taken word) place) (fault (cause.Taken word) place) (fault (cause.Full counted.Instances) place) place (with_name word meaning.Instance d) tt tt tt (instance_named start floor word d h)
+    tested (Keeps start floor) (is_taken d word) false (nat_le MAX_INSTANCES (length d.instances)) None (fault (cause.Taken word) place) (fault (cause.Taken word) place) (fault (cause.Full counted.Instances) place) place (with_name word meaning.Instance d) (instance_named start floor word d h)
 
-pub sub_keep : (start : Draft) (floor place : ℕ) (word : Text) (d : Draft) → Keeps start floor d → Passes (Keeps start floor) (name_sub place word d)
+pub sub_keep : (start : Draft) (floor place : ℕ) (word : Text) (d : Draft) → Keeps start floor d → Gives (Keeps start floor) (name_sub place word d)
 sub_keep start floor place word d h =
-    tested (Keeps start floor) (is_taken d word) false false None (fault (cause.Taken word) place) (fault (cause.Taken word) place) (fault (cause.Taken word) place) place (with_name word meaning.Instance d) tt tt tt (instance_named start floor word d h)
+    tested (Keeps start floor) (is_taken d word) false false None (fault (cause.Taken word) place) (fault (cause.Taken word) place) (fault (cause.Taken word) place) place (with_name word meaning.Instance d) (instance_named start floor word d h)
 
-pub room_keep : (start : Draft) (floor place : ℕ) (d : Draft) → Keeps start floor d → Passes (Keeps start floor) (room_for_instance place d)
+pub room_keep : (start : Draft) (floor place : ℕ) (d : Draft) → Keeps start floor d → Gives (Keeps start floor) (room_for_instance place d)
 room_keep start floor place d h =
-    tested (Keeps start floor) (nat_le MAX_INSTANCES (length d.instances)) false false None (fault (cause.Full counted.Instances) place) (fault (cause.Full counted.Instances) place) (fault (cause.Full counted.Instances) place) place d tt tt tt h
+    tested (Keeps start floor) (nat_le MAX_INSTANCES (length d.instances)) false false None (fault (cause.Full counted.Instances) place) (fault (cause.Full counted.Instances) place) (fault (cause.Full counted.Instances) place) place d h
 
 -- an instance more, which can stand there
 pub instance_keep : (start : Draft) (floor : ℕ) (i : Instance) (d : Draft) → Keeps start floor d → InstanceFits (nets_alone d) i → Keeps start floor (with_instance i d)

@@ -11,26 +11,24 @@ use Rattle.dft_base.specs.Parser.{pure, ◌>>=◌, ◌>>◌}
 use Rattle.dft_cells.specs.declared.cell.Cell.{Cell}
 use Rattle.dft_cells.specs.declared.cell.CellId.{CellId}
 use Rattle.dft_cells.specs.Cells.{find_cell}
-use Rattle.dft_netlist_text.specs.declared.text.Cause.TheVariants as cause
-use Rattle.dft_netlist_text.specs.declared.text.Fault.{Fault}
 use Rattle.dft_netlist_text.specs.declared.text.TokenKind.TheVariants as kind
 use Rattle.dft_netlist_text.specs.declared.text.Site.TheVariants as site
 use Rattle.dft_netlist_text.specs.Lexemes.{Token, tokens}
-use Rattle.dft_netlist_text.specs.Steps.{Outcome, Rule, bytes, left, next, sees, refusal, expect, checked}
+use Rattle.dft_netlist_text.specs.Steps.{Outcome, Rule, bytes, left, next, sees, refusal, eat, expect, checked}
 use Rattle.dft_netlist_text.specs.Modules.{Draft, empty_draft}
 use Rattle.dft_netlist_text.specs.Items.{item}
 use Rattle.dft_netlist_text.specs.NetlistText.{header, heading, module_end}
-use Rattle.dft_netlist_text.proofs.ParserLemmas.{Yields}
+use Rattle.dft_netlist_text.proofs.ParserLemmas.{Yields, behind, passed, either, of_check, turns}
 use Rattle.dft_modules.specs.declared.fault.ModulesFault.{ModulesFault}
 use Rattle.dft_modules.specs.declared.fault.ModulesFault.TheVariants as fault
 use Rattle.dft_modules.specs.Modules.{Module}
 use Rattle.dft_modules.specs.Sound.{IsModule, AreModules}
-use Rattle.dft_modules.specs.Laws.{AreNew, SaidAreModules, NeverForCells, NeverForModules}
-use Rattle.dft_modules.specs.SubInstances.{SubConnection, DraftSub, Said, NamedPort, PortsConnected, was_named, named_port, port_content, port_connection, port_connections_from, port_connections, name_sub, sub_instance, sub_instances_from, sub_instances, sub_item, module_item, module_items_from, module_items, one_module}
+use Rattle.dft_modules.specs.Laws.{AreNew, SaidAreModules}
+use Rattle.dft_modules.specs.SubInstances.{SubConnection, DraftSub, Said, PortsConnected, named_port, port_content, port_connection, port_connections_from, port_connections, name_sub, sub_instance, sub_instances_from, sub_instances, sub_item, module_item, module_items_from, module_items, one_module}
 use Rattle.dft_modules.specs.ModuleTexts.{module_said, in_module, name_ahead, is_repeated, next_module, modules_from, modules_of}
 use Rattle.dft_verilog_draft.proofs.OperandLemmas.{bits_more, no_bits}
-use Rattle.dft_verilog.proofs.KeepLemmas.{IsFine, Keeps, keeps_empty, raise, lower, sub_keep}
-use Rattle.dft_verilog.proofs.KeptGrammarLemmas.{Goes, Any, behind, either, of_check, of_need, turns, refusal_fine, expected, eaten, header_keep, Bits, expression_keep, item_keep, module_end_keep}
+use Rattle.dft_verilog.proofs.KeepLemmas.{Keeps, keeps_empty, raise, lower, sub_keep}
+use Rattle.dft_verilog.proofs.KeptGrammarLemmas.{header_keep, Bits, expression_keep, item_keep, module_end_keep}
 use Rattle.dft_verilog.proofs.SaidModuleLemmas.{IsSaidModule, one_said}
 use Rattle.dft_verilog.proofs.SoundModuleLemmas.{ConnectionStands, SubStands, KeepsAll, module_sound}
 
@@ -46,48 +44,44 @@ connections_more a b le cs h = All-weaker (ConnectionStands a) (ConnectionStands
 subs_more : (a b : ℕ) → a ≤ b → (ss : List DraftSub) → All (SubStands a) ss → All (SubStands b) ss
 subs_more a b le ss h = All-weaker (SubStands a) (SubStands b) (λ s w. connections_more a b le s.connections w) ss h
 
-port_goes : (connections : List SubConnection) (ts : List Token) → Goes Any (named_port connections ts)
-unfolding named_port
-port_goes connections ts = expected Any kind.Name ts _ (λ word us. let named : NamedPort = record { port = word; left = left ts } in of_need {A = NamedPort} Any (cause.JoinedTwice word) (left ts) (not (was_named connections word)) (parser.pure named) us tt (tt {0}))
-
-content_keep : (start : Draft) (floor : ℕ) (d : Draft) → Keeps start floor d → (ts : List Token) → Goes (Bits start floor false) (port_content d ts)
+content_keep : (start : Draft) (floor : ℕ) (d : Draft) → Keeps start floor d → (ts : List Token) → Yields (Bits start floor false) (port_content d ts)
 unfolding port_content
 content_keep start floor d h ts = either (Bits start floor false) (sees kind.CloseParen ts) _ _ (h, no_bits (length d.nets) false) (expression_keep start floor (site.Pin false) d h ts)
 
-connection_keep : (start : Draft) (floor : ℕ) (c : PortsConnected) → Ports start floor c → (ts : List Token) → Goes (Ports start floor) (port_connection c ts)
+connection_keep : (start : Draft) (floor : ℕ) (c : PortsConnected) → Ports start floor c → (ts : List Token) → Yields (Ports start floor) (port_connection c ts)
 unfolding port_connection
 connection_keep start floor c h ts =
-    expected (Ports start floor) kind.Point ts _ (λ w us.
-    behind Any (Ports start floor) (named_port c.1 us) _ (port_goes c.1 us) (λ named a vs.
-    expected (Ports start floor) kind.OpenParen vs _ (λ x ws.
+    passed (Ports start floor) (expect kind.Point ts) _ (λ w us.
+    passed (Ports start floor) (named_port c.1 us) _ (λ named vs.
+    passed (Ports start floor) (expect kind.OpenParen vs) _ (λ x ws.
     behind (Bits start (length c.0.nets) false) (Ports start floor) (port_content c.0 ws) _ (content_keep start (length c.0.nets) c.0 (raise start floor c.0 h.0) ws) (λ to m xs.
-    expected (Ports start floor) kind.CloseParen xs _ (λ y ys.
+    passed (Ports start floor) (expect kind.CloseParen xs) _ (λ y ys.
     let one : SubConnection = record { left = named.left; port = named.port; signals = to.1 } in
     let P = ConnectionStands (length to.0.nets) in
     (lower start floor (length c.0.nets) to.0 h.0.many m.0, All-append P c.1 (one ∷ []) (connections_more (length c.0.nets) (length to.0.nets) m.0.many c.1 h.1) (All-cons P one [] m.1 (All-nil P))))))))
 
-connections_of : (n : ℕ) (start : Draft) (floor : ℕ) (c : PortsConnected) → Ports start floor c → (ts : List Token) → Goes (Ports start floor) (port_connections_from n c ts)
+connections_of : (n : ℕ) (start : Draft) (floor : ℕ) (c : PortsConnected) → Ports start floor c → (ts : List Token) → Yields (Ports start floor) (port_connections_from n c ts)
 unfolding port_connections_from
-connections_of zero start floor c h ts = refusal_fine ts
+connections_of zero start floor c h ts = tt
 connections_of (suc n) start floor c h ts =
     behind (Ports start floor) (Ports start floor) (port_connection c ts) _ (connection_keep start floor c h ts) (λ more m us.
-    eaten (Ports start floor) kind.Comma us _ (λ comma vs. turns (Ports start floor) comma more (port_connections_from n more) m (λ ws. connections_of n start floor more m ws) vs))
+    passed (Ports start floor) (eat kind.Comma us) _ (λ comma vs. turns (Ports start floor) comma more (port_connections_from n more) m (λ ws. connections_of n start floor more m ws) vs))
 
-connections_keep : (start : Draft) (floor : ℕ) (c : PortsConnected) → Ports start floor c → (ts : List Token) → Goes (Ports start floor) (port_connections c ts)
+connections_keep : (start : Draft) (floor : ℕ) (c : PortsConnected) → Ports start floor c → (ts : List Token) → Yields (Ports start floor) (port_connections c ts)
 unfolding port_connections
 connections_keep start floor c h ts = either (Ports start floor) (sees kind.CloseParen ts) _ _ h (connections_of (left ts) start floor c h ts)
 
 -- ---- module instances
 
-instance_keep : (start : Draft) (floor : ℕ) (of : Text) (m : Said) → KeepsAll start floor m → (ts : List Token) → Goes (KeepsAll start floor) (sub_instance of m ts)
+instance_keep : (start : Draft) (floor : ℕ) (of : Text) (m : Said) → KeepsAll start floor m → (ts : List Token) → Yields (KeepsAll start floor) (sub_instance of m ts)
 unfolding sub_instance
 instance_keep start floor of m h ts =
     let here = length m.draft.nets in
-    expected (KeepsAll start floor) kind.Name ts _ (λ word us.
+    passed (KeepsAll start floor) (expect kind.Name ts) _ (λ word us.
     behind (Keeps start here) (KeepsAll start floor) (checked (name_sub (left ts) word m.draft) us) _ (of_check (Keeps start here) (name_sub (left ts) word m.draft) us (sub_keep start here (left ts) word m.draft (raise start floor m.draft h.draft))) (λ named k vs.
-    expected (KeepsAll start floor) kind.OpenParen vs _ (λ w ws.
+    passed (KeepsAll start floor) (expect kind.OpenParen vs) _ (λ w ws.
     behind (Ports start here) (KeepsAll start floor) (port_connections (named, []) ws) _ (connections_keep start here (named, []) (k, All-nil (ConnectionStands (length named.nets))) ws) (λ c n xs.
-    expected (KeepsAll start floor) kind.CloseParen xs _ (λ x ys.
+    passed (KeepsAll start floor) (expect kind.CloseParen xs) _ (λ x ys.
     let one : DraftSub = record { name = word; of = of; joins = length c.0.joins; cells = length c.0.instances; connections = c.1 } in
     let P = SubStands (length c.0.nets) in
     record {
@@ -95,45 +89,39 @@ instance_keep start floor of m h ts =
       subs = All-append P m.subs (one ∷ []) (subs_more here (length c.0.nets) n.0.many m.subs h.subs) (All-cons P one [] n.1 (All-nil P));
     })))))
 
-instances_of : (n : ℕ) (start : Draft) (floor : ℕ) (of : Text) (m : Said) → KeepsAll start floor m → (ts : List Token) → Goes (KeepsAll start floor) (sub_instances_from n of m ts)
+instances_of : (n : ℕ) (start : Draft) (floor : ℕ) (of : Text) (m : Said) → KeepsAll start floor m → (ts : List Token) → Yields (KeepsAll start floor) (sub_instances_from n of m ts)
 unfolding sub_instances_from
-instances_of zero start floor of m h ts = refusal_fine ts
+instances_of zero start floor of m h ts = tt
 instances_of (suc n) start floor of m h ts =
     behind (KeepsAll start floor) (KeepsAll start floor) (sub_instance of m ts) _ (instance_keep start floor of m h ts) (λ more k us.
-    eaten (KeepsAll start floor) kind.Comma us _ (λ comma vs. turns (KeepsAll start floor) comma more (sub_instances_from n of more) k (λ ws. instances_of n start floor of more k ws) vs))
+    passed (KeepsAll start floor) (eat kind.Comma us) _ (λ comma vs. turns (KeepsAll start floor) comma more (sub_instances_from n of more) k (λ ws. instances_of n start floor of more k ws) vs))
 
-instances_keep : (start : Draft) (floor : ℕ) (of : Text) (m : Said) → KeepsAll start floor m → (ts : List Token) → Goes (KeepsAll start floor) (sub_instances of m ts)
+instances_keep : (start : Draft) (floor : ℕ) (of : Text) (m : Said) → KeepsAll start floor m → (ts : List Token) → Yields (KeepsAll start floor) (sub_instances of m ts)
 unfolding sub_instances
 instances_keep start floor of m h ts =
-    behind (KeepsAll start floor) (KeepsAll start floor) (sub_instances_from (left ts) of m ts) _ (instances_of (left ts) start floor of m h ts) (λ more k us. expected (KeepsAll start floor) kind.Semicolon us _ (λ w vs. k))
+    behind (KeepsAll start floor) (KeepsAll start floor) (sub_instances_from (left ts) of m ts) _ (instances_of (left ts) start floor of m h ts) (λ more k us. passed (KeepsAll start floor) (expect kind.Semicolon us) _ (λ w vs. k))
 
-sub_item_keep : (start : Draft) (floor : ℕ) (m : Said) → KeepsAll start floor m → (ts : List Token) → Goes (KeepsAll start floor) (sub_item m ts)
+sub_item_keep : (start : Draft) (floor : ℕ) (m : Said) → KeepsAll start floor m → (ts : List Token) → Yields (KeepsAll start floor) (sub_item m ts)
 unfolding sub_item
-sub_item_keep start floor m h ts = expected (KeepsAll start floor) kind.Name ts _ (λ of us. instances_keep start floor of m h us)
+sub_item_keep start floor m h ts = passed (KeepsAll start floor) (expect kind.Name ts) _ (λ of us. instances_keep start floor of m h us)
 
 -- ---- items
 
--- where no module instance comes next, a name that comes is that of a cell
-either_item : (P : Said → Type 0) (name cell : Bool) (x y : Outcome Said) → Goes P x → ((name ≡ true → cell ≡ true) → Goes P y) → Goes P (cond (name && not cell) x y)
-either_item P true true x y hx hy = hy (λ e. refl)
-either_item P true false x y hx hy = hx
-either_item P false cell x y hx hy = hy (λ e. absurd (cc))
-
-module_item_keep : (start : Draft) (floor : ℕ) (m : Said) → KeepsAll start floor m → (ts : List Token) → Goes (KeepsAll start floor) (module_item m ts)
+module_item_keep : (start : Draft) (floor : ℕ) (m : Said) → KeepsAll start floor m → (ts : List Token) → Yields (KeepsAll start floor) (module_item m ts)
 unfolding module_item
 module_item_keep start floor m h ts =
     let here = length m.draft.nets in
-    either_item (KeepsAll start floor) (sees kind.Name ts) (is_some (find_cell m.draft.library (bytes ts))) _ _ (sub_item_keep start floor m h ts) (λ has.
-    behind (Keeps start here) (KeepsAll start floor) (item m.draft ts) _ (item_keep start here m.draft (raise start floor m.draft h.draft) ts has) (λ d k us.
+    either (KeepsAll start floor) (sees kind.Name ts && not (is_some (find_cell m.draft.library (bytes ts)))) _ _ (sub_item_keep start floor m h ts)
+    (behind (Keeps start here) (KeepsAll start floor) (item m.draft ts) _ (item_keep start here m.draft (raise start floor m.draft h.draft) ts) (λ d k us.
     record { draft = lower start floor here d h.draft.many k; subs = subs_more here (length d.nets) k.many m.subs h.subs }))
 
-items_of : (n : ℕ) (start : Draft) (floor : ℕ) (m : Said) → KeepsAll start floor m → (ts : List Token) → Goes (KeepsAll start floor) (module_items_from n m ts)
+items_of : (n : ℕ) (start : Draft) (floor : ℕ) (m : Said) → KeepsAll start floor m → (ts : List Token) → Yields (KeepsAll start floor) (module_items_from n m ts)
 unfolding module_items_from
 items_of zero start floor m h ts = h
 items_of (suc n) start floor m h ts =
     either (KeepsAll start floor) (sees kind.Endmodule ts) _ _ h (behind (KeepsAll start floor) (KeepsAll start floor) (module_item m ts) _ (module_item_keep start floor m h ts) (λ more k us. items_of n start floor more k us))
 
-items_keep : (start : Draft) (floor : ℕ) (m : Said) → KeepsAll start floor m → (ts : List Token) → Goes (KeepsAll start floor) (module_items m ts)
+items_keep : (start : Draft) (floor : ℕ) (m : Said) → KeepsAll start floor m → (ts : List Token) → Yields (KeepsAll start floor) (module_items m ts)
 unfolding module_items
 items_keep start floor m h ts = items_of (left ts) start floor m h ts
 
@@ -147,24 +135,24 @@ behind_word library word = header (empty_draft word library) >>= (λ d. expect k
 abbrev Begun : List Cell → Text → Bool → Draft → Type 0
 Begun library word passed d = Keeps (empty_draft word library) 0 d × (passed ≡ true)
 
-word_by : (b : Bool) (library : List Cell) (ts : List Token) → Goes (Begun library (bytes ts) b) (parser.and_then (cond b (Ok (bytes ts, next ts)) (Err (refusal ts))) (behind_word library))
+word_by : (b : Bool) (library : List Cell) (ts : List Token) → Yields (Begun library (bytes ts) b) (parser.and_then (cond b (Ok (bytes ts, next ts)) (Err (refusal ts))) (behind_word library))
 word_by true library ts =
     let start = empty_draft (bytes ts) library in
     behind (Keeps start 0) (Begun library (bytes ts) true) (header start (next ts)) _ (header_keep start start (keeps_empty (bytes ts) start refl) (next ts)) (λ d h us.
-    expected (Begun library (bytes ts) true) kind.Semicolon us _ (λ w vs. (h, refl)))
-word_by false library ts = refusal_fine ts
+    passed (Begun library (bytes ts) true) (expect kind.Semicolon us) _ (λ w vs. (h, refl)))
+word_by false library ts = tt
 
-heading_by : (a : Bool) (library : List Cell) (ts : List Token) → Goes (Begun library (name_ahead ts) (a && sees kind.Name (next ts)))
+heading_by : (a : Bool) (library : List Cell) (ts : List Token) → Yields (Begun library (name_ahead ts) (a && sees kind.Name (next ts)))
     (parser.and_then (cond a (Ok (bytes ts, next ts)) (Err (refusal ts))) (λ w us. parser.and_then (expect kind.Name us) (behind_word library)))
 unfolding expect
 heading_by true library ts = word_by (sees kind.Name (next ts)) library (next ts)
-heading_by false library ts = refusal_fine ts
+heading_by false library ts = tt
 
 -- whether a module and a name come next
 abbrev pub names_one : List Token → Bool
 names_one ts = sees kind.Module ts && sees kind.Name (next ts)
 
-heading_keep : (library : List Cell) (ts : List Token) → Goes (Begun library (name_ahead ts) (names_one ts)) (heading library ts)
+heading_keep : (library : List Cell) (ts : List Token) → Yields (Begun library (name_ahead ts) (names_one ts)) (heading library ts)
 unfolding heading expect
 heading_keep library ts = heading_by (sees kind.Module ts) library ts
 
@@ -172,7 +160,7 @@ heading_keep library ts = heading_by (sees kind.Module ts) library ts
 abbrev pub Whole : List Cell → Text → Bool → Said → Type 0
 Whole library word passed m = KeepsAll (empty_draft word library) 0 m × (passed ≡ true)
 
-pub one_keep : (library : List Cell) (ts : List Token) → Goes (Whole library (name_ahead ts) (names_one ts)) (one_module library ts)
+pub one_keep : (library : List Cell) (ts : List Token) → Yields (Whole library (name_ahead ts) (names_one ts)) (one_module library ts)
 unfolding one_module
 one_keep library ts =
     let start = empty_draft (name_ahead ts) library in
@@ -184,28 +172,24 @@ one_keep library ts =
 
 -- ---- the next module
 
--- a value with this property, or a fault that a text of several modules may have
-abbrev IsFineFault : ModulesFault → Type 0
-IsFineFault (fault.Module f) = IsFine f.cause
-IsFineFault (fault.Repeated name) = Unit {0}
-
+-- a value with this property, or a fault
 abbrev GoesOn : {A : Type 0} → (A → Type 0) → parser.Outcome Token ModulesFault A → Type 0
 GoesOn P (Ok p) = P p.0
-GoesOn P (Err f) = IsFineFault f
+GoesOn P (Err f) = Unit {0}
 
 -- a module that is sound, and whose name is not repeated
 abbrev IsNext : List Cell → (names : List Text) → Text → (text : Text) → Said → Type 0
 IsNext library names word text m = (m.draft.name ≡ word) × IsModule library (module_said text m) × (is_repeated library names word ≡ false)
 
-passed_next : (library : List Cell) (names : List Text) (word text : Text) (o : Outcome Said) → Goes (Whole library word true) o → Yields IsSaidModule o → is_repeated library names word ≡ false → GoesOn (IsNext library names word text) (in_module o)
+passed_next : (library : List Cell) (names : List Text) (word text : Text) (o : Outcome Said) → Yields (Whole library word true) o → Yields IsSaidModule o → is_repeated library names word ≡ false → GoesOn (IsNext library names word text) (in_module o)
 passed_next library names word text (Ok p) h s new = (h.0.draft.name, module_sound library word text p.0 h.0 s, new)
 passed_next library names word text (Err f) h s new = h
 
-unpassed_next : (library : List Cell) (names : List Text) (word text : Text) (o : Outcome Said) → Goes (Whole library word false) o → GoesOn (IsNext library names word text) (in_module o)
+unpassed_next : (library : List Cell) (names : List Text) (word text : Text) (o : Outcome Said) → Yields (Whole library word false) o → GoesOn (IsNext library names word text) (in_module o)
 unpassed_next library names word text (Ok p) h = absurd (cc (h.1))
 unpassed_next library names word text (Err f) h = h
 
-next_by : (library : List Cell) (names : List Text) (word text : Text) (ahead repeated : Bool) (o : Outcome Said) → is_repeated library names word ≡ repeated → Goes (Whole library word ahead) o → Yields IsSaidModule o
+next_by : (library : List Cell) (names : List Text) (word text : Text) (ahead repeated : Bool) (o : Outcome Said) → is_repeated library names word ≡ repeated → Yields (Whole library word ahead) o → Yields IsSaidModule o
     → GoesOn (IsNext library names word text) (cond (ahead && repeated) (Err (fault.Repeated word)) (in_module o))
 next_by library names word text true true o e h s = tt
 next_by library names word text true false o e h s = passed_next library names word text o h s e
@@ -267,7 +251,7 @@ modules_by (Err e) P Q f h k = h
 
 modules_go : (n : ℕ) (text : Text) (library : List Cell) (names : List Text) (before : List Module) → names ≡ names_of before → (ts : List Token) → GoesOn (StandBehind library before) (modules_from n text library names before ts)
 unfolding modules_from
-modules_go zero text library names before listed ts = refusal_fine ts
+modules_go zero text library names before listed ts = tt
 modules_go (suc n) text library names before listed ts =
     modules_by (next_module library names ts) (IsNext library names (name_ahead ts) text) (StandBehind library before) _ (next_goes library names text ts) (λ m h us.
     let made = module_said text m in
@@ -292,17 +276,3 @@ said_are_modules library text ms said = sound_by library (modules_from (left (to
 
 pub modules_sound : (library : List Cell) (text : Text) (ms : List Module) → modules_of library text ≡ Ok ms → AreModules library ms
 modules_sound library text ms h = (said_are_modules library text ms h).0
-
-fine_by : (library : List Cell) (o : parser.Outcome Token ModulesFault (List Module)) (f : Fault) → GoesOn (StandBehind library []) o → parser.value_of o ≡ Err (fault.Module f) → IsFine f.cause
-fine_by library (Ok p) f h e = absurd (cc)
-fine_by library (Err g) f h e = let same : g ≡ fault.Module f = cc in subst IsFineFault same h
-
-pub never_for_cells : NeverForCells
-unfolding modules_of
-never_for_cells library text word left_of e =
-    fine_by library (modules_from (left (tokens text)) text library [] [] (tokens text)) (record { cause = cause.NoCell word; left = left_of }) (modules_go (left (tokens text)) text library [] [] refl (tokens text)) e
-
-pub never_for_modules : NeverForModules
-unfolding modules_of
-never_for_modules library text left_of e =
-    fine_by library (modules_from (left (tokens text)) text library [] [] (tokens text)) (record { cause = cause.SecondModule; left = left_of }) (modules_go (left (tokens text)) text library [] [] refl (tokens text)) e

@@ -22,7 +22,7 @@ use Rattle.dft_netlist_text.proofs.KindLemmas.{kinds_same}
 use Rattle.dft_modules.specs.declared.fault.ModulesFault.TheVariants as several
 use Rattle.dft_modules.specs.SubInstances.{Said, names_module, module_item, module_items_from, module_items, sub_item, one_module}
 use Rattle.dft_modules.specs.ModuleTexts.{module_said, in_module, name_ahead, repeats, next_module, modules_from, modules_of}
-use Rattle.dft_verilog.proofs.KeptGrammarLemmas.{Goes}
+use Rattle.dft_netlist_text.proofs.ParserLemmas.{Yields}
 use Rattle.dft_verilog.proofs.KeptModuleLemmas.{Whole, names_one, one_keep}
 use Rattle.dft_verilog.proofs.ModulesLemmas.{modules_end}
 
@@ -46,8 +46,8 @@ unfolding sees
 sees_name ts h = kinds_same (kind_of ts) kind.Name h
 
 cell_by : (b : Bool) (d e : Draft) (ts us : List Token) → b ≡ true → find_cell d.library (bytes ts) ≡ None
-    → parser.and_then (cond b (Ok (bytes ts, next ts)) (Err (refusal ts))) (λ word. instances_named (left ts) word (find_cell d.library word) d) ≡ Ok (e, us) → ⊥
-cell_by true d e ts us seen none is = no_value (fault (cause.NoCell (bytes ts)) (left ts)) (e, us) (ap (λ (o : Option CellId). instances_named (left ts) (bytes ts) o d (next ts)) (sym none) ∙ is)
+    → parser.and_then (cond b (Ok (bytes ts, next ts)) (Err (refusal ts))) (λ word. instances_named (left ts) (find_cell d.library word) d) ≡ Ok (e, us) → ⊥
+cell_by true d e ts us seen none is = no_value (fault cause.Token (left ts)) (e, us) (ap (λ (o : Option CellId). instances_named (left ts) o d (next ts)) (sym none) ∙ is)
 cell_by false d e ts us seen none is = absurd (cc)
 
 -- a name that no cell has begins no item of a lone module
@@ -91,14 +91,13 @@ items_alone (suc n) e us d ts is = items_by n d e ts us (sees kind.Endmodule ts)
 abbrev ReadsLone : (o : Outcome Said) → (d : Draft) → (us : List Token) → Type 0
 ReadsLone o d us = (o ≡ Ok (lone d, us)) × (sees kind.End us ≡ true)
 
-ended_by : (whole d : Draft) (ts us : List Token) (ended more : Bool) → sees kind.End ts ≡ ended → cond ended (Ok (whole, ts)) (cond more (Err (fault cause.SecondModule (left ts))) (refuse ts)) ≡ Ok (d, us) → ReadsLone (Ok (lone whole, ts)) d us
-ended_by whole d ts us true more at is = let s = same_outcome whole d ts us is in (ap₂ (λ (x : Draft) xs. Ok (lone x, xs)) s.0 s.1, ap (sees kind.End) (sym s.1) ∙ at)
-ended_by whole d ts us false true at is = absurd (no_value (fault cause.SecondModule (left ts)) (d, us) is)
-ended_by whole d ts us false false at is = absurd (no_value (refusal ts) (d, us) is)
+ended_by : (whole d : Draft) (ts us : List Token) (ended : Bool) → sees kind.End ts ≡ ended → cond ended (Ok (whole, ts)) (refuse ts) ≡ Ok (d, us) → ReadsLone (Ok (lone whole, ts)) d us
+ended_by whole d ts us true at is = let s = same_outcome whole d ts us is in (ap₂ (λ (x : Draft) xs. Ok (lone x, xs)) s.0 s.1, ap (sees kind.End) (sym s.1) ∙ at)
+ended_by whole d ts us false at is = absurd (no_value (refusal ts) (d, us) is)
 
 ended : (whole d : Draft) (ts us : List Token) → end_of_text whole ts ≡ Ok (d, us) → ReadsLone (Ok (lone whole, ts)) d us
 unfolding end_of_text
-ended whole d ts us is = ended_by whole d ts us (sees kind.End ts) (sees kind.Module ts) refl is
+ended whole d ts us is = ended_by whole d ts us (sees kind.End ts) refl is
 
 end_alone : (o : Outcome Draft) (d : Draft) (us : List Token) → parser.and_then o end_of_text ≡ Ok (d, us) → ReadsLone (parser.and_then o (λ (x : Draft). parser.pure (lone x))) d us
 end_alone (Ok p) d us is = ended p.0 d p.1 us is
@@ -233,7 +232,7 @@ modules_by (suc n) library text d ts us some read end = modules_end n text libra
 
 -- what the draft keeps of the one that it began as
 kept_of : (library : List Cell) (d : Draft) (ts us : List Token) → one_module library ts ≡ Ok (lone d, us) → Whole library (name_ahead ts) (names_one ts) (lone d)
-kept_of library d ts us read = subst (Goes (Whole library (name_ahead ts) (names_one ts))) read (one_keep library ts)
+kept_of library d ts us read = subst (Yields (Whole library (name_ahead ts) (names_one ts))) read (one_keep library ts)
 
 -- a text of one module says that module, over the same cells
 pub record SaysLone (library : List Cell) (text : Text) (d : Draft) : Type 0 where

@@ -72,11 +72,9 @@ by_cause : (library : List Cell) (text : Text) (why : Cause) (at : Place) → Is
 by_cause library text cause.Byte at h = h
 by_cause library text cause.Token at h = h
 by_cause library text (cause.Unsupported word) at h = h
-by_cause library text (cause.NoCell word) at h = h
 by_cause library text (cause.NoPin word) at h = h
 by_cause library text cause.Misfit at h = h
 by_cause library text cause.Inout at h = h
-by_cause library text cause.SecondModule at h = h
 by_cause library text cause.Ended at h = h
 by_cause library text cause.TooLarge at h = h
 by_cause library text (cause.Undeclared word) at h = h

@@ -16,13 +16,3 @@ use Rattle.dft_verilog.proofs.LoneModuleLemmas.{says_lone}
 pub text_said_by : (library : List Cell) (text : Text) (s : TextSaid) → modules_of library text ≡ Ok (modules_in text s) → ReadsAlone library (tokens text) s → IsSaid library text s
 text_said_by library text (text_said.Alone draft) said alone = alone_of library text draft alone
 text_said_by library text (text_said.Modules modules) said alone = record { said = said; sound = modules_sound library text modules.items said }
-
--- and its modules are these
-said_by : (library : List Cell) (text : Text) (s : TextSaid) → IsSaid library text s → modules_of library text ≡ Ok (modules_in text s)
-said_by library text (text_said.Alone draft) a = (says_lone library text draft a.said a.named).modules
-said_by library text (text_said.Modules modules) m = m.said
-
-pub modules_are : (library : List Cell) (text : Text) (s : TextSaid) (ms : List Module) → IsSaid library text s → ms ≡ modules_in text s → SaysModules library text ms
-modules_are library text s ms h is =
-    let said : modules_of library text ≡ Ok ms = said_by library text s h ∙ ap (λ (xs : List Module). Ok xs) (sym is) in
-    record { said = said; sound = modules_sound library text ms said }

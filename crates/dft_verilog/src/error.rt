@@ -17,9 +17,6 @@ pub enum VerilogError {
     /// A word or directive that the structural part leaves out.
     #[error("a word or directive that the structural part leaves out")]
     V3 { place: Place, name: Name },
-    /// A cell that the library has not.
-    #[error("a cell that the library has not")]
-    V4 { place: Place, name: Name },
     /// A pin that the cell has not.
     #[error("a pin that the cell has not")]
     V5 { place: Place, name: Name },
@@ -29,9 +26,6 @@ pub enum VerilogError {
     /// `inout`.
     #[error("an inout port")]
     V7 { place: Place },
-    /// A second module.
-    #[error("a second module")]
-    V8 { place: Place },
     /// The text ends too early.
     #[error("the text ends too early")]
     V9 { place: Place },

@@ -1,6 +1,6 @@
 //! Laws of what netlist texts say.
 
-ghost use Rattle.dft_modules.specs.Laws.{SaidAreModules, NeverForCells, NeverForModules};
+ghost use Rattle.dft_modules.specs.Laws.{SaidAreModules};
 ghost use Rattle.dft_verilog.specs.Buildable.{BuildableAreBuilt, ModulesAreBuildable};
 ghost use Rattle.dft_verilog.specs.Laws.{StandsForOne};
 
@@ -23,14 +23,4 @@ pub fn texts_stand_for_one_netlist()
 /// it has.
 pub fn said_modules_are_sound()
     ensures { SaidAreModules }
-{}
-
-/// The law that a text of several modules is never refused for a cell that the library has not.
-pub fn modules_need_no_cells()
-    ensures { NeverForCells }
-{}
-
-/// The law that a text of several modules is never refused for a second module.
-pub fn modules_may_be_several()
-    ensures { NeverForModules }
 {}

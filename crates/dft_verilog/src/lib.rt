@@ -1,4 +1,4 @@
-//! Reads netlists from Verilog texts (IEEE 1364).
+//! Reads the modules of Verilog texts (IEEE 1364).
 #![tactic(auto)]
 
 mod error;
@@ -9,15 +9,14 @@ mod module_items;
 mod module_nets;
 mod modules;
 mod places;
-mod reader;
+mod telling;
 mod texts;
 
 pub use dft_verilog_tokens::MAX_TEXT;
 pub use error::{ModulesError, VerilogError};
 pub use finishing::finished;
 pub use laws::{
-    distinct_names_are_built, modules_are_buildable, modules_may_be_several, modules_need_no_cells,
-    said_modules_are_sound, texts_stand_for_one_netlist,
+    distinct_names_are_built, modules_are_buildable, said_modules_are_sound,
+    texts_stand_for_one_netlist,
 };
-pub use reader::read;
-pub use texts::{TextSaid, read_modules, read_text};
+pub use texts::{TextSaid, read_text};

@@ -1,27 +1,25 @@
 //! Reads a netlist text that may have several modules (IEEE 1364, structural part).
 
-ghost use Rattle.std.specs.Prelude.{◌≡◌, ◌≤◌, [], length, IfOk, IfErr, Ok};
+ghost use Rattle.std.specs.Prelude.{◌≡◌, ◌≤◌, [], length, IfOk, IfErr};
 ghost use Rattle.dft_lexing.specs.Reading as reading;
 ghost use Rattle.dft_modules.specs.ModuleTexts as spec;
-ghost use Rattle.dft_modules.specs.Sound.{AreModules};
 ghost use Rattle.dft_netlist_text.specs.Steps as steps;
 ghost use Rattle.dft_netlist_text.specs.Steps.{left};
 ghost use Rattle.dft_verilog.specs.ModuleRefusals.{IsModulesRefused, told_of, told_of_error};
 ghost use Rattle.dft_verilog.specs.TextsSaid.{IsSaid, ReadsAlone, modules_in};
-ghost use Rattle.dft_verilog.specs.declared.texts.TextSaid.TheVariants as text_said;
 ghost use Rattle.dft_netlist_text.specs.Lexemes.{tokens};
 
 use crate::error::{ModulesError, VerilogError};
 use crate::modules::module_said;
 use crate::places::unpassed;
-use crate::reader::told;
+use crate::telling::told;
 use dft_cells::Library;
 use dft_modules::{Module, ModulesFault};
 use dft_netlist_text::TokenKind;
 use dft_verilog_draft::{ModuleDraft, NameSet};
-use dft_verilog_module::{ModulesReadError, SaidModule, in_module, next_module};
+use dft_verilog_module::{ModulesReadError, in_module, next_module};
 use dft_verilog_tokens::{MAX_TEXT, Tokens};
-use std::alloc::{AllocError, Global};
+use std::alloc::Global;
 
 /// What a netlist text says.
 #[derive(Debug, Drop)]
@@ -129,9 +127,9 @@ fn said_over<'a>(
 }
 
 /// What a netlist text says that may have several modules, over the cells of a library (IEEE 1364, structural part). An item that
-/// begins with a name that no cell has is an instance of a module. A text with a fault is refused by its first, as by `read`,
-/// but for a cell that the library has not and a second module, which are none; or by the first module's name that an earlier
-/// module or a cell has.
+/// begins with a name that no cell has is an instance of a module. A text with a fault is refused by its first, with the place
+/// where the refused token begins; a name that is taken and one port, net or instance more than there may be are refused as the
+/// netlist is. Or by the first module's name that an earlier module or a cell has.
 pub fn read_text<'a>(
     alloc: Global,
     bytes: &'a [u8],
@@ -143,51 +141,6 @@ pub fn read_text<'a>(
 {
     match library.copy(alloc) {
         Ok(copy) => said_over(alloc, bytes, copy, library),
-        Err(error) => Err(ModulesError::Module(VerilogError::Memory(error))),
-    }
-}
-
-// The module that a text says alone.
-fn lone_module(
-    alloc: Global,
-    bytes: &[u8],
-    draft: ModuleDraft<'_>,
-) -> Result<Vec<Module>, AllocError>
-    requires { length bytes.now ≤ MAX_TEXT }
-    ensures { IfOk result (λ modules. modules.items ≡ modules_in bytes.now (text_said.Alone draft.entry)) }
-{
-    let subs = Vec::new(alloc);
-    let made = module_said(alloc, bytes, &mut unpassed(), &SaidModule { draft, subs })?;
-    let mut modules = Vec::new(alloc);
-    modules.push(made)?;
-    Ok(modules)
-}
-
-// The modules that a text says.
-fn modules_said(alloc: Global, bytes: &[u8], said: TextSaid<'_>) -> Result<Vec<Module>, AllocError>
-    requires { length bytes.now ≤ MAX_TEXT }
-    ensures { IfOk result (λ modules. modules.items ≡ modules_in bytes.now said.entry) }
-{
-    match said {
-        TextSaid::Alone(draft) => lone_module(alloc, bytes, draft),
-        TextSaid::Modules(modules) => Ok(modules),
-    }
-}
-
-/// The modules of a netlist text, as `read_text` reads it.
-pub fn read_modules(
-    alloc: Global,
-    bytes: &[u8],
-    library: &Library,
-) -> Result<Vec<Module>, ModulesError>
-    requires { length bytes.now ≤ MAX_TEXT }
-    ensures modules { IfOk result (λ modules. spec.modules_of library.now bytes.now ≡ Ok modules.items) }
-    ensures sound { IfOk result (λ modules. AreModules library.now modules.items) }
-    ensures refused { IfErr result (λ error. IsModulesRefused library.now bytes.now error) }
-{
-    let said = read_text(alloc, bytes, library)?;
-    match modules_said(alloc, bytes, said) {
-        Ok(modules) => Ok(modules),
         Err(error) => Err(ModulesError::Module(VerilogError::Memory(error))),
     }
 }

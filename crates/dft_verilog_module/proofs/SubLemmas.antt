@@ -47,8 +47,8 @@ named_cell m ts id some h =
     ap (λ b. cond (b && not (is_some (find_cell m.draft.library (bytes ts)))) (sub_item m ts) (and_then (item m.draft ts) put)) h
     ∙ ap (λ o. cond (true && not (is_some o)) (sub_item m ts) (and_then (item m.draft ts) put)) some
     ∙ ap (λ k. and_then (item_of k m.draft ts) put) (kind_is kind.Name ts h)
-    ∙ ap (λ b. and_then (and_then (cond {A = Outcome Text} b (Ok (bytes ts, next ts)) (Err (refusal ts))) (λ w vs. instances_named (left ts) w (find_cell m.draft.library w) m.draft vs)) put) h
-    ∙ ap (λ o. and_then (instances_named (left ts) (bytes ts) o m.draft (next ts)) put) some
+    ∙ ap (λ b. and_then (and_then (cond {A = Outcome Text} b (Ok (bytes ts, next ts)) (Err (refusal ts))) (λ w vs. instances_named (left ts) (find_cell m.draft.library w) m.draft vs)) put) h
+    ∙ ap (λ o. and_then (instances_named (left ts) o m.draft (next ts)) put) some
 
 -- an item that begins with another name
 named_sub : (m : Said) (ts : List Token) → find_cell m.draft.library (bytes ts) ≡ None → sees kind.Name ts ≡ true → module_item m ts ≡ named_as (bytes ts) m None (next ts)

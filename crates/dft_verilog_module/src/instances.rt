@@ -6,11 +6,11 @@ ghost use Rattle.dft_netlist_text.specs.Steps.{left};
 ghost use Rattle.dft_verilog_tokens.specs.Reading.{Reads};
 
 use crate::connections::{connections, unjoined};
-use dft_cells::{Cell, CellId, Library};
+use dft_cells::{Cell, CellId};
 use dft_netlist::{CellRef, PinSignals, Signal};
 use dft_netlist_text::TokenKind;
 use dft_verilog_draft::{DraftInstance, ModuleDraft};
-use dft_verilog_tokens::{ReadError, Tokens, Word, no_cell};
+use dft_verilog_tokens::{ReadError, Tokens, Word};
 use std::alloc::{AllocError, Global};
 
 // What a pin is joined to; one that was not named is not connected.
@@ -94,23 +94,4 @@ pub(crate) fn instances<'a>(
     instances_of_cell(id, cell, draft, tokens)?;
     tokens.expect(TokenKind::Semicolon)?;
     Ok(())
-}
-
-#[tactic(auto, unfolding(dft_netlist_text::specs::Items::cell_item))]
-/// The name of a cell of the draft's library, and instances of it.
-pub fn cell_item<'a>(
-    library: &Library,
-    draft: &mut ModuleDraft<'a>,
-    tokens: &mut Tokens<'a>,
-) -> Result<(), ReadError>
-    requires { draft.old.library ≡ library.now }
-    ensures read { Reads (λ _. draft.new) (spec.cell_item draft.old tokens.old) result tokens.new }
-    ensures library { OnOk result (draft.new.library ≡ draft.old.library) }
-{
-    let place = tokens.left();
-    let word = tokens.name()?;
-    match library.find(word) {
-        None => Err(no_cell(draft.alloc(), place, word)),
-        Some(id) => instances(id, library.cell(id), draft, tokens),
-    }
 }

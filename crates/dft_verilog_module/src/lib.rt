@@ -1,4 +1,4 @@
-//! Reads what the module of a netlist text says (IEEE 1364).
+//! Reads what a module of a netlist text says (IEEE 1364).
 #![tactic(auto)]
 
 mod assignments;
@@ -16,5 +16,4 @@ mod modules;
 mod operands;
 mod single_bits;
 
-pub use module::module_of;
 pub use modules::{ModulesReadError, SaidModule, in_module, next_module};

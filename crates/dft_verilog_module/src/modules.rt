@@ -67,7 +67,7 @@ fn module_item<'a>(
         let word = tokens.take();
         named_item(word, library, subs, draft, tokens)
     } else {
-        item(library, draft, tokens)
+        item(draft, tokens)
     }
 }
 

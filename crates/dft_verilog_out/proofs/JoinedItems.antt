@@ -278,13 +278,13 @@ cells_by : (library : List Cell) (id : CellId) (cell : Option Cell) → Keeps li
 cells_by library id None d h ts = tt
 cells_by library id (Some cell) d h ts = cells_all library id cell d h ts
 
-cells_named : (library : List Cell) (place : ℕ) (word : Text) (id : Option CellId) → Keeps library (instances_named place word id)
-cells_named library place word None d h ts = tt
-cells_named library place word (Some id) d h ts = cells_by library id (slice_get d.library id.0) d h ts
+cells_named : (library : List Cell) (place : ℕ) (id : Option CellId) → Keeps library (instances_named place id)
+cells_named library place None d h ts = tt
+cells_named library place (Some id) d h ts = cells_by library id (slice_get d.library id.0) d h ts
 
 cell_item_joined : (library : List Cell) → Keeps library cell_item
 unfolding cell_item
-cell_item_joined library d h ts = passed (IsJoinedDraft library) (expect kind.Name ts) _ (λ word us. cells_named library (left ts) word (find_cell d.library word) d h us)
+cell_item_joined library d h ts = passed (IsJoinedDraft library) (expect kind.Name ts) _ (λ word us. cells_named library (left ts) (find_cell d.library word) d h us)
 
 -- ---- items
 
@@ -352,7 +352,7 @@ module_end_joined library d h ts = passed (IsJoinedDraft library) (expect kind.E
 
 end_joined : (library : List Cell) → Keeps library end_of_text
 unfolding end_of_text
-end_joined library d h ts = either (IsJoinedDraft library) (sees kind.End ts) _ _ h (either (IsJoinedDraft library) (sees kind.Module ts) _ _ tt tt)
+end_joined library d h ts = either (IsJoinedDraft library) (sees kind.End ts) _ _ h tt
 
 pub module_joined : (library : List Cell) (ts : List Token) → Yields (IsJoinedDraft library) (module_text library ts)
 unfolding module_text

@@ -42,21 +42,6 @@ pub fn undeclared(alloc: Global, place: usize, word: &[u8]) -> ReadError
     }
 }
 
-/// The library has no cell of this name.
-#[cold]
-pub fn no_cell(alloc: Global, place: usize, word: &[u8]) -> ReadError
-    requires { IsName word.now }
-    ensures { Faults (fault (Cause.NoCell word.now) place) result }
-{
-    match Name::from_slice(alloc, word) {
-        Ok(name) => ReadError::Fault(Fault {
-            cause: Cause::NoCell(name),
-            left: place,
-        }),
-        Err(failed) => ReadError::Memory(failed),
-    }
-}
-
 /// The cell has no pin of this name.
 #[cold]
 pub fn no_pin(alloc: Global, place: usize, word: &[u8]) -> ReadError

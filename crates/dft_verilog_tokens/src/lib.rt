@@ -17,7 +17,7 @@ mod words;
 pub use blanks::MAX_TEXT;
 pub use constants::{SizedConstant, constant};
 pub use cursor::Tokens;
-pub use faults::{full, joined_twice, no_cell, no_pin, refused, taken, undeclared};
+pub use faults::{full, joined_twice, no_pin, refused, taken, undeclared};
 pub use numbers::push_value;
 pub use ranges::{range_if_any, selection};
 pub use read_error::ReadError;

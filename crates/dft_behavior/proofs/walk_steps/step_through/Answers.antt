@@ -3,9 +3,9 @@ use Rattle.std.proofs.lemmas.Option.{slice_get-get_or}
 use Rattle.dft_cells.specs.declared.kind.Role.{Role}
 use Rattle.dft_cells.specs.declared.kind.Kind.TheVariants as cell_kind
 use Rattle.dft_cells.specs.declared.kind.Gate.TheVariants.{Tie0, Tie1}
-use Rattle.dft_behavior.specs.Traces.{Constant, Other}
+use Rattle.dft_behavior.specs.NetRoots.{Constant, Other}
 use Rattle.dft_netlist.proofs.NotesLemmas.{item_at}
-use Rattle.dft_behavior.proofs.TraceLemmas.{buffer_roles, through_buffer, through_kind, other_root}
+use Rattle.dft_behavior.proofs.TraceLemmas.{one_roles, through_one, through_kind, other_root}
 use Rattle.dft_behavior.proofs.walk_steps.step_through.Goals as goal
 
 pub bounds-as_slice-0 : goal.bounds-as_slice-0
@@ -18,12 +18,12 @@ bounds-as_slice-0 c =
     let same = rw c.library.ensures.library at (rw c.cells.ensures.cells at c.kind_of.ensures) in
     let kind = sym same ∙ c.in-Gate.is ∙ ap cell_kind.Gate c.in-Buf.is in
     let is = c.instances.ensures.sound.instances id.0 x at in
-    let roles = buffer_roles n.library (rw c.library.ensures.library at c.cells.ensures.well_formed) (length n.nets) x.name x.cell x.pins is kind in
+    let roles = one_roles false n.library (rw c.library.ensures.library at c.cells.ensures.well_formed) (length n.nets) x.name x.cell x.pins is kind in
     let two : length x.pins ≡ 2 = is.width ∙ ap (λ (rs : List Role). length rs) roles in
     rw (c.as_slice.ensures, two) (omega arith)
 
-pub returns-in-Buf-clause-step : goal.returns-in-Buf-clause-step
-returns-in-Buf-clause-step c =
+pub returns-in-Buf : goal.returns-in-Buf
+returns-in-Buf c =
     let n = c.args.design.now in
     let id = c.args.id in
     let x = c.index-instances-id.result in
@@ -32,25 +32,45 @@ returns-in-Buf-clause-step c =
     let same = rw c.library.ensures.library at (rw c.cells.ensures.cells at c.kind_of.ensures) in
     let kind = sym same ∙ c.in-Gate.is ∙ ap cell_kind.Gate c.in-Buf.is in
     let is = c.instances.ensures.sound.instances id.0 x at in
-    let roles = buffer_roles n.library (rw c.library.ensures.library at c.cells.ensures.well_formed) (length n.nets) x.name x.cell x.pins is kind in
+    let roles = one_roles false n.library (rw c.library.ensures.library at c.cells.ensures.well_formed) (length n.nets) x.name x.cell x.pins is kind in
     let two : length x.pins ≡ 2 = is.width ∙ ap (λ (rs : List Role). length rs) roles in
     let some : 0 < length x.pins = omega arith in
-    λ walk net w. rw c.as_slice.ensures at (c.step_to.ensures.step walk w) ∙ through_buffer n id c.args.pin x _ walk net w at kind roles (slice_get-get_or x.pins 0 _ some)
+    record {
+      step = λ walk net w. rw c.as_slice.ensures at (c.step_to.ensures.step walk w) ∙ through_one false n id c.args.pin x _ walk net w at kind roles (slice_get-get_or x.pins 0 _ some);
+      live = c.step_to.ensures.live (length n.nets) (rw c.as_slice.ensures (is.live 0 _ (slice_get-get_or x.pins 0 _ some)));
+    }
 
-pub returns-in-Buf-clause-live : goal.returns-in-Buf-clause-live
-returns-in-Buf-clause-live c =
+pub bounds-as_slice-0-in-Inv : goal.bounds-as_slice-0-in-Inv
+bounds-as_slice-0-in-Inv c =
     let n = c.args.design.now in
     let id = c.args.id in
     let x = c.index-instances-id.result in
     let lt : id.0 < length n.instances = c.requires in
     let at : slice_get n.instances id.0 ≡ Some x = item_at n.instances id.0 x lt (rw c.instances.ensures.instances at c.index-instances-id.is) in
     let same = rw c.library.ensures.library at (rw c.cells.ensures.cells at c.kind_of.ensures) in
-    let kind = sym same ∙ c.in-Gate.is ∙ ap cell_kind.Gate c.in-Buf.is in
+    let kind = sym same ∙ c.in-Gate.is ∙ ap cell_kind.Gate c.in-Inv.is in
     let is = c.instances.ensures.sound.instances id.0 x at in
-    let roles = buffer_roles n.library (rw c.library.ensures.library at c.cells.ensures.well_formed) (length n.nets) x.name x.cell x.pins is kind in
+    let roles = one_roles true n.library (rw c.library.ensures.library at c.cells.ensures.well_formed) (length n.nets) x.name x.cell x.pins is kind in
+    let two : length x.pins ≡ 2 = is.width ∙ ap (λ (rs : List Role). length rs) roles in
+    rw (c.as_slice-in-Inv.ensures, two) (omega arith)
+
+pub returns-in-Inv : goal.returns-in-Inv
+returns-in-Inv c =
+    let n = c.args.design.now in
+    let id = c.args.id in
+    let x = c.index-instances-id.result in
+    let lt : id.0 < length n.instances = c.requires in
+    let at : slice_get n.instances id.0 ≡ Some x = item_at n.instances id.0 x lt (rw c.instances.ensures.instances at c.index-instances-id.is) in
+    let same = rw c.library.ensures.library at (rw c.cells.ensures.cells at c.kind_of.ensures) in
+    let kind = sym same ∙ c.in-Gate.is ∙ ap cell_kind.Gate c.in-Inv.is in
+    let is = c.instances.ensures.sound.instances id.0 x at in
+    let roles = one_roles true n.library (rw c.library.ensures.library at c.cells.ensures.well_formed) (length n.nets) x.name x.cell x.pins is kind in
     let two : length x.pins ≡ 2 = is.width ∙ ap (λ (rs : List Role). length rs) roles in
     let some : 0 < length x.pins = omega arith in
-    c.step_to.ensures.live (length n.nets) (rw c.as_slice.ensures (is.live 0 _ (slice_get-get_or x.pins 0 _ some)))
+    record {
+      step = λ walk net w. rw c.as_slice-in-Inv.ensures at (c.step_to-in-Inv.ensures.step walk w) ∙ through_one true n id c.args.pin x _ walk net w at kind roles (slice_get-get_or x.pins 0 _ some);
+      live = c.step_to-in-Inv.ensures.live (length n.nets) (rw c.as_slice-in-Inv.ensures (is.live 0 _ (slice_get-get_or x.pins 0 _ some)));
+    }
 
 pub returns-in-Tie0-clause-step : goal.returns-in-Tie0-clause-step
 returns-in-Tie0-clause-step c =
@@ -82,7 +102,7 @@ returns-in_default c =
     let same = rw c.library.ensures.library at (rw c.cells.ensures.cells at c.kind_of.ensures) in
     record {
       step = λ walk net w. through_kind n id c.args.pin x walk net (cell_kind.Gate c.in-Gate.gate) Other at (sym same ∙ c.in-Gate.is)
-          (other_root walk net id.0 c.in-Gate.gate c.in_default.not-Buf c.in_default.not-Tie0 c.in_default.not-Tie1);
+          (other_root walk net id.0 c.in-Gate.gate c.in_default.not-Buf c.in_default.not-Inv c.in_default.not-Tie0 c.in_default.not-Tie1);
       live = tt;
     }
 

@@ -1,5 +1,4 @@
 use Rattle.std.proofs.Common.{◌≡◌, ◌∙◌, ap, Some, slice_get}
-use Rattle.dft_cells.specs.declared.kind.Role.TheVariants.{Reset, Preset}
 use Rattle.dft_netlist.specs.Connections.{signal_of}
 use Rattle.dft_netlist.specs.Drivers.{connections_of}
 use Rattle.dft_netlist.proofs.NotesLemmas.{item_at}
@@ -12,7 +11,5 @@ returns c =
     let n = c.args.design.now in
     let x = c.index-instances-number.result in
     let at : slice_get n.instances c.args.number ≡ Some x = item_at n.instances c.args.number x c.requires.number (rw c.instances.ensures.instances at c.index-instances-number.is) in
-    let pins = connections_of n.library x in
-    let reset : c.signal_of-reset.result ≡ signal_of Reset pins = rw (c.cells-cells.ensures.cells, c.library.ensures.library) at c.signal_of-reset.ensures in
-    let preset : c.signal_of-preset.result ≡ signal_of Preset pins = rw (c.cells-cells.ensures.cells, c.library.ensures.library) at c.signal_of-preset.ensures in
-    ap shown_hold (c.hold_at.ensures ∙ (λ i. hold_at (c.deref.ensures.value i) (reset i) (preset i))) ∙ hold_root_is n c.args.tables.now.roots.items c.args.number x at c.requires.tables.roots
+    let pin : c.signal_of.result ≡ signal_of c.args.hold (connections_of n.library x) = rw (c.cells-cells.ensures.cells, c.library.ensures.library) at c.signal_of.ensures in
+    ap shown_hold (c.hold_at.ensures ∙ (λ i. hold_at (c.deref.ensures.value i) (pin i))) ∙ hold_root_is n c.args.tables.now.roots.items c.args.hold c.args.number x at c.requires.tables.roots

@@ -1,8 +1,9 @@
 -- One flip-flop more was acted on.
-use Rattle.std.proofs.Common.{ℕ, List, Option, ◌≡◌, ◌<◌, ◌+◌, ◌∙◌, refl, sym, ap, subst, length, map, drop, get_or, arith}
+use Rattle.std.proofs.Common.{ℕ, List, ◌≡◌, ◌<◌, ◌+◌, ◌∙◌, refl, sym, ap, subst, length, map, drop, get_or, arith}
 use Rattle.std.proofs.lemmas.List.{get_or_read, length-set}
 use Rattle.dft_base.specs.declared.tri.Tri.{Tri}
-use Rattle.dft_behavior.specs.Logic.{Cell, Force}
+use Rattle.dft_cells.specs.FlipFlops.{Forces}
+use Rattle.dft_behavior.specs.Logic.{Cell}
 use Rattle.dft_netlist.proofs.ListingLemmas.{has_item}
 use Rattle.dft_logic.specs.declared.circuit.FlipFlop.{FlipFlop}
 use Rattle.dft_cycle.specs.Machine.{value_at, acted}
@@ -41,9 +42,9 @@ loop-cell-preserved c =
     let named : xs ≡ list_at x.followers net = c.list_of-cell-items.ensures ∙ ap (λ (m : Circuit). list_at m.followers net) c.circuit.view_is in
     let less : place < length x.flops = follower_listed x net place xs (subst IsCircuit c.circuit.view_is c.circuit.invariant) named (has_item xs c.loop-cell.cell-index 0 c.loop-cell-test.true) in
     let live : place < length old = omega (arith, c.loop-cell.invariant.1.1, c.requires.cells, less) in
-    let force : ℕ → Option Force = λ k. (cell_at (map cell_of x.flops) k).force in
+    let force : ℕ → Forces ℕ = λ k. (cell_at (map cell_of x.flops) k).forces in
     let bit : Tri = value_at old place in
-    let given : Cell → Tri = λ cell. acted cell.force net c.args.value bit in
+    let given : Cell → Tri = λ cell. acted cell.forces net c.args.value bit in
     let value : c.acted_on.result ≡ acted (force place) net c.args.value bit = (rw c.at-bit.ensures at c.acted_on.ensures) ∙ ap (λ (f : FlipFlop). given (cell_of f)) (get_or_read x.flops place c.index.result.now less (flop_read (circuit_of c.circuit.inside) x _ _ c.circuit.view_is c.index.ensures) c.index.result.now)
     ∙ ap given (cell_read x.flops place c.index.result.now less) in
     let start : List Tri = c.args.cells.now.values in

@@ -12,6 +12,6 @@ returns-in-Pin c =
     let n : Netlist = c.args.design.now in
     let net : ℕ = c.args.net.0 in
     elim c.in-Pin.is [
-      | inl w ↦ pin_has_faults n (is_clock_in c.args.clocks.now) net w.0.0 w.1 c.shows_clock.result (c.driver.ensures.driver ∙ ap (driver_at n) w.2) (subst (λ (d : NetDriver). Drives n d net) w.2 c.driver.ensures.drives) (c.shows_clock.ensures n c.requires.shown)
-      | inr w ↦ join_has_faults n (is_clock_in c.args.clocks.now) net w.0 c.shows_clock.result (c.driver.ensures.driver ∙ ap (driver_at n) w.1) (subst (λ (d : NetDriver). Drives n d net) w.1 c.driver.ensures.drives) (c.shows_clock.ensures n c.requires.shown)
+      | inl w ↦ pin_has_faults n (is_clock_in c.args.clocks.now) net w.0.0 w.1 c.shows_clock.result (c.driver.ensures.driver ∙ ap (driver_at n) w.2) (subst (λ (d : NetDriver). Drives n d net) w.2 c.driver.ensures.drives) (c.shows_clock.ensures n c.requires.roots)
+      | inr w ↦ join_has_faults n (is_clock_in c.args.clocks.now) net w.0 c.shows_clock.result (c.driver.ensures.driver ∙ ap (driver_at n) w.1) (subst (λ (d : NetDriver). Drives n d net) w.1 c.driver.ensures.drives) (c.shows_clock.ensures n c.requires.roots)
     ]

@@ -5,4 +5,4 @@ use Rattle.dft_logic.specs.Tables.{IsTable}
 use Rattle.dft_logic.proofs.tables.followers.Given as goal
 
 abbrev pub invariant-loop-place : goal.invariant-loop-place
-invariant-loop-place l = IsTable l.nets l.place (λ c. force_nets (cell_at (map cell_of l.flops) c).force) l.table.items
+invariant-loop-place l = IsTable l.nets l.place (λ c. force_nets (cell_at (map cell_of l.flops) c).forces) l.table.items

@@ -6,5 +6,5 @@ use Rattle.dft_rules.proofs.clocks.first_clock.Given as goal
 
 abbrev pub invariant-loop-net : goal.invariant-loop-net
 invariant-loop-net l =
-    find (is_marked_clock l.domains l.clocks l.used) (range_with_len 0 (length l.clocks))
-    ≡ find (is_marked_clock l.domains l.clocks l.used) (range_with_len l.net (length l.clocks - l.net))
+    find (is_marked_clock l.domains l.roots l.used) (range_with_len 0 (length l.roots))
+    ≡ find (is_marked_clock l.domains l.roots l.used) (range_with_len l.net (length l.roots - l.net))

@@ -49,11 +49,11 @@ check_clocks-requires-clause-few c =
 
 pub check_clocks-requires-clause-small : goal.check_clocks-requires-clause-small
 check_clocks-requires-clause-small c =
-    let size : length c.deref-2.result.now ≡ length c.args.design.now.nets = rw c.deref-2.ensures.value c.in_ok-clocks.ensures.count in
+    let size : length c.deref-2.result.now ≡ length c.args.design.now.nets = rw c.deref-2.ensures.value c.in_ok-roots.ensures.count in
     omega (arith, c.instances.ensures.sound.few_nets)
 
-pub check_clocks-requires-clause-clocks : goal.check_clocks-requires-clause-clocks
-check_clocks-requires-clause-clocks c = rw c.deref-2.ensures.value c.in_ok-clocks.ensures
+pub check_clocks-requires-clause-roots : goal.check_clocks-requires-clause-roots
+check_clocks-requires-clause-roots c = rw c.deref-2.ensures.value c.in_ok-roots.ensures
 
 pub returns-in_err-check_clocks-clause-refused : goal.returns-in_err-check_clocks-clause-refused
 returns-in_err-check_clocks-clause-refused c =
@@ -86,7 +86,6 @@ returns-clause-found c = record {
   resets = rw c.resets.ensures at c.in_ok-resets.ensures.found;
   kept = rw c.keep.ensures at c.in_ok-kept.ensures.found;
   roots = c.in_ok-roots.ensures;
-  clocks = c.in_ok-clocks.ensures;
 }
 
 pub returns-clause-fits : goal.returns-clause-fits

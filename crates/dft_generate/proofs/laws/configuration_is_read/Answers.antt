@@ -1,5 +1,0 @@
-use Rattle.dft_generate.proofs.ReadConfiguration.{configuration_read}
-use Rattle.dft_generate.proofs.laws.configuration_is_read.Goals as goal
-
-pub returns : goal.returns
-returns c = configuration_read
