@@ -1,12 +1,12 @@
 -- The values of a phase stand above the bits after every order of its edges.
-use Rattle.std.proofs.Common.{ℕ, Bool, true, false, not, ◌&&◌, List, [], ◌∷◌, ◌≡◌, ◌<◌, ◌+◌, ◌==◌, inl, inr, zero, suc, refl, sym, ap, subst, arith, Option, None, Some, ◌∙◌, map}
+use Rattle.std.proofs.Common.{ℕ, Bool, true, false, not, ◌&&◌, List, [], ◌∷◌, ◌≡◌, ◌<◌, ◌+◌, ◌==◌, inl, inr, zero, suc, refl, sym, subst, arith, ◌∙◌, map}
 use Rattle.std.specs.Prelude.{if◌then◌else◌}
-use Rattle.std.proofs.lemmas.Bool.{eqb-true, eq-eqb, cases_Bool, and_from, and_left, and_parts}
+use Rattle.std.proofs.lemmas.Bool.{eqb-true, cases_Bool, and_from, and_left, and_parts}
 use Rattle.dft_base.specs.declared.tri.Tri.{Tri}
 use Rattle.dft_base.specs.declared.tri.Tri.TheVariants.{Zero, Unknown}
-use Rattle.dft_base.specs.Tri.{known, Above, AboveTri}
+use Rattle.dft_base.specs.Tri.{known, Above}
 use Rattle.dft_base.proofs.BitLemmas.{same_or_not, other_bit, first_false}
-use Rattle.dft_cells.proofs.Completions.{above_self, above_trans, join_left, join_right}
+use Rattle.dft_cells.proofs.Completions.{above_trans, join_left, join_right}
 use Rattle.dft_cells.specs.FlipFlops.{tri_taken_by, tri_forced_by}
 use Rattle.dft_cells.proofs.TakesLemmas.{taken_above, left_above, left_again}
 use Rattle.dft_netlist.specs.Drivers.{Source}
@@ -140,33 +140,33 @@ moment_keeps l p view m s old holds = record {
   others = λ c comes. above_trans _ _ _ (old c) (left_above (l.cell c).forces _ _ p.ports (port_bits s m) (holds.others c comes) (ports_above p.ports s m holds.ports));
 }
 
-edge_keeps : (l : Logic) (p : Pulse) (view : ℕ → ℕ → Tri) (now : Now) (d : ℕ) →
-    ((d k : ℕ) → now.state.high d ≡ level_before p d → Above (view d k) (now.moment.seen k)) → now.state.high d ≡ not p.rising → p.pulsed d ≡ true →
-    Holds l p view now.state → Holds l p view (edge l now d p.rising)
-edge_keeps l p view now d seen before pulsed holds =
+edge_keeps : (l : Logic) (p : Pulse) (view : ℕ → ℕ → Tri) (now : Now) (domains : ℕ → Bool) →
+    ((d k : ℕ) → now.state.high d ≡ level_before p d → Above (view d k) (now.moment.seen k)) → ((d : ℕ) → domains d ≡ true → (p.pulsed d ≡ true) × (now.state.high d ≡ not p.rising)) →
+    Holds l p view now.state → Holds l p view (edge l now domains p.rising)
+edge_keeps l p view now domains seen before holds =
     let s : State = now.state in
-    let at : s.high d ≡ level_before p d = before ∙ sym (only_second (p.pulsed d) (not p.rising) pulsed) in
-    let from : (e : ℕ) (source : Source) → (e == d) ≡ true → Above (value_from (view e) source) (bit_from (sources_of now) now.moment.seen source) =
-    λ e source is. source_all (sources_of now) now.moment.seen (view e) source (λ k. seen e k (there p s e d at is)) in
-    let turn : ℕ → Bool = λ c. (l.cell c).domain == d && takes p.rising (l.cell c).falling in
+    let at : (d : ℕ) → domains d ≡ true → s.high d ≡ level_before p d = λ d is. (before d is).1 ∙ sym (only_second (p.pulsed d) (not p.rising) (before d is).0) in
+    let from : (d : ℕ) (source : Source) → domains d ≡ true → Above (value_from (view d) source) (bit_from (sources_of now) now.moment.seen source) =
+    λ d source is. source_all (sources_of now) now.moment.seen (view d) source (λ k. seen d k (at d is)) in
+    let turn : ℕ → Bool = λ c. domains (l.cell c).domain && takes p.rising (l.cell c).falling in
     let takes_it : (c : ℕ) → changes l p c ≡ true → takes p.rising (l.cell c).falling ≡ true = λ c ch. (and_parts (p.pulsed (l.cell c).domain) (takes p.rising (l.cell c).falling) ch).1 in
-    let elsewhere : (c : ℕ) → turn c ≡ false → changes l p c ≡ true → ((l.cell c).domain == d) ≡ false = λ c no ch. first_false ((l.cell c).domain == d) (takes p.rising (l.cell c).falling) no (takes_it c ch) in
+    let elsewhere : (c : ℕ) → turn c ≡ false → changes l p c ≡ true → domains (l.cell c).domain ≡ false = λ c no ch. first_false (domains (l.cell c).domain) (takes p.rising (l.cell c).falling) no (takes_it c ch) in
     record {
       ports = holds.ports;
-      quiet = λ e rests. elim (cases_Bool (e == d)) [
-        | inl is ↦ absurd (let q : true ≡ false = sym pulsed ∙ sym (ap p.pulsed (eqb-true e d is)) ∙ rests in cc)
+      quiet = λ e rests. elim (cases_Bool (domains e)) [
+        | inl is ↦ absurd (let q : true ≡ false = sym (before e is).0 ∙ rests in cc)
         | inr is_not ↦ rw is_not (holds.quiet e rests)
       ];
       moved = λ c ch came. bit_choice (turn c) _ _ _
-          (λ now_it. (let is = (and_parts ((l.cell c).domain == d) (takes p.rising (l.cell c).falling) now_it).0 in
+          (λ now_it. (let is = (and_parts (domains (l.cell c).domain) (takes p.rising (l.cell c).falling) now_it).0 in
           left_above (l.cell c).forces _ _ p.ports (port_bits s now.moment)
           (taken_above (l.cell c).takes (p.old c) (s.flops c) (value_from (view (l.cell c).domain)) (bit_from (sources_of now) now.moment.seen)
-          (holds.others c (λ again. there p s (l.cell c).domain d at is ∙ coming l p c again)) (λ source. from (l.cell c).domain source is))
+          (holds.others c (λ again. at (l.cell c).domain is ∙ coming l p c again)) (λ source. from (l.cell c).domain source is))
           (ports_above p.ports s now.moment holds.ports)))
           (λ no. holds.moved c ch (rw (elsewhere c no ch) at came));
       others = λ c comes. bit_choice (turn c) _ _ _
-          (λ now_it. (let two = and_parts ((l.cell c).domain == d) (takes p.rising (l.cell c).falling) now_it in
-          absurd (other_bit p.rising (rw two.0 at (comes (and_from (p.pulsed (l.cell c).domain) (takes p.rising (l.cell c).falling) (ap p.pulsed (eqb-true (l.cell c).domain d two.0) ∙ pulsed) two.1))))))
+          (λ now_it. (let two = and_parts (domains (l.cell c).domain) (takes p.rising (l.cell c).falling) now_it in
+          absurd (other_bit p.rising (rw two.0 at (comes (and_from (p.pulsed (l.cell c).domain) (takes p.rising (l.cell c).falling) (before (l.cell c).domain two.0).0 two.1))))))
           (λ no. holds.others c (λ ch. rw (elsewhere c no ch) at (comes ch)));
     }
 
@@ -194,9 +194,9 @@ at_end true true false h is = absurd (omega arith)
 at_end true false false h is = refl
 at_end true false true h is = absurd (omega arith)
 
-edge_is : (l : Logic) (now : Now) (d : ℕ) (rising : Bool) → edge l now d rising ≡ after_event l now (event_of rising d)
-edge_is l now d true = refl
-edge_is l now d false = refl
+edge_is : (l : Logic) (now : Now) (domains : ℕ → Bool) (rising : Bool) → edge l now domains rising ≡ after_event l now (event_of rising domains)
+edge_is l now domains true = refl
+edge_is l now domains false = refl
 
 pub edges_above : (l : Logic) (rank : ℕ → ℕ) (p : Pulse) (poss : ℕ → Tri) (view : ℕ → ℕ → Tri) (now : Now) (es : List Edge) →
     IsRanked l rank → IsClosed l p poss view → IsForced l p → Holds l p view now.state → IsNow l now →
@@ -204,17 +204,17 @@ pub edges_above : (l : Logic) (rank : ℕ → ℕ) (p : Pulse) (poss : ℕ → T
     Holds l p view (after l now (map (edge_step p.rising) es)).state × ((d : ℕ) → p.pulsed d ≡ true → (after l now (map (edge_step p.rising) es)).state.high d ≡ p.rising)
 edges_above l rank p poss view now [] ranked closed old holds settled once steps = (holds, λ d pulsed. at_end (p.pulsed d) p.rising (now.state.high d) (once d) pulsed)
 edges_above l rank p poss view now (e ∷ es) ranked closed old holds settled once steps =
-    let d : ℕ = e.domain in
-    let first = at_first (d == d) (p.pulsed d) p.rising (now.state.high d) (times d es) (eq-eqb d d refl) (once d) in
+    let first : (d : ℕ) → e.domains d ≡ true → (p.pulsed d ≡ true) × (now.state.high d ≡ not p.rising) × (times d es ≡ 0) =
+    λ d is. at_first (e.domains d) (p.pulsed d) p.rising (now.state.high d) (times d es) is (once d) in
     let seen : (d k : ℕ) → now.state.high d ≡ level_before p d → Above (view d k) (now.moment.seen k) =
     λ d k. view_above l rank p poss view now ranked closed holds settled (suc (rank k)) k (omega arith) d in
-    let kept : Holds l p view (edge l now d p.rising) = edge_keeps l p view now d seen first.1 first.0 holds in
-    let same : edge l now d p.rising ≡ after_event l now (event_of p.rising d) = edge_is l now d p.rising in
-    let after_it : Holds l p view (at_moment l e.moment (after_event l now (event_of p.rising d))) =
-    subst (λ (s : State). Holds l p view (at_moment l e.moment s)) same (moment_keeps l p view e.moment (edge l now d p.rising) old kept) in
+    let kept : Holds l p view (edge l now e.domains p.rising) = edge_keeps l p view now e.domains seen (λ d is. ((first d is).0, (first d is).1)) holds in
+    let same : edge l now e.domains p.rising ≡ after_event l now (event_of p.rising e.domains) = edge_is l now e.domains p.rising in
+    let after_it : Holds l p view (at_moment l e.moment (after_event l now (event_of p.rising e.domains))) =
+    subst (λ (s : State). Holds l p view (at_moment l e.moment s)) same (moment_keeps l p view e.moment (edge l now e.domains p.rising) old kept) in
     edges_above l rank p poss view (next_now l now (edge_step p.rising e)) es ranked closed old after_it steps.0
     (λ x. subst (λ (s : State). times x es ≡ (if p.pulsed x then (if is_wire p.rising (s.high x) then 0 else 1) else 0)) same
-    (at_rest (x == d) (p.pulsed x) p.rising (now.state.high x) (times x es) (λ is. ap (λ (y : ℕ). times y es) (eqb-true x d is) ∙ first.2) (once x))) steps.1
+    (at_rest (e.domains x) (p.pulsed x) p.rising (now.state.high x) (times x es) (λ is. (first x is).2) (once x))) steps.1
 
 -- ---- the whole phase
 
@@ -248,7 +248,7 @@ end_stands l p view s holds all = record {
 pub phase_above : PhaseIsAbove
 phase_above l rank p poss view now es ranked closed old ports stands settled order steps =
     let r = edges_above l rank p poss view now es ranked closed old (start_holds l p view now.state ports stands) settled
-    (λ d. order d ∙ start_once (p.pulsed d) p.rising (now.state.high d) (stands.levels d)) steps in
+    (λ d. order.once d ∙ start_once (p.pulsed d) p.rising (now.state.high d) (stands.levels d)) steps in
     end_stands l p view _ r.0 r.1
 
 -- input ports stay as they are set

@@ -2,7 +2,7 @@
 
 ghost use Rattle.dft_abstract.specs.Laws.{ClosedExists, StrobeExists, StrobeIsAbove, PhaseIsAbove, TurnIsAbove, StepIsBelow, NoneChanges, RoundIsOne, OneDomain, KnownAfterTurn, KnownAfterFalls, KnownAtStrobe, LowAfterTurn};
 
-/// In every run, whatever the order of edges and the free bits, the abstract values stand above the bits.
+/// In every run, whatever the order of edges, any of them at once, and the free bits, the abstract values stand above the bits.
 pub fn cycle_is_above()
     ensures strobe { StrobeIsAbove }
     ensures phase { PhaseIsAbove }

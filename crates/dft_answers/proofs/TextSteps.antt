@@ -58,6 +58,7 @@ text_takes limit option gives name text before after bytes r taken same given = 
   held = taken.held;
   read_faults = taken.read_faults;
   write_faults = taken.write_faults;
+  short_saves = taken.short_saves;
 }
 
 -- no text was loaded
@@ -71,4 +72,5 @@ text_stops {A} limit option gives name before after stop r taken is =
       held = taken.held;
       read_faults = taken.read_faults;
       write_faults = taken.write_faults;
+      short_saves = taken.short_saves;
     })

@@ -8,9 +8,9 @@ use Rattle.dft_answers.specs.declared.outcome.Outcome.{Outcome}
 use Rattle.dft_answers.specs.Answers.{answer_of, stopped}
 use Rattle.dft_answers.specs.Lines.{line_of}
 
--- what is printed of an outcome: its line, or a prefix of it where the outside fails, or nothing where memory runs out
-abbrev pub Prints : Outcome → (faults faults' : ℕ) → (old new : Option (List ℕ)) → Answer → Type 0
-Prints o faults faults' old new answer =
+-- what is printed of an outcome: its line, or a prefix of it where the outside fails, or nothing where memory runs out in the put
+abbrev pub Prints : Outcome → (faults faults' short short' : ℕ) → (old new : Option (List ℕ)) → Answer → Type 0
+Prints o faults faults' short short' old new answer =
     ((answer ≡ answer_of o) × Adds (line_of o) old new)
     ⊎ (Rose faults faults' × AddsPrefix (line_of o) old new × (answer ≡ stopped WriteFault))
-    ⊎ ((new ≡ old) × (answer ≡ stopped OutOfMemory))
+    ⊎ (Rose short short' × (new ≡ old) × (answer ≡ stopped OutOfMemory))

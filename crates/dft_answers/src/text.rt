@@ -22,8 +22,8 @@ pub fn load_text<F: Files>(
 ) -> Result<Vec<u8>, Stop>
     requires { IsName option.now }
     ensures takes { Takes (Some name.now) (λ h. FileGives limit option.now IsText (file_at name.now h))
-        (seen_files (F.held files.old) (F.failed files.old) (F.read_faults files.old) (F.write_faults files.old))
-        (seen_files (F.held files.new) (F.failed files.new) (F.read_faults files.new) (F.write_faults files.new)) result }
+        (seen_files (F.held files.old) (F.failed files.old) (F.read_faults files.old) (F.write_faults files.old) (F.short_saves files.old))
+        (seen_files (F.held files.new) (F.failed files.new) (F.read_faults files.new) (F.write_faults files.new) (F.short_saves files.new)) result }
     ensures short { IfOk result (λ text. length text.items ≤ limit) }
 {
     match files.load(alloc, name, limit) {

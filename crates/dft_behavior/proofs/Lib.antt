@@ -1,5 +1,6 @@
 pub mod Meanings
 pub mod Steps
+pub mod RunExampleLemmas
 pub mod StoredLemmas
 pub mod Ranks
 pub mod OneSettled

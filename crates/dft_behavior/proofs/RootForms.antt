@@ -1,10 +1,10 @@
 -- Traces and shown clocks, one net on; and what holds of a root, said of what is traced to or of the clock that is shown.
-use Rattle.std.proofs.Common.{ℕ, ◌≡◌, Bool, true, false, not, List, [], ◌∷◌, Some, refl, sym, ap, subst}
+use Rattle.std.proofs.Common.{ℕ, ◌≡◌, Bool, true, false, List, [], ◌∷◌, Some, refl, sym, ap, subst}
 use Rattle.dft_cells.specs.declared.kind.Gate.{Gate as GateKind}
 use Rattle.dft_cells.specs.declared.kind.Gate.TheVariants.{Buf, Inv}
 use Rattle.dft_netlist.specs.Netlist.{Netlist}
 use Rattle.dft_netlist.specs.Drivers.{Source, Net, Tied, Input, Gate, Joined, driver}
-use Rattle.dft_behavior.specs.NetRoots.{NetRoot, Port, Constant, Other, Passed, From, Bit, passed_by_gate, turned, turned_root, AtPort, AtConstant, AtTie, ThroughGate, ThroughJoin}
+use Rattle.dft_behavior.specs.NetRoots.{NetRoot, Port, Constant, Other, From, Bit, passed_by_gate, turned, turned_root, AtPort, AtConstant, AtTie, ThroughGate, ThroughJoin}
 use Rattle.dft_behavior.specs.Traces.{Traces, straight_root}
 use Rattle.dft_behavior.specs.Traces as traces
 use Rattle.dft_behavior.specs.ClockRoots.{ClockRooted, turn_of}

@@ -7,7 +7,7 @@ use Rattle.dft_cells.specs.Gates.{bit_of}
 use Rattle.dft_netlist.specs.Netlist.{Netlist}
 use Rattle.dft_netlist.specs.Drivers.{Source, Net, Tied, Loose, Driver, Input, Gate, Joined, Flop, Lockup, Free, driver, nets_of, nets_read, AreBelow, IsOrdered}
 use Rattle.dft_behavior.specs.NetRoots.{NetRoot, Port, Constant, Other, Passed, From, Bit, Nothing, passed_by_one, passed_by_gate, turned, turned_root, Rooted, AtPort, AtConstant, AtTie, ThroughGate, ThroughJoin, root_of_passed, root_of_driver, root_within, net_root_of}
-use Rattle.dft_behavior.specs.Traces.{straight_root, root_of}
+use Rattle.dft_behavior.specs.Traces.{straight_root}
 use Rattle.dft_behavior.specs.Traces as traces
 use Rattle.dft_behavior.specs.Logic.{Ports, meaning_of, logic_of}
 use Rattle.dft_behavior.specs.Settled.{Sources, bit_from, bit_given, IsSettled}

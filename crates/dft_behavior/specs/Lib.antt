@@ -4,6 +4,7 @@ pub mod ClockRoots
 pub mod Logic
 pub mod Settled
 pub mod Runs
+pub mod RunExamples
 pub mod Laws
 pub mod Roots
 pub mod RootTables

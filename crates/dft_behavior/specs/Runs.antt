@@ -1,9 +1,8 @@
--- Events, and runs over vectors: every order of the edges and every free bit.
-use Rattle.std.specs.Prelude.{ℕ, Bool, true, false, not, ◌&&◌, List, [], ◌∷◌, ◌++◌, ◌≡◌, ◌==◌, ◌+◌, Option, None, Some, if◌then◌else◌, map}
+-- Events, and runs over vectors: clock edges in every order and any of them at once, and every free bit.
+use Rattle.std.specs.Prelude.{ℕ, Bool, true, false, not, ◌&&◌, List, [], ◌∷◌, ◌++◌, ◌≡◌, ◌+◌, if◌then◌else◌, map}
 use Rattle.dft_base.specs.declared.tri.Tri.{Tri}
 use Rattle.dft_base.specs.Tri.{completed}
 use Rattle.dft_cells.specs.FlipFlops.{taken_by, forced_by}
-use Rattle.dft_netlist.specs.Drivers.{Source}
 use Rattle.dft_behavior.specs.Logic.{Logic, Cell}
 use Rattle.dft_behavior.specs.Settled.{Sources, bit_from, IsSettled}
 
@@ -54,19 +53,20 @@ next_bit cell own now = forced_by cell.forces (port_bits now.state now.moment) (
 pub data Event : Type 0 where
   -- the input ports get their bits; Unknown at a port that nothing has set yet
   Set : (ports : ℕ → Tri) → Event
-  Rise : (domain : ℕ) → Event
-  Fall : (domain : ℕ) → Event
+  -- the clocks of these domains rise at once, or fall
+  Rise : (domains : ℕ → Bool) → Event
+  Fall : (domains : ℕ → Bool) → Event
 
 -- whether a cell takes its bit at a rise, or at a fall
 abbrev pub takes : (rising falling : Bool) → Bool
 takes rising falling = if rising then not falling else falling
 
--- the rise or the fall of a domain: its cells of this edge take their next bits
-abbrev pub edge : Logic → Now → (domain : ℕ) → (rising : Bool) → State
-edge l now d rising = record {
+-- the rise or the fall of some domains at once: all their cells of this edge take their next bits from the settled bits just before
+abbrev pub edge : Logic → Now → (domains : ℕ → Bool) → (rising : Bool) → State
+edge l now domains rising = record {
   ports = now.state.ports;
-  flops = λ c. if (l.cell c).domain == d && takes rising (l.cell c).falling then next_bit (l.cell c) (now.state.flops c) now else now.state.flops c;
-  high = λ e. if e == d then rising else now.state.high e;
+  flops = λ c. if domains (l.cell c).domain && takes rising (l.cell c).falling then next_bit (l.cell c) (now.state.flops c) now else now.state.flops c;
+  high = λ e. if domains e then rising else now.state.high e;
 }
 
 abbrev pub set_ports : Now → (ℕ → Tri) → State
@@ -75,8 +75,8 @@ set_ports now ports = record { ports = ports; flops = now.state.flops; high = no
 -- the state after an event, before resets and sets act
 abbrev pub after_event : Logic → Now → Event → State
 after_event l now (Set ports) = set_ports now ports
-after_event l now (Rise d) = edge l now d true
-after_event l now (Fall d) = edge l now d false
+after_event l now (Rise domains) = edge l now domains true
+after_event l now (Fall domains) = edge l now domains false
 
 -- at each moment a flip-flop whose reset is 0 becomes 0, and one whose set is 0 becomes 1
 abbrev pub at_moment : Logic → Moment → State → State
@@ -110,23 +110,23 @@ pub record Vector : Type 0 where
   pub ports : ℕ → Tri
   pub pulsed : ℕ → Bool
 
--- an edge of a domain's clock, with the moment after it
+-- an edge of the clocks of some domains at once, with the moment after it
 pub record Edge : Type 0 where
-  pub domain : ℕ
+  pub domains : ℕ → Bool
   pub moment : Moment
 
--- what a run chooses at a vector: the moment of the strobe, the order of the rises and of the falls, and the moments after them
+-- what a run chooses at a vector: the moment of the strobe, which clocks rise at once and in which order, how they fall, and the moments after that
 pub record Turn : Type 0 where
   pub strobe : Moment
   pub rises : List Edge
   pub falls : List Edge
 
-abbrev pub event_of : (rising : Bool) → (domain : ℕ) → Event
-event_of true d = Rise d
-event_of false d = Fall d
+abbrev pub event_of : (rising : Bool) → (domains : ℕ → Bool) → Event
+event_of true domains = Rise domains
+event_of false domains = Fall domains
 
 abbrev pub edge_step : (rising : Bool) → Edge → Step
-edge_step rising e = record { event = event_of rising e.domain; moment = e.moment }
+edge_step rising e = record { event = event_of rising e.domains; moment = e.moment }
 
 abbrev pub set_step : Vector → Turn → Step
 set_step x t = record { event = Set x.ports; moment = t.strobe }
@@ -138,11 +138,17 @@ steps_of x t = set_step x t ∷ (map (edge_step true) t.rises ++ map (edge_step 
 -- how many of the edges are of a domain
 abbrev pub times : (domain : ℕ) → List Edge → ℕ
 times d [] = 0
-times d (e ∷ es) = (if d == e.domain then 1 else 0) + times d es
+times d (e ∷ es) = (if e.domains d then 1 else 0) + times d es
 
--- one edge of each pulsed domain and none of another, in any order
-abbrev pub IsOrder : (pulsed : ℕ → Bool) → List Edge → Type 0
-IsOrder pulsed es = (d : ℕ) → times d es ≡ (if pulsed d then 1 else 0)
+-- each edge is one of some domain
+abbrev pub AreOfSome : List Edge → Type 0
+AreOfSome [] = Unit {0}
+AreOfSome (e ∷ es) = ((d : ℕ) × (e.domains d ≡ true)) × AreOfSome es
+
+-- the pulsed domains in any order, and any of them at once: each has one edge and another none, and no edge is that of no domain
+pub record IsOrder (pulsed : ℕ → Bool) (es : List Edge) : Type 0 where
+  pub once : (d : ℕ) → times d es ≡ (if pulsed d then 1 else 0)
+  pub some : AreOfSome es
 
 pub record IsTurn (l : Logic) (x : Vector) (now : Now) (t : Turn) : Type 0 where
   pub steps : AreSteps l now (steps_of x t)

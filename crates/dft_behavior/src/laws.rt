@@ -1,6 +1,7 @@
 //! Laws about what nets do, as contracts of functions that do nothing.
 
 ghost use Rattle.dft_behavior.specs.Laws.{OrderIsRank, SettledIsOne, WalkFindsRoot, PortIsFound, ConstantIsFound, TracedBit, TracedConstant, WalkFindsClock, ClockIsFound, ClockBit, LockupByPin, TracedIsClock};
+ghost use Rattle.dft_behavior.specs.RunExamples.{AllAtOnce, Exchange, LockedExchange, NoOrders, TwoThenOne};
 
 /// A design with an order has exactly one settled assignment for given sources.
 pub fn settled_is_one()
@@ -25,4 +26,14 @@ pub fn clocks_are_exact()
     ensures bit { ClockBit }
     ensures lockup { LockupByPin }
     ensures traced { TracedIsClock }
+{}
+
+/// Worked examples: clocks that pulse may rise at one instant, and fall at one. Flip-flops of such clocks then take the
+/// bits from before, whether they feed each other, through a lock-up or not, or a third whose clock comes after.
+pub fn worked_instants()
+    ensures all { AllAtOnce }
+    ensures others { NoOrders }
+    ensures exchange { Exchange }
+    ensures locked { LockedExchange }
+    ensures three { TwoThenOne }
 {}

@@ -1,5 +1,5 @@
 -- With scan off the nets of the original have the same bits.
-use Rattle.std.proofs.Common.{ℕ, zero, suc, Bool, true, false, List, [], ◌∷◌, ◌≡◌, ◌==◌, ◌<◌, refl, sym, ap, subst, arith, map, ◌∙◌, Option, None, Some, ◌&&◌}
+use Rattle.std.proofs.Common.{ℕ, zero, suc, Bool, true, false, List, [], ◌∷◌, ◌≡◌, ◌<◌, refl, sym, ap, subst, arith, map, ◌∙◌, Option, None, Some, ◌&&◌}
 use Rattle.std.specs.Prelude.{if◌then◌else◌, not}
 use Rattle.std.proofs.lemmas.Bool.{and_left}
 use Rattle.dft_base.specs.declared.tri.Tri.TheVariants.{Zero}
@@ -13,7 +13,7 @@ use Rattle.dft_netlist.specs.Drivers.{Source, Net, Tied, Loose, nets_of, AreBelo
 use Rattle.dft_behavior.specs.Logic.{Logic, Meaning, Input, Clock, Gate, Joined, Flop, Lockup, Free, Cell, reads, IsRanked}
 use Rattle.dft_behavior.specs.Settled.{Sources, bit_from, bit_given}
 use Rattle.dft_behavior.specs.Runs.{State, Moment, Now, port_bits, sources_of, IsNow, next_bit, Event, Set, after_event, at_moment, Step, next_now, AreSteps, takes, edge}
-use Rattle.dft_chains.specs.ScanOff.{moved_source, moved_meaning, Places, IsWithin, AreForcesWithin, AllOf, IsEnabledBy, KeepsFlop, PinsKeep, Contains, IsSameEvent, SameSet, SameRise, SameFall, AddedRise, AddedFall, AreFreeAlike, AreSameSteps, AllAgree, set_to, ScanOff}
+use Rattle.dft_chains.specs.ScanOff.{moved_source, moved_meaning, Places, IsWithin, AreForcesWithin, AllOf, IsEnabledBy, KeepsFlop, PinsKeep, Contains, AreSameDomains, AreAdded, IsSameEvent, SameSet, SameRise, SameFall, AddedRise, AddedFall, AreFreeAlike, AreSameSteps, AllAgree, set_to, ScanOff}
 
 -- what both have in common at a moment, but for free bits
 record AreAlike (p : Places) (s its : State) : Type 0 where
@@ -135,35 +135,35 @@ not_picked a x y z e f = rw e f
 
 -- ---- events
 
-edge_alike : (original written : Logic) (p : Places) (now its : Now) (d : ℕ) (rising : Bool) → Contains original written p → AreAlike p now.state its.state → AreFreeAlike p now.moment its.moment → now.moment.seen p.enable ≡ false →
-    ((net : ℕ) → net < p.size → now.moment.seen (p.moved net) ≡ its.moment.seen net) → AreAlike p (edge written now (p.moved d) rising) (edge original its d rising)
-edge_alike original written p now its d rising has alike free low same = record {
+edge_alike : (original written : Logic) (p : Places) (now its : Now) (domains those : ℕ → Bool) (rising : Bool) → AreSameDomains p domains those → Contains original written p → AreAlike p now.state its.state → AreFreeAlike p now.moment its.moment → now.moment.seen p.enable ≡ false →
+    ((net : ℕ) → net < p.size → now.moment.seen (p.moved net) ≡ its.moment.seen net) → AreAlike p (edge written now domains rising) (edge original its those rising)
+edge_alike original written p now its domains those rising are has alike free low same = record {
   ports = alike.ports;
   off = alike.off;
-  flops = λ c is. pick ((written.cell c).domain == p.moved d && takes rising (written.cell c).falling) ((original.cell c).domain == d && takes rising (original.cell c).falling)
+  flops = λ c is. pick (domains (written.cell c).domain && takes rising (written.cell c).falling) (those (original.cell c).domain && takes rising (original.cell c).falling)
       (next_bit (written.cell c) (now.state.flops c) now) (now.state.flops c) (next_bit (original.cell c) (its.state.flops c) its) (its.state.flops c)
-      (λ t. (ap (λ e. e == p.moved d) (has.flops c is).domain ∙ has.apart (original.cell c).domain d) t && takes rising ((has.flops c is).falling t))
+      (λ t. (ap domains (has.flops c is).domain ∙ are (original.cell c).domain) t && takes rising ((has.flops c is).falling t))
       (next_same original written p now its c has alike free low same is) (alike.flops c is);
-  high = λ e. pick (p.moved e == p.moved d) (e == d) rising (now.state.high (p.moved e)) rising (its.state.high e) (has.apart e d) refl (alike.high e);
+  high = λ e. pick (domains (p.moved e)) (those e) rising (now.state.high (p.moved e)) rising (its.state.high e) (are e) refl (alike.high e);
 }
 
-added_alike : (original written : Logic) (p : Places) (now its : Now) (k : ℕ) (rising : Bool) → Contains original written p → AreAlike p now.state its.state → ((domain : ℕ) → (p.moved domain == k) ≡ false) →
-    AreAlike p (edge written now k rising) (after_event original its (Set its.state.ports))
-added_alike original written p now its k rising has alike added = record {
+added_alike : (original written : Logic) (p : Places) (now its : Now) (domains : ℕ → Bool) (rising : Bool) → Contains original written p → AreAlike p now.state its.state → AreAdded p domains →
+    AreAlike p (edge written now domains rising) (after_event original its (Set its.state.ports))
+added_alike original written p now its domains rising has alike added = record {
   ports = alike.ports;
   off = alike.off;
-  flops = λ c is. not_picked ((written.cell c).domain == k && takes rising (written.cell c).falling) (next_bit (written.cell c) (now.state.flops c) now) (now.state.flops c) (its.state.flops c)
-      (and_left ((written.cell c).domain == k) (takes rising (written.cell c).falling) (ap (λ e. e == k) (has.flops c is).domain ∙ added (original.cell c).domain)) (alike.flops c is);
-  high = λ e. not_picked (p.moved e == k) rising (now.state.high (p.moved e)) (its.state.high e) (added e) (alike.high e);
+  flops = λ c is. not_picked (domains (written.cell c).domain && takes rising (written.cell c).falling) (next_bit (written.cell c) (now.state.flops c) now) (now.state.flops c) (its.state.flops c)
+      (and_left (domains (written.cell c).domain) (takes rising (written.cell c).falling) (ap domains (has.flops c is).domain ∙ added (original.cell c).domain)) (alike.flops c is);
+  high = λ e. not_picked (domains (p.moved e)) rising (now.state.high (p.moved e)) (its.state.high e) (added e) (alike.high e);
 }
 
 after_alike : (original written : Logic) (p : Places) (now its : Now) (event other : Event) → Contains original written p → AreAlike p now.state its.state → AreFreeAlike p now.moment its.moment → now.moment.seen p.enable ≡ false →
     ((net : ℕ) → net < p.size → now.moment.seen (p.moved net) ≡ its.moment.seen net) → IsSameEvent p its.state.ports event other → AreAlike p (after_event written now event) (after_event original its other)
 after_alike original written p now its _ _ has alike free low same (SameSet {given = given} {its = ports} off are) = record { ports = are; off = off; flops = alike.flops; high = alike.high }
-after_alike original written p now its _ _ has alike free low same (SameRise {domain = d}) = edge_alike original written p now its d true has alike free low same
-after_alike original written p now its _ _ has alike free low same (SameFall {domain = d}) = edge_alike original written p now its d false has alike free low same
-after_alike original written p now its _ _ has alike free low same (AddedRise {clock = k} added) = added_alike original written p now its k true has alike added
-after_alike original written p now its _ _ has alike free low same (AddedFall {clock = k} added) = added_alike original written p now its k false has alike added
+after_alike original written p now its _ _ has alike free low same (SameRise {domains = domains} {its = those} are) = edge_alike original written p now its domains those true are has alike free low same
+after_alike original written p now its _ _ has alike free low same (SameFall {domains = domains} {its = those} are) = edge_alike original written p now its domains those false are has alike free low same
+after_alike original written p now its _ _ has alike free low same (AddedRise {domains = domains} added) = added_alike original written p now its domains true has alike added
+after_alike original written p now its _ _ has alike free low same (AddedFall {domains = domains} added) = added_alike original written p now its domains false has alike added
 
 -- resets and sets act alike
 moment_alike : (original written : Logic) (p : Places) (s its : State) (m o : Moment) → Contains original written p → AreAlike p s its → AreFreeAlike p m o → AreAlike p (at_moment written m s) (at_moment original o its)

@@ -102,14 +102,22 @@ pub record Contains (original written : Logic) (p : Places) : Type 0 where
 
 -- ---- lists of events
 
--- What an event of the written design is for the original, whose ports have these values: the same event with scan_enable 0; or
--- an edge of a clock that the original has not, and then only free bits change.
+-- these are the domains of the original that have their places among those of the written design
+abbrev pub AreSameDomains : Places → (domains its : ℕ → Bool) → Type 0
+AreSameDomains p domains its = (domain : ℕ) → domains (p.moved domain) ≡ its domain
+
+-- no domain of the original has its place among these of the written design
+abbrev pub AreAdded : Places → (domains : ℕ → Bool) → Type 0
+AreAdded p domains = (domain : ℕ) → domains (p.moved domain) ≡ false
+
+-- What an event of the written design is for the original, whose ports have these values: the same Set with scan_enable 0; of clocks
+-- that rise or fall at once those that it has; and where it has none of them, only free bits change.
 pub data IsSameEvent (p : Places) (ports : ℕ → Tri) : (event its : Event) → Type 0 where
   SameSet : {given its : ℕ → Tri} → given p.enable ≡ Zero → ((net : ℕ) → net < p.size → given (p.moved net) ≡ its net) → IsSameEvent p ports (Set given) (Set its)
-  SameRise : {domain : ℕ} → IsSameEvent p ports (Rise (p.moved domain)) (Rise domain)
-  SameFall : {domain : ℕ} → IsSameEvent p ports (Fall (p.moved domain)) (Fall domain)
-  AddedRise : {clock : ℕ} → ((domain : ℕ) → (p.moved domain == clock) ≡ false) → IsSameEvent p ports (Rise clock) (Set ports)
-  AddedFall : {clock : ℕ} → ((domain : ℕ) → (p.moved domain == clock) ≡ false) → IsSameEvent p ports (Fall clock) (Set ports)
+  SameRise : {domains its : ℕ → Bool} → AreSameDomains p domains its → IsSameEvent p ports (Rise domains) (Rise its)
+  SameFall : {domains its : ℕ → Bool} → AreSameDomains p domains its → IsSameEvent p ports (Fall domains) (Fall its)
+  AddedRise : {domains : ℕ → Bool} → AreAdded p domains → IsSameEvent p ports (Rise domains) (Set ports)
+  AddedFall : {domains : ℕ → Bool} → AreAdded p domains → IsSameEvent p ports (Fall domains) (Set ports)
 
 -- the free bits of the original's nets, and of unconnected pins, are the same
 pub record AreFreeAlike (p : Places) (moment its : Moment) : Type 0 where

@@ -21,7 +21,7 @@ use Rattle.dft_configuring.specs.declared.error.ConfigureError.{ConfigureError}
 use Rattle.dft_configuring.specs.declared.wanted.Wanted.{Wanted}
 use Rattle.dft_configuring.specs.Configured.{IsConfigured}
 use Rattle.dft_configuring.specs.Searching.{Ends, Finds, GoesOn, IsGood, Passes, Search}
-use Rattle.dft_configure_laws.specs.MadeLoads.{MadeLoads, NoneIsUnsolvable}
+use Rattle.dft_configure_laws.specs.MadeLoads.{MadeIsGood, MadeLoads, NoneIsUnsolvable}
 use Rattle.dft_configure_laws.proofs.FewLemmas.{few_loaded, few_solvable}
 
 -- ---- what the search finds is good
@@ -75,12 +75,12 @@ module _ (ring : RingConfig) (lengths : List ℕ) (late : ℕ → Bool) (cycles 
 
 -- ---- the laws
 
-made_good : (n : Netlist) (wanted : Wanted) (configured : Configured) → IsConfigured n wanted configured → IsGood n configured.config
+pub made_good : MadeIsGood
 made_good n wanted configured is =
     let chosen = is.chosen in subst (λ (config : Config). IsGood n config) (sym is.config) (found_good n wanted _ (Ok is.made) chosen.first)
 
 pub made_loaded : MadeLoads
-made_loaded n wanted configured ports cells ready suits is few = let good = made_good n wanted configured is in few_loaded n configured.config ports good.rows cells ready suits good.are good.good few
+made_loaded n wanted configured ready is ports cells suits few = let good = made_good n wanted configured is in few_loaded n configured.config ports good.rows cells ready suits good.are good.good few
 
 -- ---- each cube is placed
 
@@ -102,7 +102,7 @@ placed_at columns row window old (x ∷ cubes) (p ∷ all) new zero cube placed 
 placed_at columns row window old (x ∷ cubes) (p ∷ all) new (suc c) cube placed places here there = placed_at columns row window places.0 cubes all new c cube placed places.1.1 here there
 
 pub none_unsolvable : NoneIsUnsolvable
-none_unsolvable n wanted configured cubes placing c cube placed ready is here there few unsolvable =
+none_unsolvable n wanted configured ready is cubes placing c cube placed here there few unsolvable =
     let config = configured.config in
     let good = made_good n wanted configured is in
     let at = placed_at placing.rows.columns (rows_of n config placing.rows) config.window [] cubes placing.placed placing.merged c cube placed placing.is here there in

@@ -1,6 +1,6 @@
 //! Laws of made configurations, as contracts of functions that do nothing.
 
-ghost use Rattle.dft_configure_laws.specs.MadeLoads.{MadeLoads, NoneIsUnsolvable};
+ghost use Rattle.dft_configure_laws.specs.MadeLoads.{MadeIsGood, MadeLoads, NoneIsUnsolvable};
 ghost use Rattle.dft_configure_laws.specs.MadeScans.{MadeScansMost};
 ghost use Rattle.dft_configure_laws.specs.Moves.{ApartIsPlain, MovesAreSums};
 ghost use Rattle.dft_configure_laws.specs.Pairs.{FewAreLoaded, FewAreSolvable};
@@ -15,6 +15,7 @@ pub fn few_are_loaded()
 
 /// So it is under every made configuration, and a compilation of any cubes never tells one of these as unsolvable.
 pub fn made_loads()
+    ensures good { MadeIsGood }
     ensures loaded { MadeLoads }
     ensures solvable { NoneIsUnsolvable }
 {}

@@ -414,11 +414,11 @@ phase_passed m after x rising pulsed p new compiled n k i s cells edge ports ups
     record { netlist = n; clocks = k; inputs = i; shown = s; half = r.half; least = r.least; cells = r.cells }
 
 -- the plan that was found, and what was found for it
-pub plan_found : (x : Circuit) (p : Pulse) (old : Contents) (plans : List Plan) (place : ℕ) (plan d : Plan) (row : List Tri) → place < length plans → plan ≡ get_or plans place d → IsFoundAt x p old plans place row → IsFound x p old plan row
+pub plan_found : (x : Circuit) (p : Pulse) (old : Contents Tri) (plans : List Plan) (place : ℕ) (plan d : Plan) (row : List Tri) → place < length plans → plan ≡ get_or plans place d → IsFoundAt x p old plans place row → IsFound x p old plan row
 plan_found x p old plans place plan d row less is found = found plan (slice_get-get_or plans place d less ∙ ap Some (sym is))
 
 -- where it is put the phase is passed
-pub put_passed : (x : Circuit) (p : Pulse) (old : Contents) (plan : Plan) (row rs new : List Tri) (takings : List Taking) (moves : List Move) → IsFound x p old plan row → takings ≡ plan.takings.items → rs ≡ row → moves ≡ plan.moves.items →
+pub put_passed : (x : Circuit) (p : Pulse) (old : Contents Tri) (plan : Plan) (row rs new : List Tri) (takings : List Taking) (moves : List Move) → IsFound x p old plan row → takings ≡ plan.takings.items → rs ≡ row → moves ≡ plan.moves.items →
     ArePut takings (length takings) (value_at rs) (course old.layout moves) old.values new → IsPassed x p new
 put_passed x p old plan row rs new takings moves found t r m put =
     found.passed new

@@ -143,12 +143,12 @@ pub record IsPassed (x : Circuit) (p : Pulse) (new : List Tri) : Type 0 where
   pub each : (c : ℕ) → c < length x.flops → value_at new c ≡ after_pulse (logic_at x) p view c
 
 -- What was found for a plan's list: where it is put, as the plan's registers move, the phase is passed.
-pub record IsFound (x : Circuit) (p : Pulse) (old : Contents) (plan : Plan) (row : List Tri) : Type 0 where
+pub record IsFound (x : Circuit) (p : Pulse) (old : Contents Tri) (plan : Plan) (row : List Tri) : Type 0 where
   pub can : CanMove old.layout plan.moves.items
   pub few : length plan.takings.items ≤ length x.flops
   pub live : (j : ℕ) → j < length plan.takings.items → (taking_at plan.takings.items j).place < length x.flops
   pub passed : (new : List Tri) → ArePut plan.takings.items (length plan.takings.items) (value_at row) (course old.layout plan.moves.items) old.values new → IsPassed x p new
 
 -- for the plan at a place
-abbrev pub IsFoundAt : Circuit → Pulse → (old : Contents) → List Plan → (place : ℕ) → (row : List Tri) → Type 0
+abbrev pub IsFoundAt : Circuit → Pulse → (old : Contents Tri) → List Plan → (place : ℕ) → (row : List Tri) → Type 0
 IsFoundAt x p old plans place row = (plan : Plan) → slice_get plans place ≡ Some plan → IsFound x p old plan row

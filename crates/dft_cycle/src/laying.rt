@@ -61,7 +61,7 @@ fn flop_before(flops: &[FlipFlop], flop: &FlipFlop, origins: &[Option<InstanceId
 }
 
 // The flip-flops of a circuit, whose values nobody knows, laid one behind the other where they shift so.
-pub(crate) fn lay_out(alloc: Global, circuit: &Circuit) -> Result<Cells, AllocError>
+pub(crate) fn lay_out(alloc: Global, circuit: &Circuit) -> Result<Cells<Tri>, AllocError>
     ensures { IfOk result (λ cells. cells.values ≡ replicate (length circuit.now.flops) Tri.Unknown) }
 {
     let nothing = Cells::new(alloc, &[])?;

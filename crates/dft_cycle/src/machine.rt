@@ -34,7 +34,7 @@ pub struct AbstractMachine<'a> {
     // For each clock whether a cell of its domain takes its bit at a fall.
     falls: Vec<bool>,
     inputs: Vec<Tri>,
-    cells: Cells,
+    cells: Cells<Tri>,
     shown: Vec<Tri>,
     pulsed: Vec<bool>,
     room: Room,
@@ -303,7 +303,7 @@ fn acted_on(force: Option<Acting>, net: NetId, value: Tri, bit: Tri) -> Tri
 }
 
 // An input that gets a value acts on the flip-flops that have it as their reset or set.
-fn act(circuit: &Circuit, net: NetId, value: Tri, cells: &mut Cells)
+fn act(circuit: &Circuit, net: NetId, value: Tri, cells: &mut Cells<Tri>)
     requires live { net.0 < length circuit.now.ops }
     requires cells { length cells.old.values ≡ length circuit.now.flops }
     ensures layout { cells.new.layout ≡ cells.old.layout }
@@ -402,7 +402,7 @@ fn some_fall(falls: &[bool], pulsed: &[bool]) -> bool
 }
 
 // The flip-flops that take a value in a phase take their next values.
-fn take(flops: &[FlipFlop], rising: bool, pulsed: &[bool], next: &[Tri], cells: &mut Cells)
+fn take(flops: &[FlipFlop], rising: bool, pulsed: &[bool], next: &[Tri], cells: &mut Cells<Tri>)
     requires cells { length cells.old.values ≡ length flops.now }
     requires next { length next.now ≡ length flops.now }
     ensures layout { cells.new.layout ≡ cells.old.layout }
@@ -429,7 +429,7 @@ struct Lists {
     falls: Vec<bool>,
     inputs: Vec<Tri>,
     shown: Vec<Tri>,
-    cells: Cells,
+    cells: Cells<Tri>,
     room: Room,
     looks: Looks,
     plans: Plans,

@@ -22,7 +22,7 @@ pub(crate) struct Phase<'a> {
 pub(crate) struct Strobe<'a> {
     pub circuit: &'a Circuit,
     pub ports: &'a [Tri],
-    pub cells: &'a Cells,
+    pub cells: &'a Cells<Tri>,
     pub nets: &'a [NetId],
 }
 

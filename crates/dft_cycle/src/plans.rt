@@ -244,7 +244,7 @@ impl Plan {
     pub(crate) fn fill(
         &mut self,
         circuit: &Circuit,
-        cells: &Cells,
+        cells: &Cells<Tri>,
         entries: &[Entry],
         marked: &mut [bool],
         list: &mut [NetId],

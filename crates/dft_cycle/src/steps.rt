@@ -301,7 +301,7 @@ pub(crate) fn settle_steps(circuit: &Circuit, pulse: Pulse<'_>, steps: &[Step], 
 pub(crate) fn strobe_steps(
     circuit: &Circuit,
     ports: &[Tri],
-    cells: &Cells,
+    cells: &Cells<Tri>,
     steps: &[Step],
     values: &mut [Tri],
 )

@@ -3,6 +3,7 @@ use Rattle.std.specs.Prelude.{ℕ, Bool, true, false, not, ◌≡◌, ◌<◌, L
 use Rattle.dft_base.specs.declared.tri.Tri.{Tri}
 use Rattle.dft_base.specs.declared.tri.Tri.TheVariants.{Zero, One, Unknown}
 use Rattle.dft_lanes.specs.declared.wide.Wide.{Wide}
+pub use Rattle.dft_registers.specs.Values.{unknown_wide}
 use Rattle.dft_lanes.specs.Choices.{can, is_same, some_choice_of_three}
 
 -- whether a value can be this bit: Unknown can be both
@@ -25,10 +26,6 @@ value_in wide pattern = value_of (can wide pattern false) (can wide pattern true
 -- the 512 patterns have these values
 pub record IsWide (wide : Wide) (values : ℕ → Tri) : Type 0 where
   pub each : (pattern : ℕ) (bit : Bool) → pattern < 512 → can wide pattern bit ≡ may (values pattern) bit
-
--- either in each pattern
-abbrev pub unknown_wide : Wide
-unknown_wide = record { can_zero = replicate 8 18446744073709551615; can_one = replicate 8 18446744073709551615 }
 
 -- what the net of a number can be, and past the end either
 abbrev pub wide_at : List Wide → (net : ℕ) → Wide

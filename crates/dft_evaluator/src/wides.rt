@@ -7,15 +7,13 @@ ghost use Rattle.dft_evaluator.specs.Wides as spec;
 
 use dft_base::Tri;
 use dft_lanes::{Wide, has_bit, put};
+use dft_registers::Value;
 
 /// Either in each pattern.
 pub fn unknown() -> Wide
     ensures { result ≡ unknown_wide }
 {
-    Wide {
-        can_zero: [u64::MAX; 8],
-        can_one: [u64::MAX; 8],
-    }
+    Wide::unknown()
 }
 
 /// The same value in each pattern.

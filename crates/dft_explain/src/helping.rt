@@ -101,7 +101,8 @@ usage: dft grade --netlist FILE --patterns FILE --out FILE [--library FILE]
 
 --netlist FILE   the netlist, structural Verilog
 --patterns FILE  the patterns, STIL; they must pass on it
---out FILE       where both stuck-at faults of each net are told, each with its grade
+--out FILE       where both stuck-at faults of each net are told, each with its grade: nets
+                 that a cell, an assign or a joined port drives and that show no clock
 --library FILE   the cells of the netlist, TOML; without it the standard cells
 
 prints

@@ -26,7 +26,7 @@ use Rattle.dft_evaluator.proofs.SweepLemmas.{whole_set}
 use Rattle.dft_fault_lanes.specs.Lanes.{flop_at, is_changed, AreActedOn, AreTaken}
 use Rattle.dft_fault_lanes.specs.Moves.{NoneActs}
 use Rattle.dft_fault_lanes.specs.Plans.{ArePlaces}
-use Rattle.dft_registers.proofs.CellLemmas.{either_unknown}
+use Rattle.dft_registers.proofs.CellLemmas.{either_same}
 
 -- ---- next values
 
@@ -131,7 +131,7 @@ acted_past flops ports lane c far = ap (λ (cell : Cell). tri_forced_by cell.for
 pub taken_past : (flops : List FlipFlop) (rising : Bool) (pulsed : List Bool) (ports : List Tri) (wides : List Wide) (lane c : ℕ) → length flops ≤ c → taken_by flops rising pulsed ports wides lane c Unknown ≡ Unknown
 taken_past flops rising pulsed ports wides lane c far =
     ap (λ (cell : Cell). if is_changed cell rising pulsed then next_at cell (value_at ports) (values_in wides lane) else Unknown) (cell_past flops c far)
-    ∙ either_unknown (is_changed (no_cell c) rising pulsed)
+    ∙ either_same (is_changed (no_cell c) rising pulsed) Unknown
 
 -- the cells at the places before one have their new values, those at none of them are as at the start
 pub record TakenTo (flops : List FlipFlop) (places : List ℕ) (ports : List Tri) (wides start now : List Wide) (j : ℕ) : Type 0 where

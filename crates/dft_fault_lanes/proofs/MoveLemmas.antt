@@ -1,6 +1,6 @@
 -- Cells that are moved with their registers take what they would take of the nets.
 use Rattle.std.proofs.Common.{ℕ, zero, suc, Bool, true, false, ◌≡◌, ◌<◌, ◌≤◌, ◌≢◌, ◌+◌, ◌-◌, ◌⊎◌, inl, inr, List, [], ◌∷◌, length, get_or, slice_set, get_or-set_same, get_or-set_other, refl, sym, ap, subst, arith, ◌∙◌, true≢false, Option, None, Some}
-use Rattle.std.specs.Prelude.{nat_lt, slice_index_or, ◌==◌, ◌&&◌, if◌then◌else◌}
+use Rattle.std.specs.Prelude.{map, nat_lt, slice_index_or, ◌==◌, ◌&&◌, if◌then◌else◌}
 use Rattle.std.proofs.lemmas.List.{get_or_past}
 use Rattle.std.proofs.lemmas.Bool.{cases_Bool, cases_eq, and_parts}
 use Rattle.std.proofs.lemmas.Bool.Decides.{eqb_tells, leb_tells}
@@ -18,7 +18,9 @@ use Rattle.dft_netlist.specs.Orders.{Has}
 use Rattle.dft_behavior.specs.Runs.{takes}
 use Rattle.dft_behavior.specs.Settled.{value_from}
 use Rattle.dft_registers.specs.Layout.{Layout, place_at, cells_at}
-use Rattle.dft_lane_registers.specs.Cells.{Contents, Course, Rests, Follows, course_in, course, IsCarried, IsShifted}
+use Rattle.dft_registers.specs.declared.moves.Move.{Move}
+use Rattle.dft_registers.specs.Cells.{Contents, Course, Follows, move_at, shifts_if, course_from, course_in, course, IsCarried, IsShifted}
+use Rattle.dft_registers.proofs.MoveLemmas.{flagged}
 use Rattle.dft_evaluator.specs.Wides.{value_in, values_in, wide_at, unknown_wide, IsWide, AreWides}
 use Rattle.dft_evaluator.proofs.BitLemmas.{all_unknown}
 use Rattle.dft_evaluator.proofs.WideLemmas.{wide_is}
@@ -61,10 +63,10 @@ steer_found s (Net net) is = elim (eqb_tells net s.net.0) [
 steer_found s (Tied bit) is = absurd (let f : ⊥ = cc in f)
 steer_found s (Loose i pin) is = absurd (let f : ⊥ = cc in f)
 
-pub moved_first : (ops : List Op) (clamps : List (Option Clamp)) (s : Steer) (cell : Cell) (cells : List ℕ) (index : ℕ) → index ≡ 0 → IsMoved ops clamps s cell (course_in cells index)
-moved_first ops clamps s cell cells index is = subst (λ (i : ℕ). IsMoved ops clamps s cell (course_in cells i)) (sym is) tt
+pub moved_first : (ops : List Op) (clamps : List (Option Clamp)) (s : Steer) (cell : Cell) (cells : List ℕ) (index : ℕ) → index ≡ 0 → IsMoved ops clamps s cell (course_from cells index)
+moved_first ops clamps s cell cells index is = subst (λ (i : ℕ). IsMoved ops clamps s cell (course_from cells i)) (sym is) tt
 
-pub moved_next : (ops : List Op) (clamps : List (Option Clamp)) (s : Steer) (cell : Cell) (cells : List ℕ) (index : ℕ) → 0 < index → TakesFrom ops clamps s cell (slice_index_or cells (index - 1) 0) → IsMoved ops clamps s cell (course_in cells index)
+pub moved_next : (ops : List Op) (clamps : List (Option Clamp)) (s : Steer) (cell : Cell) (cells : List ℕ) (index : ℕ) → 0 < index → TakesFrom ops clamps s cell (slice_index_or cells (index - 1) 0) → IsMoved ops clamps s cell (course_from cells index)
 moved_next ops clamps s cell cells zero less t = absurd (omega arith)
 moved_next ops clamps s cell cells (suc index) less t = let e : suc index - 1 ≡ index = omega arith in subst (λ (i : ℕ). TakesFrom ops clamps s cell (slice_index_or cells i 0)) e t
 
@@ -170,9 +172,9 @@ pub record Carried (x : Circuit) (clamps : List (Option Clamp)) (l : Layout) (p 
   pub changed : is_changed (flop_at x.flops c) true p.pulsed.items ≡ true
   pub other : ℕ
   pub from : TakesFrom x.ops clamps p.steer (flop_at x.flops c) other
-  pub follows : course l p.moves.items c ≡ Follows other
+  pub follows : course l (map shifts_if p.moves.items) c ≡ Follows other
 
-moved_from : (ops : List Op) (clamps : List (Option Clamp)) (s : Steer) (cell : Cell) (cells : List ℕ) (index : ℕ) → nat_lt 0 index ≡ true → IsMoved ops clamps s cell (course_in cells index) → (other : ℕ) × (TakesFrom ops clamps s cell other × (course_in cells index ≡ Follows other))
+moved_from : (ops : List Op) (clamps : List (Option Clamp)) (s : Steer) (cell : Cell) (cells : List ℕ) (index : ℕ) → nat_lt 0 index ≡ true → IsMoved ops clamps s cell (course_from cells index) → (other : ℕ) × (TakesFrom ops clamps s cell other × (course_from cells index ≡ Follows other))
 moved_from ops clamps s cell cells zero up is = absurd (true≢false (sym up))
 moved_from ops clamps s cell cells (suc index) up is = (slice_index_or cells index 0, (is, refl))
 
@@ -186,7 +188,7 @@ carried x clamps l signals p c is near up =
       changed = at.0;
       other = from.0;
       from = from.1.0;
-      follows = ap (λ (b : Bool). if b then course_in (cells_at l.registers place.register) place.index else Rests) both.0 ∙ from.1.1;
+      follows = ap (λ (m : Move). course_in l.registers place.register m place.index) (flagged p.moves.items place.register ∙ ap shifts_if both.0) ∙ from.1.1;
     }
 
 takes_once : (falling : Bool) → takes true falling ≡ true → takes false falling ≡ true → ⊥
@@ -283,14 +285,14 @@ Kept x clamps l p old new c =
 zero_is : (n : ℕ) → (n == 0) ≡ true → n ≡ 0
 zero_is n up = elim (eqb_tells n 0) [ inl same ↦ same.1 | inr other ↦ absurd (true≢false (sym up ∙ other.0)) ]
 
-kept_at : (x : Circuit) (clamps : List (Option Clamp)) (signals : List NetId) (p : Plan) (old new : Contents) (c : ℕ) → IsPlan x clamps old.layout signals p → length old.values ≡ length x.flops → IsShifted p.moves.items old new → c < length x.flops →
+kept_at : (x : Circuit) (clamps : List (Option Clamp)) (signals : List NetId) (p : Plan) (old new : Contents Wide) (c : ℕ) → IsPlan x clamps old.layout signals p → length old.values ≡ length x.flops → IsShifted unknown_wide (map shifts_if p.moves.items) old new → c < length x.flops →
     (Has p.taking.items c → ⊥) → Kept x clamps old.layout p old.values new.values c
 kept_at x clamps signals p old new c is size shifted near none =
     let l : Layout = old.layout in
     let place = place_at l.places c in
-    let at : IsCarried (wide_at old.values) c (wide_at new.values c) (course l p.moves.items c) = shifted.each c (omega (arith, size, near)) in
+    let at : IsCarried (wide_at old.values) c (wide_at new.values c) (course l (map shifts_if p.moves.items) c) = shifted.each c (omega (arith, size, near)) in
     let C : Course → Type 0 = λ k. IsCarried (wide_at old.values) c (wide_at new.values c) k in
-    let stays : flag_at p.moves.items place.register ≡ false → wide_at new.values c ≡ wide_at old.values c = λ still. subst C (ap (λ (b : Bool). if b then course_in (cells_at l.registers place.register) place.index else Rests) still) at in
+    let stays : flag_at p.moves.items place.register ≡ false → wide_at new.values c ≡ wide_at old.values c = λ still. subst C (ap (λ (m : Move). course_in l.registers place.register m place.index) (flagged p.moves.items place.register ∙ ap shifts_if still)) at in
     elim (cases_Bool (is_carried l p.moves.items c)) [
       | inl up ↦ (let it = carried x clamps l signals p c is near up in inl (it, subst C it.follows at))
       | inr down ↦ elim (cases_Bool (is_changed (flop_at x.flops c) true p.pulsed.items)) [
@@ -307,7 +309,7 @@ kept_at x clamps signals p old new c is size shifted near none =
     ]
 
 -- each cell that is not listed can be something in each lane
-pub shifted_wides : (x : Circuit) (clamps : List (Option Clamp)) (signals : List NetId) (p : Plan) (old new : Contents) → IsPlan x clamps old.layout signals p → length old.values ≡ length x.flops → IsShifted p.moves.items old new → AreWides old.values →
+pub shifted_wides : (x : Circuit) (clamps : List (Option Clamp)) (signals : List NetId) (p : Plan) (old new : Contents Wide) → IsPlan x clamps old.layout signals p → length old.values ≡ length x.flops → IsShifted unknown_wide (map shifts_if p.moves.items) old new → AreWides old.values →
     (c : ℕ) → (Has p.taking.items c → ⊥) → IsWide (wide_at new.values c) (value_in (wide_at new.values c))
 shifted_wides x clamps signals p old new is size shifted whole c none =
     let W : Wide → Type 0 = λ w. IsWide w (value_in w) in
@@ -332,8 +334,8 @@ if_same true s t is = sym is
 if_same false s t is = refl
 
 -- registers move and the listed cells take their values: so all cells do
-pub moves_taken : (x : Circuit) (clamps : List (Option Clamp)) (signals : List NetId) (p : Plan) (ports : List Tri) (wides : List Wide) (old shifted new : Contents) → IsPlan x clamps old.layout signals p → length old.values ≡ length x.flops → length wides ≡ length x.ops →
-    SteersAll p.steer wides → (p.steer.free ≡ true → NoneActs x.flops ports) → AreIdleUnknown x.flops old.values → IsShifted p.moves.items old shifted → length new.values ≡ length shifted.values →
+pub moves_taken : (x : Circuit) (clamps : List (Option Clamp)) (signals : List NetId) (p : Plan) (ports : List Tri) (wides : List Wide) (old shifted new : Contents Wide) → IsPlan x clamps old.layout signals p → length old.values ≡ length x.flops → length wides ≡ length x.ops →
+    SteersAll p.steer wides → (p.steer.free ≡ true → NoneActs x.flops ports) → AreIdleUnknown x.flops old.values → IsShifted unknown_wide (map shifts_if p.moves.items) old shifted → length new.values ≡ length shifted.values →
     ((lane c : ℕ) → lane < 512 → Has p.taking.items c → values_in new.values lane c ≡ next_at (flop_at x.flops c) (value_at ports) (values_in wides lane)) → ((c : ℕ) → (Has p.taking.items c → ⊥) → wide_at new.values c ≡ wide_at shifted.values c) →
     AreSettledOn x.ops (at_levels ports [] old.values clamps) (needs_of (length x.ops) p.marked.items) wides →
     AreTaken x.flops true p.pulsed.items ports (seen x.ops clamps p.marked.items old.values wides) old.values new.values

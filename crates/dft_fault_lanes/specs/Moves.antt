@@ -6,7 +6,7 @@ use Rattle.dft_cells.specs.FlipFlops.{Scan, no_forces, tri_forced_by}
 use Rattle.dft_netlist.specs.Drivers.{Source, Net, Tied, Loose, nets_of}
 use Rattle.dft_behavior.specs.Logic.{Cell}
 use Rattle.dft_registers.specs.Layout.{Layout, place_at, cells_at}
-use Rattle.dft_lane_registers.specs.Cells.{Course, Rests, Enters, Follows, course_in}
+use Rattle.dft_registers.specs.Cells.{Course, Rests, Enters, Follows, course_from}
 use Rattle.dft_logic.specs.declared.circuit.FlipFlop.{FlipFlop}
 use Rattle.dft_logic.specs.declared.circuit.Op.{Op}
 use Rattle.dft_netlist.specs.Orders.{Has}
@@ -44,7 +44,7 @@ IsMoved ops clamps s cell (Follows other) = TakesFrom ops clamps s cell other
 -- where the register of a cell moves, the cell takes a value, and but for the first it is that of the one before it
 abbrev pub MovesAt : List Op → List (Option Clamp) → Steer → (pulsed : List Bool) → Layout → Cell → (c : ℕ) → Type 0
 MovesAt ops clamps s pulsed l cell c =
-    (is_changed cell true pulsed ≡ true) × IsMoved ops clamps s cell (course_in (cells_at l.registers (place_at l.places c).register) (place_at l.places c).index)
+    (is_changed cell true pulsed ≡ true) × IsMoved ops clamps s cell (course_from (cells_at l.registers (place_at l.places c).register) (place_at l.places c).index)
 
 abbrev pub AreMoves : List Op → List (Option Clamp) → List FlipFlop → Steer → (pulsed : List Bool) → Layout → (moves : List Bool) → Type 0
 AreMoves ops clamps flops s pulsed l moves =

@@ -13,9 +13,9 @@ ghost use Rattle.dft_fault_lanes.specs.Moves.{NoneActs};
 use crate::clamps::known_bit;
 use dft_base::Tri;
 use dft_evaluator::{all, operand, unknown};
-use dft_lane_registers::Cells;
 use dft_lanes::{Wide, wide_mux};
 use dft_logic::{Acting, FlipFlop, value_at};
+use dft_registers::Cells;
 
 // What a flip-flop's data input and scan pins let it take.
 fn taken_wide(flop: &FlipFlop, wides: &[Wide]) -> Wide
@@ -77,7 +77,7 @@ fn may_act(force: Option<Acting>, ports: &[Tri]) -> bool
 }
 
 // Resets and sets act on all their flip-flops.
-fn act_all(flops: &[FlipFlop], ports: &[Tri], cells: &mut Cells)
+fn act_all(flops: &[FlipFlop], ports: &[Tri], cells: &mut Cells<Wide>)
     requires count { length cells.old.values ≡ length flops.now }
     requires cells { AreWides cells.old.values }
     ensures cells { AreWides cells.new.values }
@@ -94,7 +94,7 @@ fn act_all(flops: &[FlipFlop], ports: &[Tri], cells: &mut Cells)
 }
 
 /// Resets and sets act on their flip-flops, by the values of the input ports, unless it is known that none does.
-pub fn act(flops: &[FlipFlop], free: bool, ports: &[Tri], cells: &mut Cells)
+pub fn act(flops: &[FlipFlop], free: bool, ports: &[Tri], cells: &mut Cells<Wide>)
     requires free { free ≡ true → NoneActs flops.now ports.now }
     requires count { length cells.old.values ≡ length flops.now }
     requires cells { AreWides cells.old.values }
@@ -109,7 +109,13 @@ pub fn act(flops: &[FlipFlop], free: bool, ports: &[Tri], cells: &mut Cells)
 }
 
 /// The cells at these places take their next values.
-pub fn take(flops: &[FlipFlop], places: &[usize], ports: &[Tri], wides: &[Wide], cells: &mut Cells)
+pub fn take(
+    flops: &[FlipFlop],
+    places: &[usize],
+    ports: &[Tri],
+    wides: &[Wide],
+    cells: &mut Cells<Wide>,
+)
     requires live { (c : ℕ) → Has places.now c → c < length flops.now }
     requires count { length cells.old.values ≡ length flops.now }
     requires wides { AreWides wides.now }

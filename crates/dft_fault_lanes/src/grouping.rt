@@ -28,11 +28,11 @@ use dft_base::Tri;
 use dft_evaluator::{all, unknown};
 use dft_faults::Fault;
 use dft_grade::Grade;
-use dft_lane_registers::Cells;
 use dft_lanes::Wide;
 use dft_logic::{Circuit, FlipFlop, Op, Operand};
 use dft_netlist::NetId;
 use dft_patterns::{Act, Acts};
+use dft_registers::Cells;
 use std::alloc::{AllocError, Global};
 
 // A circuit with stuck nets, and the nets of signals.
@@ -48,7 +48,7 @@ fn settle_by(
     group: Group<'_>,
     ports: &[Tri],
     plan: &Plan,
-    cells: &Cells,
+    cells: &Cells<Wide>,
     wides: &mut [Wide],
 ) -> bool
     requires clamped { length group.clamps.now ≡ length group.circuit.now.ops }
@@ -72,7 +72,14 @@ fn settle_by(
 }
 
 // Makes the plan for a vector, unless it is for it.
-fn ready(group: Group<'_>, acts: &[Act], value: Tri, free: bool, cells: &Cells, plan: &mut Plan)
+fn ready(
+    group: Group<'_>,
+    acts: &[Act],
+    value: Tri,
+    free: bool,
+    cells: &Cells<Wide>,
+    plan: &mut Plan,
+)
     requires nets { AreSignals (length group.circuit.now.ops) group.nets.now }
     requires acts { length acts.now ≡ length group.nets.now }
     requires count { length cells.now.values ≡ length group.circuit.now.flops }
@@ -105,7 +112,7 @@ fn strobe(
     ports: &[Tri],
     free: bool,
     plan: &mut Plan,
-    cells: &Cells,
+    cells: &Cells<Wide>,
     wides: &mut [Wide],
 )
     requires clamped { length group.clamps.now ≡ length group.circuit.now.ops }
@@ -152,7 +159,7 @@ fn play(
     plan: &mut Plan,
     wides: &mut [Wide],
     later: &mut [Wide],
-    cells: &mut Cells,
+    cells: &mut Cells<Wide>,
     live: &mut Wide,
     found: &mut [Option<Grade>],
 )
@@ -208,7 +215,7 @@ fn run(
     plan: &mut Plan,
     wides: &mut [Wide],
     later: &mut [Wide],
-    cells: &mut Cells,
+    cells: &mut Cells<Wide>,
     live: &mut Wide,
     found: &mut [Option<Grade>],
 )

@@ -18,10 +18,11 @@ use crate::comparing::printed;
 use crate::moves::is_carried;
 use crate::vectors::is_pulse;
 use dft_base::Tri;
-use dft_lane_registers::Cells;
+use dft_lanes::Wide;
 use dft_logic::{FlipFlop, Operand, ScanPins, flag_at};
 use dft_netlist::NetId;
 use dft_patterns::Act;
+use dft_registers::Cells;
 
 /// A net that scan enables come by, and its value in each lane, Unknown where nothing is known of it; and whether it is known that no
 /// reset or set acts.
@@ -124,7 +125,7 @@ fn mark_cell(steer: Steer, flop: &FlipFlop, carried: bool, marked: &mut [bool])
 pub(crate) fn mark_takers(
     steer: Steer,
     flops: &[FlipFlop],
-    cells: &Cells,
+    cells: &Cells<Wide>,
     moves: &[bool],
     marked: &mut [bool],
 )

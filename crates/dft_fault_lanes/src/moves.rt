@@ -2,7 +2,7 @@
 
 ghost use Rattle.std.specs.Prelude.{◌≡◌, ◌<◌, ◌⊎◌, ◌&&◌, nat_lt, ℕ, length, slice_index_or, true, false, None, Some, if◌then◌else◌};
 ghost use Rattle.dft_netlist.specs.Drivers.{Net};
-ghost use Rattle.dft_lane_registers.specs.Cells.{course_in};
+ghost use Rattle.dft_registers.specs.Cells.{course_from};
 ghost use Rattle.dft_cells.specs.FlipFlops.{no_forces};
 ghost use Rattle.dft_logic.specs.Circuit.{cell_of, flag_at as is_up, force_at, op_at, source_at};
 ghost use Rattle.dft_base.specs.declared.tri.Tri.{Tri as ATri};
@@ -13,10 +13,10 @@ ghost use Rattle.dft_fault_lanes.specs.Moves.{AreMoves, IsMoved, MovesAt, ShowsC
 use crate::clamps::Clamp;
 use crate::comparing::is_one;
 use crate::marking::{Steer, enable_value};
-use dft_lane_registers::Cells;
+use dft_lanes::Wide;
 use dft_logic::{Acting, Circuit, FlipFlop, Op, Operand, ScanPins, flag_at};
 use dft_netlist::NetId;
-use dft_registers::Place;
+use dft_registers::{Cells, Place};
 
 // A circuit with stuck nets, and what is known of the net that scan enables come by.
 #[derive(Clone, Copy)]
@@ -155,7 +155,7 @@ fn cell_in(register: &[usize], index: usize) -> usize
 
 // Whether a cell takes the value of the one before it in a register, if it is not the first.
 fn is_moved(wiring: Wiring<'_>, flop: &FlipFlop, register: &[usize], index: usize) -> bool
-    ensures { result ≡ true → IsMoved wiring.entry.circuit.now.ops wiring.entry.clamps.now wiring.entry.steer (cell_of flop.now) (course_in register.now index) }
+    ensures { result ≡ true → IsMoved wiring.entry.circuit.now.ops wiring.entry.clamps.now wiring.entry.steer (cell_of flop.now) (course_from register.now index) }
 {
     if index == 0 {
         return true;
@@ -168,7 +168,7 @@ fn is_moved(wiring: Wiring<'_>, flop: &FlipFlop, register: &[usize], index: usiz
 fn may_move(
     wiring: Wiring<'_>,
     pulsed: &[bool],
-    cells: &Cells,
+    cells: &Cells<Wide>,
     flop: &FlipFlop,
     cell: usize,
 ) -> bool
@@ -211,7 +211,7 @@ fn leave_moving(
     wiring: Wiring<'_>,
     flops: &[FlipFlop],
     pulsed: &[bool],
-    cells: &Cells,
+    cells: &Cells<Wide>,
     moves: &mut [bool],
 )
     requires cells { length cells.now.values ≡ length flops.now }
@@ -228,7 +228,12 @@ fn leave_moving(
 
 // Finds the registers that move as these clocks rise: each cell takes a value there, and but for the first it is that of the one before
 // it.
-pub(crate) fn find_moves(wiring: Wiring<'_>, pulsed: &[bool], cells: &Cells, moves: &mut [bool])
+pub(crate) fn find_moves(
+    wiring: Wiring<'_>,
+    pulsed: &[bool],
+    cells: &Cells<Wide>,
+    moves: &mut [bool],
+)
     requires { length cells.now.values ≡ length wiring.circuit.now.flops }
     ensures rests { is_up moves.new 0 ≡ false }
     ensures moving { AreMoves wiring.entry.circuit.now.ops wiring.entry.clamps.now wiring.entry.circuit.now.flops wiring.entry.steer pulsed.now cells.now.layout moves.new }

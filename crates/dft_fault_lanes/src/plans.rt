@@ -24,10 +24,11 @@ use crate::moves::{Wiring, find_moves};
 use crate::steady::are_steady;
 use crate::vectors::{flag_pulses, lower};
 use dft_base::Tri;
-use dft_lane_registers::Cells;
+use dft_lanes::Wide;
 use dft_logic::{Circuit, FlipFlop, differ, value_at};
 use dft_netlist::NetId;
 use dft_patterns::Act;
+use dft_registers::Cells;
 use dft_takings::{Shown, list_marked, mark_needed, show_all};
 use std::alloc::{AllocError, Global};
 
@@ -92,7 +93,7 @@ fn list_places(
     flops: &[FlipFlop],
     rising: bool,
     pulsed: &[bool],
-    cells: &Cells,
+    cells: &Cells<Wide>,
     moves: &[bool],
     list: &mut Vec<usize>,
 )
@@ -128,7 +129,7 @@ fn is_like(one: bool, other: bool) -> bool
 #[derive(Clone, Copy)]
 struct Reading<'a> {
     steer: Steer,
-    cells: &'a Cells,
+    cells: &'a Cells<Wide>,
     moves: &'a [bool],
     nets: &'a [NetId],
     acts: &'a [Act],
@@ -277,7 +278,7 @@ impl Plan {
         &mut self,
         circuit: &Circuit,
         clamps: &[Option<Clamp>],
-        cells: &Cells,
+        cells: &Cells<Wide>,
         nets: &[NetId],
         acts: &[Act],
         value: Tri,

@@ -21,10 +21,10 @@ use crate::steady::{keep_steady, live_where};
 use crate::sweeping::{Setting, settle};
 use dft_base::Tri;
 use dft_evaluator::{all, wide_at};
-use dft_lane_registers::Cells;
 use dft_lanes::Wide;
 use dft_logic::Circuit;
 use dft_netlist::NetId;
+use dft_registers::Cells;
 
 /// A vector on a circuit with stuck nets: the values of input ports, by net, and what is settled and taken as its clocks pulse.
 #[derive(Clone, Copy)]
@@ -93,7 +93,7 @@ fn front(list: &[NetId], count: usize) -> &[NetId]
 }
 
 /// Settles the nets that a plan needs while clocks have these levels. Whether the net of scan enables has its value in each lane.
-pub fn settle_plan(play: Play<'_>, levels: &[bool], cells: &Cells, wides: &mut [Wide]) -> bool
+pub fn settle_plan(play: Play<'_>, levels: &[bool], cells: &Cells<Wide>, wides: &mut [Wide]) -> bool
     requires clamped { length play.clamps.now ≡ length play.circuit.now.ops }
     requires clamps { AreClamps play.clamps.now }
     requires nets { length wides.old ≡ length play.circuit.now.ops }
@@ -118,7 +118,7 @@ pub fn settle_plan(play: Play<'_>, levels: &[bool], cells: &Cells, wides: &mut [
 }
 
 // Leaves those lanes live in which each cell reads what is still as the clocks rise.
-fn keep_rises(play: Play<'_>, held: &Cells, wides: &[Wide], live: &mut Wide)
+fn keep_rises(play: Play<'_>, held: &Cells<Wide>, wides: &[Wide], live: &mut Wide)
     requires plan { (signals : List ANetId) × IsPlan play.circuit.now play.clamps.now held.now.layout signals play.plan.now }
     requires nets { length wides.now ≡ length play.circuit.now.ops }
     requires wides { AreWides wides.now }
@@ -135,7 +135,7 @@ fn keep_rises(play: Play<'_>, held: &Cells, wides: &[Wide], live: &mut Wide)
 }
 
 // Leaves those lanes live in which each cell reads what is still as the clocks fall.
-fn keep_falls(play: Play<'_>, known: bool, held: &Cells, wides: &[Wide], live: &mut Wide)
+fn keep_falls(play: Play<'_>, known: bool, held: &Cells<Wide>, wides: &[Wide], live: &mut Wide)
     requires plan { (signals : List ANetId) × IsPlan play.circuit.now play.clamps.now held.now.layout signals play.plan.now }
     requires wides { AreWides wides.now }
     requires steers { known ≡ true → SteersAll play.plan.now.steer wides.now }
@@ -157,7 +157,7 @@ fn keep_falls(play: Play<'_>, known: bool, held: &Cells, wides: &[Wide], live: &
 }
 
 // The cells take their values as the clocks rise: registers move, and the others take theirs.
-fn take_rises(play: Play<'_>, wides: &[Wide], cells: &mut Cells)
+fn take_rises(play: Play<'_>, wides: &[Wide], cells: &mut Cells<Wide>)
     requires plan { (signals : List ANetId) × IsPlan play.circuit.now play.clamps.now cells.old.layout signals play.plan.now }
     requires nets { length wides.now ≡ length play.circuit.now.ops }
     requires count { length cells.old.values ≡ length play.circuit.now.flops }
@@ -178,7 +178,7 @@ fn take_rises(play: Play<'_>, wides: &[Wide], cells: &mut Cells)
 }
 
 // The clocks rise, after a strobe with these values of nets.
-fn rise(play: Play<'_>, wides: &[Wide], cells: &mut Cells, live: &mut Wide)
+fn rise(play: Play<'_>, wides: &[Wide], cells: &mut Cells<Wide>, live: &mut Wide)
     requires plan { (signals : List ANetId) × IsPlan play.circuit.now play.clamps.now cells.old.layout signals play.plan.now }
     requires nets { length wides.now ≡ length play.circuit.now.ops }
     requires count { length cells.old.values ≡ length play.circuit.now.flops }
@@ -199,7 +199,7 @@ fn rise(play: Play<'_>, wides: &[Wide], cells: &mut Cells, live: &mut Wide)
 }
 
 // The clocks fall, and cells take their values.
-fn fall_with(play: Play<'_>, known: bool, wides: &[Wide], cells: &mut Cells, live: &mut Wide)
+fn fall_with(play: Play<'_>, known: bool, wides: &[Wide], cells: &mut Cells<Wide>, live: &mut Wide)
     requires plan { (signals : List ANetId) × IsPlan play.circuit.now play.clamps.now cells.old.layout signals play.plan.now }
     requires steers { known ≡ true → SteersAll play.plan.now.steer wides.now }
     requires count { length cells.old.values ≡ length play.circuit.now.flops }
@@ -218,7 +218,7 @@ fn fall_with(play: Play<'_>, known: bool, wides: &[Wide], cells: &mut Cells, liv
 }
 
 // The falls of a pulse.
-fn fall(play: Play<'_>, later: &mut [Wide], cells: &mut Cells, live: &mut Wide)
+fn fall(play: Play<'_>, later: &mut [Wide], cells: &mut Cells<Wide>, live: &mut Wide)
     requires plan { (signals : List ANetId) × IsPlan play.circuit.now play.clamps.now cells.old.layout signals play.plan.now }
     requires clamped { length play.clamps.now ≡ length play.circuit.now.ops }
     requires clamps { AreClamps play.clamps.now }
@@ -242,7 +242,13 @@ fn fall(play: Play<'_>, later: &mut [Wide], cells: &mut Cells, live: &mut Wide)
 
 /// Pulses clocks after a strobe with these values of nets. Lanes stay live in which each cell that takes a value reads what is still.
 /// Nets are settled anew in another table where a cell takes a value at a fall.
-pub fn pulse(play: Play<'_>, wides: &[Wide], later: &mut [Wide], cells: &mut Cells, live: &mut Wide)
+pub fn pulse(
+    play: Play<'_>,
+    wides: &[Wide],
+    later: &mut [Wide],
+    cells: &mut Cells<Wide>,
+    live: &mut Wide,
+)
     requires plan { (signals : List ANetId) × IsPlan play.circuit.now play.clamps.now cells.old.layout signals play.plan.now }
     requires free { play.plan.now.steer.free ≡ true → NoneActs play.circuit.now.flops play.ports.now }
     requires idle { AreIdleUnknown play.circuit.now.flops cells.old.values }

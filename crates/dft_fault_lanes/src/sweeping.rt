@@ -15,10 +15,10 @@ ghost use Rattle.dft_fault_lanes.specs.Lanes.{AreClamps, lane_given, situation_o
 use crate::clamps::{Clamp, within};
 use dft_base::Tri;
 use dft_evaluator::{all, op_wide, operand, unknown};
-use dft_lane_registers::Cells;
 use dft_lanes::{Wide, wide_not};
 use dft_logic::{Circuit, Op, flag_at, value_at};
 use dft_netlist::{InstanceId, NetId};
+use dft_registers::Cells;
 
 /// What nets are settled from: the values of input ports and the levels of clocks, by net and alike in all lanes, what cells hold
 /// by instance, and by net the bounds of its value.
@@ -26,7 +26,7 @@ use dft_netlist::{InstanceId, NetId};
 pub struct Setting<'a> {
     pub ports: &'a [Tri],
     pub levels: &'a [bool],
-    pub cells: &'a Cells,
+    pub cells: &'a Cells<Wide>,
     pub clamps: &'a [Option<Clamp>],
 }
 
@@ -45,7 +45,7 @@ fn level_value(level: bool) -> Tri
 }
 
 // What a flip-flop's output can be, or its inverse.
-fn flop_wide(cells: &Cells, instance: InstanceId, inverted: bool) -> Wide
+fn flop_wide(cells: &Cells<Wide>, instance: InstanceId, inverted: bool) -> Wide
     requires { AreWides cells.now.values }
     ensures { IsWide result (λ lane. if inverted then inverse (values_in cells.now.values lane instance.0) else values_in cells.now.values lane instance.0) }
 {

@@ -158,7 +158,7 @@ forcing_kept n f control ports i fault is out =
 
 -- ---- cells and meanings
 
-flip_flop_kept : (n : Netlist) (f : Fault) (control : ℕ → Bool) (ports : Ports) (i : ℕ) → IsFault n f → IsControl n control → control f.net.0 ≡ false → flip_flop (faulty n f) ports i ≡ flip_flop n ports i
+pub flip_flop_kept : (n : Netlist) (f : Fault) (control : ℕ → Bool) (ports : Ports) (i : ℕ) → IsFault n f → IsControl n control → control f.net.0 ≡ false → flip_flop (faulty n f) ports i ≡ flip_flop n ports i
 flip_flop_kept n f control ports i fault is out =
     let kind = kind_kept n f i in
     let domain = domain_kept n f control ports i fault is out in

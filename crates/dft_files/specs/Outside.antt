@@ -5,6 +5,10 @@ use Rattle.std.specs.Str.{bytes_eq}
 use Rattle.std.specs.declared.alloc.Global.{Global}
 use Rattle.dft_files.specs.declared.outside.LoadError.{LoadError}
 use Rattle.dft_files.specs.declared.outside.LoadError.TheVariants as load
+use Rattle.dft_files.specs.declared.outside.PutError.{PutError}
+use Rattle.dft_files.specs.declared.outside.PutError.TheVariants as put
+use Rattle.dft_files.specs.declared.outside.SaveError.{SaveError}
+use Rattle.dft_files.specs.declared.outside.SaveError.TheVariants as save
 
 -- the bytes of each name, with the bytes of its file
 abbrev pub Held : Type 0
@@ -48,6 +52,18 @@ ComesToLength (Ok v) = Unit {0}
 ComesToLength (Err load.Failed) = ⊥
 ComesToLength (Err load.TooLong) = Unit {0}
 ComesToLength (Err (load.Memory e)) = ⊥
+
+-- a save ended for want of memory
+abbrev pub IsShortSave : Result Unit SaveError → Type 0
+IsShortSave (Ok u) = ⊥
+IsShortSave (Err save.Failed) = ⊥
+IsShortSave (Err (save.Memory e)) = Unit {0}
+
+-- a put ended for want of memory
+abbrev pub IsShortPut : Result Unit PutError → Type 0
+IsShortPut (Ok u) = ⊥
+IsShortPut (Err put.Failed) = ⊥
+IsShortPut (Err (put.Memory e)) = Unit {0}
 
 -- what a failed save leaves at its name: what was there before, or a prefix of the new bytes
 abbrev pub LeavesPart : List ℕ → Option (List ℕ) → Option (List ℕ) → Type 0

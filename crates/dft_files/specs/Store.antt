@@ -17,6 +17,7 @@ pub record Store : Type 0 where
   pub failed : List ℕ
   pub read_faults : ℕ
   pub write_faults : ℕ
+  pub short_saves : ℕ
   pub taken : ℕ
 
 -- a count as a u64 keeps it
@@ -44,6 +45,10 @@ read_failed name s = record s { failed = name; read_faults = count_up s.read_fau
 abbrev pub write_failed : List ℕ → Store → Store
 write_failed name s = record s { failed = name; write_faults = count_up s.write_faults 1 }
 
+-- a save has ended for want of memory
+abbrev pub ran_short : Store → Store
+ran_short s = record s { short_saves = count_up s.short_saves 1 }
+
 -- a load has taken these bytes
 abbrev pub took : List ℕ → Store → Store
 took bytes s = record s { taken = count_up s.taken (length bytes) }
@@ -63,9 +68,13 @@ Loads name limit old (Err load.Failed) new =
     (IsSome (kept_at old.failing old.calls) ⊎ (file_at name old.held ≡ None)) × (new ≡ read_failed name (called old))
 Loads name limit old (Err (load.Memory e)) new = new ≡ old
 
--- a save fails exactly where it is to fail, and then leaves the first bytes, else all of them; where memory runs out it leaves all as it was
-abbrev pub Saves : List ℕ → List ℕ → Store → Result Unit SaveError → Store → Type 0
-Saves name bytes old (Ok u) new = (kept_at old.failing old.calls ≡ None) × (new ≡ left name bytes (called old))
-Saves name bytes old (Err save.Failed) new =
+-- a save fails exactly where it is to fail, and then leaves the first bytes, else all of them; where memory runs out it leaves this
+abbrev pub SavesElse : (short : Store) → List ℕ → List ℕ → Store → Result Unit SaveError → Store → Type 0
+SavesElse short name bytes old (Ok u) new = (kept_at old.failing old.calls ≡ None) × (new ≡ left name bytes (called old))
+SavesElse short name bytes old (Err save.Failed) new =
     IsSomeAnd (kept_at old.failing old.calls) (λ kept. new ≡ write_failed name (left name (take kept bytes) (called old)))
-Saves name bytes old (Err (save.Memory e)) new = new ≡ old
+SavesElse short name bytes old (Err (save.Memory e)) new = new ≡ short
+
+-- where memory runs out all is as it was, but that the save is counted
+abbrev pub Saves : List ℕ → List ℕ → Store → Result Unit SaveError → Store → Type 0
+Saves name bytes old r new = SavesElse (ran_short old) name bytes old r new

@@ -13,5 +13,6 @@ store_of f = record {
   failed = string_bytes f.failed;
   read_faults = f.read_faults;
   write_faults = f.write_faults;
+  short_saves = f.short_saves;
   taken = f.taken;
 }

@@ -1,4 +1,4 @@
-ghost use Rattle.std.specs.Prelude.{◌≡◌, ◌≤◌, ◌+◌, [], None, Err, Ok, IfOk, IfErr, length, string_bytes};
+ghost use Rattle.std.specs.Prelude.{◌≡◌, ◌≤◌, ◌+◌, [], None, Err, Ok, IfOk, IfErr, is_some, length, nat_lt, string_bytes};
 ghost use Rattle.dft_files.specs.Outside.{Rose, RoseBy};
 
 use crate::outside::{Files, LoadError, PutError, SaveError, Sink};
@@ -14,15 +14,18 @@ pub struct HostFiles<'a, R: std::rt::Files> {
     reason: Option<io::Error>,
     read_faults: u64,
     write_faults: u64,
+    short_saves: u64,
     taken: u64,
 }
 
 impl<'a, R: std::rt::Files> HostFiles<'a, R> {
     /// The files of the host, with no call made.
     pub fn new(rt: &'a R, alloc: Global) -> HostFiles<'a, R>
+        ensures held { ⟦<HostFiles<'a, R> as Files>⟧.held result ≡ None }
         ensures failed { ⟦<HostFiles<'a, R> as Files>⟧.failed result ≡ [] }
         ensures read_faults { ⟦<HostFiles<'a, R> as Files>⟧.read_faults result ≡ 0 }
         ensures write_faults { ⟦<HostFiles<'a, R> as Files>⟧.write_faults result ≡ 0 }
+        ensures short_saves { ⟦<HostFiles<'a, R> as Files>⟧.short_saves result ≡ 0 }
         ensures taken { ⟦<HostFiles<'a, R> as Files>⟧.taken result ≡ 0 }
     {
         HostFiles {
@@ -31,6 +34,7 @@ impl<'a, R: std::rt::Files> HostFiles<'a, R> {
             reason: None,
             read_faults: 0,
             write_faults: 0,
+            short_saves: 0,
             taken: 0,
         }
     }
@@ -56,6 +60,8 @@ impl<'a, R: std::rt::Files> Files for HostFiles<'a, R> {
 
     ghost write_faults = { λ f. f.write_faults };
 
+    ghost short_saves = { λ f. f.short_saves };
+
     ghost failed = { λ f. string_bytes f.failed };
 
     ghost taken = { λ f. f.taken };
@@ -74,7 +80,13 @@ impl<'a, R: std::rt::Files> Files for HostFiles<'a, R> {
     }
 
     fn save(&mut self, alloc: Global, name: &str, bytes: &[u8]) -> Result<(), SaveError> {
-        let own_name = String::from_str(alloc, name)?;
+        let own_name = match String::from_str(alloc, name) {
+            Ok(own_name) => own_name,
+            Err(error) => {
+                self.short_saves = self.short_saves.saturating_add(1);
+                return Err(SaveError::Memory(error));
+            }
+        };
         match write_whole(self.rt, name, bytes) {
             Ok(()) => Ok(()),
             Err(error) => {
@@ -159,12 +171,15 @@ pub struct OutSink<'a, R: Print> {
     rt: &'a R,
     reason: Option<io::Error>,
     faults: u64,
+    ghost reasoned: { is_some reason ≡ nat_lt 0 faults },
 }
 
 impl<'a, R: Print> OutSink<'a, R> {
     /// Standard output, with no call made.
     pub fn new(rt: &'a R) -> OutSink<'a, R>
-        ensures { ⟦<OutSink<'a, R> as Sink>⟧.faults result ≡ 0 }
+        ensures told { ⟦<OutSink<'a, R> as Sink>⟧.told result ≡ None }
+        ensures faults { ⟦<OutSink<'a, R> as Sink>⟧.faults result ≡ 0 }
+        ensures short_puts { ⟦<OutSink<'a, R> as Sink>⟧.short_puts result ≡ 0 }
     {
         OutSink {
             rt,
@@ -174,7 +189,9 @@ impl<'a, R: Print> OutSink<'a, R> {
     }
 
     /// Why the host refused the last call that failed. There is no reason before the first.
-    pub fn reason(&self) -> Option<io::Error> {
+    pub fn reason(&self) -> Option<io::Error>
+        ensures { is_some result ≡ nat_lt 0 (⟦<OutSink<'a, R> as Sink>⟧.faults self.now) }
+    {
         self.reason
     }
 }
@@ -183,6 +200,9 @@ impl<'a, R: Print> Sink for OutSink<'a, R> {
     ghost told = { λ s. None };
 
     ghost faults = { λ s. s.faults };
+
+    // The host takes bytes as they are, so that no put needs memory.
+    ghost short_puts = { λ s. 0 };
 
     fn put(&mut self, bytes: &[u8]) -> Result<(), PutError> {
         match print_whole(self.rt, bytes) {

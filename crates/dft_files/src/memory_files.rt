@@ -3,7 +3,7 @@ ghost use Rattle.std.specs.List.{position};
 ghost use Rattle.std.specs.Str.{bytes_eq};
 ghost use Rattle.dft_files.specs.Outside.{HasDistinctNames, KeepsOthers, LeavesPart, file_at};
 ghost use Rattle.dft_files.specs.Entries.{held_of};
-ghost use Rattle.dft_files.specs.Store.{with_file, called, read_failed, write_failed, left, Loads, Saves};
+ghost use Rattle.dft_files.specs.Store.{with_file, called, read_failed, write_failed, left, Loads, Saves, SavesElse};
 ghost use Rattle.dft_files.specs.Store as store;
 
 use crate::failing::{Failing, kept_at};
@@ -19,6 +19,7 @@ pub struct MemoryFiles {
     failed: String,
     read_faults: u64,
     write_faults: u64,
+    short_saves: u64,
     taken: u64,
 }
 
@@ -32,6 +33,7 @@ impl Drop for MemoryFiles {
             failed: _,
             read_faults: _,
             write_faults: _,
+            short_saves: _,
             taken: _,
         } = self;
     }
@@ -57,6 +59,7 @@ impl MemoryFiles {
         ensures failed { result.failed ≡ [] }
         ensures read_faults { result.read_faults ≡ 0 }
         ensures write_faults { result.write_faults ≡ 0 }
+        ensures short_saves { result.short_saves ≡ 0 }
         ensures taken { result.taken ≡ 0 }
     {
         MemoryFiles {
@@ -66,6 +69,7 @@ impl MemoryFiles {
             failed: String::new(alloc),
             read_faults: 0,
             write_faults: 0,
+            short_saves: 0,
             taken: 0,
         }
     }
@@ -89,6 +93,8 @@ impl Files for MemoryFiles {
     ghost read_faults = { λ f. f.read_faults };
 
     ghost write_faults = { λ f. f.write_faults };
+
+    ghost short_saves = { λ f. f.short_saves };
 
     ghost failed = { λ f. f.failed };
 
@@ -126,6 +132,25 @@ impl Files for MemoryFiles {
         ensures write_faults { self.old.write_faults ≤ self.new.write_faults }
         ensures none_failing { self.old.failing ≡ [] → self.new.write_faults ≡ self.old.write_faults }
     {
+        match self.save_or_fail(alloc, name, bytes) {
+            Ok(()) => Ok(()),
+            Err(SaveError::Failed) => Err(SaveError::Failed),
+            Err(SaveError::Memory(error)) => {
+                self.short_saves = self.short_saves.saturating_add(1);
+                Err(SaveError::Memory(error))
+            }
+        }
+    }
+}
+
+// The parts of a call. Each changes what the model shows in one way.
+impl MemoryFiles {
+    // A save, which is not counted where memory runs out.
+    fn save_or_fail(&mut self, alloc: Global, name: &str, bytes: &[u8]) -> Result<(), SaveError>
+        ensures saves { SavesElse self.old name.now bytes.now self.old result self.new }
+        ensures write_faults { self.old.write_faults ≤ self.new.write_faults }
+        ensures none_failing { self.old.failing ≡ [] → self.new.write_faults ≡ self.old.write_faults }
+    {
         let own_name = String::from_str(alloc, name)?;
         let Some(kept) = self.kept_now() else {
             self.leave(alloc, name, bytes)?;
@@ -136,10 +161,7 @@ impl Files for MemoryFiles {
         self.leave(alloc, name, &bytes[..kept])?;
         Err(self.note_save(own_name))
     }
-}
 
-// The parts of a call. Each changes what the model shows in one way.
-impl MemoryFiles {
     // How many bytes the next call keeps, where it is to fail.
     fn kept_now(&self) -> Option<u32>
         ensures { result ≡ store.kept_at self.now.failing self.now.calls }

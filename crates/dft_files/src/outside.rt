@@ -1,5 +1,5 @@
 ghost use Rattle.std.specs.Prelude.{◌≡◌, ◌≢◌, ◌<◌, ◌≤◌, ◌+◌, ◌↔◌, ℕ, List, Option, Some, None, Err, IfOk, OnOk, OnErr, IsSomeAnd, length, is_some};
-ghost use Rattle.dft_files.specs.Outside.{Held, KeepsOthers, Rose, RoseBy, Told, ToldChange, ComesToLength, LeavesPart, file_at};
+ghost use Rattle.dft_files.specs.Outside.{Held, KeepsOthers, Rose, RoseBy, Told, ToldChange, ComesToLength, IsShortPut, IsShortSave, LeavesPart, file_at};
 ghost use Rattle.dft_files.specs.Put.{Adds, AddsPrefix};
 
 use std::alloc::{AllocError, Global};
@@ -72,7 +72,7 @@ impl From<AllocError> for PutError {
 }
 
 /// Named files. An implementation tells what files it holds, or tells nothing of them.
-/// It counts its failed calls, each count up to the last value of a u64.
+/// It counts its failed calls, and its saves that ended for want of memory, each count up to the last value of a u64.
 pub trait Files {
     /// The names with their files, where they are told.
     ghost held: { Self → Option Held };
@@ -82,6 +82,9 @@ pub trait Files {
 
     /// How many saves have failed.
     ghost write_faults: { Self → ℕ };
+
+    /// How many saves have ended for want of memory.
+    ghost short_saves: { Self → ℕ };
 
     /// The name in the last call that answered `Failed`, empty before the first.
     ghost failed: { Self → List ℕ };
@@ -104,6 +107,7 @@ pub trait Files {
         ensures held { held self.new ≡ held self.old }
         ensures read_faults { read_faults self.old ≤ read_faults self.new }
         ensures write_faults { write_faults self.new ≡ write_faults self.old }
+        ensures short_saves { short_saves self.new ≡ short_saves self.old }
         ensures taken { taken self.old ≤ taken self.new };
 
     /// Makes these the bytes of the file, whether there was one or not.
@@ -116,6 +120,8 @@ pub trait Files {
         ensures fault { result ≡ Err SaveError.Failed → Rose (write_faults self.old) (write_faults self.new) }
         ensures failed { result ≡ Err SaveError.Failed → failed self.new ≡ name.now }
         ensures quiet { result ≢ Err SaveError.Failed → failed self.new ≡ failed self.old }
+        ensures short { IsShortSave result → Rose (short_saves self.old) (short_saves self.new) }
+        ensures enough { ¬ IsShortSave result → short_saves self.new ≡ short_saves self.old }
         ensures tells { is_some (held self.new) ≡ is_some (held self.old) }
         ensures write_faults { write_faults self.old ≤ write_faults self.new }
         ensures read_faults { read_faults self.new ≡ read_faults self.old }
@@ -123,7 +129,7 @@ pub trait Files {
 }
 
 /// A place that bytes go to, in order. An implementation tells the bytes put so far, or tells nothing of them.
-/// It counts its failed calls, up to the last value of a u64.
+/// It counts its failed calls, and those that ended for want of memory, each count up to the last value of a u64.
 pub trait Sink {
     /// The bytes put so far, where they are told.
     ghost told: { Self → Option (List ℕ) };
@@ -131,12 +137,17 @@ pub trait Sink {
     /// How many calls have failed.
     ghost faults: { Self → ℕ };
 
+    /// How many calls have ended for want of memory.
+    ghost short_puts: { Self → ℕ };
+
     /// Puts these bytes behind those put so far.
     fn put(&mut self, bytes: &[u8]) -> Result<(), PutError>
         ensures all { OnOk result (Adds bytes.now (told self.old) (told self.new)) }
         ensures prefix { result ≡ Err PutError.Failed → AddsPrefix bytes.now (told self.old) (told self.new) }
         ensures memory { OnErr result (result ≢ Err PutError.Failed → told self.new ≡ told self.old) }
         ensures fault { result ≡ Err PutError.Failed → Rose (faults self.old) (faults self.new) }
+        ensures short { IsShortPut result → Rose (short_puts self.old) (short_puts self.new) }
+        ensures enough { ¬ IsShortPut result → short_puts self.new ≡ short_puts self.old }
         ensures tells { is_some (told self.new) ≡ is_some (told self.old) }
         ensures faults { faults self.old ≤ faults self.new };
 }

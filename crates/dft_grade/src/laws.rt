@@ -4,7 +4,7 @@ ghost use Rattle.dft_grade.specs.AllGrades.{AllFailInRuns, GradesAreOne, GradesA
 ghost use Rattle.dft_grade.specs.Laws.{DetectedIsSound, GradeIsOne, GradeIsPlain};
 
 /// Where a fault is detected, every run of the design with the fault shows the opposite of the printed bit there: for any starting
-/// bits, any order of the rises and of the falls in each vector, and any free bits.
+/// bits, any order of the rises and of the falls in each vector, any of them at once, and any free bits.
 pub fn detected_is_sound()
     ensures { DetectedIsSound }
 {}

@@ -222,6 +222,9 @@ module _ (ms : List Module) (library : List Cell) (top : Module) (design : Netli
   all_moved : AreMoved ms top (net_spots ms top) (instance_spots ms top) design.instances
   all_moved = subst (AreMoved ms top (net_spots ms top) (instance_spots ms top)) (sym f.instances) (instances_moved ms top (net_spots ms top) (length ms) [] 0 [] top refl whole)
 
+  pub instance_count : length design.instances ≡ length (instance_spots ms top)
+  instance_count = moved_count ms top (net_spots ms top) (instance_spots ms top) design.instances all_moved
+
   -- the instance at a spot, and the one of this number
   pub record CellAt (path : Path) (i number : ℕ) (m : Module) (there x : Instance) : Type 0 where
     pub at : module_at ms path top ≡ Some m
@@ -241,7 +244,7 @@ module _ (ms : List Module) (library : List Cell) (top : Module) (design : Netli
 
   pub cell_at : (path : Path) (i number : ℕ) → IsAt (instance_spots ms top) path i number → SomeCell path i number
   cell_at path i number at =
-      let count = moved_count ms top (net_spots ms top) (instance_spots ms top) design.instances all_moved in
+      let count = instance_count in
       let live = slice_get_within (instance_spots ms top) number (spot path i) at in
       let x = get_there design.instances number (omega arith) in
       let is = moved_at ms top (net_spots ms top) (instance_spots ms top) design.instances number (spot path i) x.0 all_moved at x.1 in
@@ -447,7 +450,7 @@ module _ (ms : List Module) (library : List Cell) (top : Module) (design : Netli
   instance_origin e h =
       let by = instances_backward library 0 design.instances h.place e h.at in
       let start : 0 + by.k ≡ by.k = omega arith in
-      let count = moved_count ms top (net_spots ms top) (instance_spots ms top) design.instances all_moved in
+      let count = instance_count in
       let live = slice_get_within design.instances by.k by.x by.at in
       let s = get_there (instance_spots ms top) by.k (omega arith) in
       let path = s.0.path in

@@ -3,4 +3,7 @@ pub mod Images
 pub mod DriverImages
 pub mod NetRanks
 pub mod JoinedRoots
+pub mod FlatDesigns
+pub mod MeaningImages
 pub mod SettledByPath
+pub mod LogicByNumbers

@@ -5,7 +5,7 @@ use Rattle.std.proofs.lemmas.Bool.{cases_lt}
 use Rattle.std.proofs.lemmas.List.{get_or_past, length-map}
 use Rattle.std.proofs.lemmas.List.Elements.{All-from_recursion}
 use Rattle.dft_base.specs.Ranges.{going_up}
-use Rattle.dft_netlist.specs.Drivers.{AreBelow, IsOrdered, driver, nets_read}
+use Rattle.dft_netlist.specs.Drivers.{IsOrdered, driver, nets_read}
 use Rattle.dft_netlist.specs.Netlist.{Netlist}
 use Rattle.dft_netlist.specs.Orders.{Has, reads_of, IsOrderable, Follows}
 use Rattle.dft_netlist.proofs.BitLemmas.{up_length}

@@ -1,5 +1,6 @@
--- Modules side by side, joined at their ports: what each net's bit is, by its path.
-use Rattle.std.specs.Prelude.{◌≡◌, ℕ, ◌<◌, Bool, true, false, if◌then◌else◌, List, [], ◌∷◌, length, Option, Some, None, slice_get}
+-- Modules side by side, joined at their ports: what nets mean and what cells take, and what each net's bit is, by paths.
+use Rattle.std.specs.Prelude.{◌≡◌, ℕ, ◌<◌, Bool, false, if◌then◌else◌, List, [], ◌∷◌, length, Option, Some, None, slice_get}
+use Rattle.std.specs.Option.{option_or}
 use Rattle.dft_base.specs.declared.dir.Dir.{Dir}
 use Rattle.dft_base.specs.declared.dir.Dir.TheVariants as dir
 use Rattle.dft_cells.specs.declared.kind.Gate.{Gate}
@@ -18,8 +19,8 @@ use Rattle.dft_behavior.specs.Traces.{Root, Port as PortRoot, Constant, Other}
 use Rattle.dft_behavior.specs.ClockRoots.{ClockRoot, turn_of}
 use Rattle.dft_behavior.specs.Logic as logic
 use Rattle.dft_netlist.specs.Connections.{pin_of}
-use Rattle.dft_behavior.specs.Logic.{Ports, Meaning, or_loose, domain_of, force_of, both_forces, takes_of, forces_of, modelled, flop_meaning, lockup_meaning}
-use Rattle.dft_behavior.specs.Settled.{Sources, bit_from, bit_given}
+use Rattle.dft_behavior.specs.Logic.{Ports, Meaning, or_loose, domain_of, force_of, both_forces, takes_of, forces_of, modelled, is_lockup, locked, cell_or_none, flop_meaning, lockup_meaning}
+use Rattle.dft_behavior.specs.Settled.{Sources, bit_given}
 use Rattle.dft_modules.specs.declared.connections.Connection as modules
 use Rattle.dft_modules.specs.declared.module.SubInstance.{SubInstance}
 use Rattle.dft_modules.specs.Modules.{Module}
@@ -117,11 +118,16 @@ pub data ShowsClock (ms : List Module) (library : List Cell) (top : Module) (pat
   Shown : {port : ℕ} {inverted : Bool} → JoinedClocks ms library top path source port inverted → ShowsClock ms library top path source (Some (record { port = port; inverted = inverted }))
   NotShown : ((port : ℕ) (inverted : Bool) → JoinedClocks ms library top path source port inverted → ⊥) → ShowsClock ms library top path source None
 
--- ---- what nets mean, where the roots and the clocks of sources are given
+-- ---- what cells store and nets mean, where the roots and the clocks of sources are given
 
 pub record Roots : Type 0 where
   pub root : Source → Root
   pub clock : Source → Option ClockRoot
+
+-- those that the sources at each path have
+pub record AreRoots (ms : List Module) (library : List Cell) (top : Module) (roots : Path → Roots) : Type 0 where
+  pub root : (path : Path) (source : Source) → HasRoot ms library top path source ((roots path).root source)
+  pub clock : (path : Path) (source : Source) → ShowsClock ms library top path source ((roots path).clock source)
 
 abbrev pub domain_by : Roots → Ports → Option Source → Option ClockRoot
 domain_by roots ports None = None
@@ -142,6 +148,17 @@ modelled_by roots ports i pins =
 abbrev pub flip_flop_by : Roots → Netlist → Ports → (instance : ℕ) → Option logic.Cell
 flip_flop_by roots n ports i = if is_flip_flop (kind_at n i) then modelled_by roots ports i (pins_of n i) else None
 
+-- the lock-up on a clock port that an instance is, if it is one
+abbrev pub locked_by : Roots → Ports → (instance : ℕ) → List Connection → Option logic.Cell
+locked_by roots ports i pins = locked (domain_by roots ports (pin_of role.Clock i pins)) (or_loose i (pin_of role.Din i pins))
+
+abbrev pub lock_up_by : Roots → Netlist → Ports → (instance : ℕ) → Option logic.Cell
+lock_up_by roots n ports i = if is_lockup (kind_at n i) then locked_by roots ports i (pins_of n i) else None
+
+-- what an instance stores a bit in: its clock and edge, what it takes, and what forces it
+abbrev pub cell_by : Roots → Netlist → Ports → (instance : ℕ) → logic.Cell
+cell_by roots n ports i = cell_or_none i (option_or (flip_flop_by roots n ports i) (lock_up_by roots n ports i))
+
 -- what a net means by its driver
 abbrev pub meaning_by : Roots → Netlist → Ports → (net : ℕ) → Driver → Meaning
 meaning_by roots n ports net drivers.Input = if ports.is_clock net then logic.Clock else logic.Input
@@ -150,6 +167,20 @@ meaning_by roots n ports net (drivers.Joined source) = logic.Joined source
 meaning_by roots n ports net (drivers.Flop i inverted) = flop_meaning i inverted (flip_flop_by roots n ports i)
 meaning_by roots n ports net (drivers.Lockup i) = lockup_meaning i (domain_by roots ports (pin_of role.Clock i (pins_of n i))) (or_loose i (pin_of role.Din i (pins_of n i)))
 meaning_by roots n ports net drivers.Free = logic.Free
+
+-- ---- what nets of joined modules mean
+
+-- A net at a path means this, over sources at a second path: what its driver inside means; where modules meet, the signal outside for an input bit,
+-- and the bit inside for the net outside; and where nothing drives it and no instance joins it, it is free.
+pub data JoinedMeans (ms : List Module) (library : List Cell) (top : Module) (ports : Ports) (roots : Path → Roots) : (path : Path) → (net : ℕ) → (over : Path) → Meaning → Type 0 where
+  MeansInside : {path : Path} {net : ℕ} {d : Driver} →
+      (inside : DrivenInside ms library top path net d) → JoinedMeans ms library top ports roots path net path (meaning_by (roots path) (alone library path inside.m) ports net d)
+  MeansOutside : {path : Path} {place net : ℕ} {to : Signal} →
+      Meets ms top path place dir.Input net to → JoinedMeans ms library top ports roots (below path place) net path (logic.Joined (source_of 0 0 to))
+  MeansBelow : {path : Path} {place inner net : ℕ} →
+      Meets ms top path place dir.Output inner (signal.Net (record { 0 = net })) → JoinedMeans ms library top ports roots path net (below path place) (logic.Joined (Net inner))
+  MeansNothing : {path : Path} {m : Module} {net : ℕ} →
+      module_at ms path top ≡ Some m → net < length m.nets → times_driven (alone library path m) net ≡ 0 → IsUnmet ms top path net → JoinedMeans ms library top ports roots path net path logic.Free
 
 -- ---- settled joined assignments
 
@@ -164,15 +195,10 @@ pub record JoinedSources : Type 0 where
 abbrev pub sources_at : JoinedSources → Path → Sources
 sources_at s path = record { ports = s.ports; high = s.high; flops = s.flops path; free = s.free path; loose = s.loose path }
 
--- A joined assignment gives a bit to each net at each path. It is settled where every net with a driver inside has that driver's bit, joined bits
--- are equal at both sides, and every other net has its free bit.
+-- A joined assignment gives a bit to each net at each path. It is settled where each net has the bit of what it means: with a driver inside, that
+-- driver's bit; joined bits are equal at both sides; and every other net has its free bit.
 pub record IsJoinedSettled (ms : List Module) (library : List Cell) (top : Module) (ports : Ports) (s : JoinedSources) (bits : Path → ℕ → Bool) : Type 0 where
   pub roots : Path → Roots
-  pub rooted : (path : Path) (source : Source) → HasRoot ms library top path source ((roots path).root source)
-  pub clocked : (path : Path) (source : Source) → ShowsClock ms library top path source ((roots path).clock source)
-  pub driven : (path : Path) (m : Module) (net : ℕ) (d : Driver) → module_at ms path top ≡ Some m → DrivenInside ms library top path net d →
-      bits path net ≡ bit_given (sources_at s path) (bits path) net (meaning_by (roots path) (alone library path m) ports net d)
-  pub inputs : (path : Path) (place net : ℕ) (to : Signal) → Meets ms top path place dir.Input net to → bits (below path place) net ≡ bit_from (sources_at s path) (bits path) (source_of 0 0 to)
-  pub outputs : (path : Path) (place inner net : ℕ) → Meets ms top path place dir.Output inner (signal.Net (record { 0 = net })) → bits path net ≡ bits (below path place) inner
-  pub others : (path : Path) (m : Module) (net : ℕ) → module_at ms path top ≡ Some m → net < length m.nets → times_driven (alone library path m) net ≡ 0 → IsUnmet ms top path net →
-      bits path net ≡ s.free path net
+  pub are_roots : AreRoots ms library top roots
+  pub each : (path : Path) (net : ℕ) (over : Path) (meaning : Meaning) → JoinedMeans ms library top ports roots path net over meaning →
+      bits path net ≡ bit_given (sources_at s over) (bits over) net meaning

@@ -3,4 +3,4 @@
 
 mod laws;
 
-pub use laws::flat_designs_are_joined;
+pub use laws::{flat_designs_are_joined, flat_logic_is_joined, flat_runs_are_joined};

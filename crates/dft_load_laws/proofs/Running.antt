@@ -1,28 +1,27 @@
--- Each table is carried by some run.
-use Rattle.std.proofs.Common.{ℕ, zero, suc, ◌+◌, ◌-◌, ◌<◌, ◌≡◌, ◌==◌, ◌||◌, inl, inr, Bool, true, false, nat_lt, List, [], ◌∷◌, length, refl, ap, arith, ◌∙◌}
+-- Each table is carried by some run, in a load and in an unload.
+use Rattle.std.proofs.Common.{ℕ, zero, suc, ◌+◌, ◌-◌, ◌<◌, ◌≡◌, ◌==◌, ◌||◌, Bool, true, false, nat_lt, List, [], ◌∷◌, length, refl, sym, subst, ap, arith, ◌∙◌}
 use Rattle.std.specs.Prelude.{if◌then◌else◌}
-use Rattle.std.specs.List.{list_any}
-use Rattle.std.proofs.lemmas.Bool.{eqb-true, eq-eqb, cases_lt, or_right}
+use Rattle.std.proofs.lemmas.Bool.{eqb-true, eq-eqb, or_right}
 use Rattle.std.proofs.lemmas.Bool.Decides.{nat_tests}
-use Rattle.dft_base.specs.Lexing.{Text}
 use Rattle.dft_base.specs.declared.tri.Tri.{Tri}
-use Rattle.dft_base.specs.declared.tri.Tri.TheVariants.{Zero, One, Unknown}
+use Rattle.dft_base.specs.declared.tri.Tri.TheVariants.{Zero, One}
 use Rattle.dft_base.specs.Tri.{known}
-use Rattle.dft_base.proofs.BitLemmas.{true_false}
-use Rattle.dft_netlist.specs.Connections.{input_net}
-use Rattle.dft_behavior.specs.Logic.{Ports}
+use Rattle.dft_behavior.specs.Logic.{Logic, Ports, IsRanked}
 use Rattle.dft_netlist.specs.Netlist.{Netlist}
-use Rattle.dft_behavior.specs.Runs.{Now, Vector, Turn, IsRun}
-use Rattle.dft_netlist.specs.Sound.{bits_of}
+use Rattle.dft_behavior.specs.Runs.{Now, Vector, Turn, IsTurn, after_turn, AreTurns, AreLow, IsRun}
 use Rattle.dft_config.specs.Config.{Config}
+use Rattle.dft_config.specs.Cycles.{longest_segment}
 use Rattle.dft_config.specs.Ring.{Table}
-use Rattle.dft_rules.specs.Rules.{is_net}
+use Rattle.dft_config.specs.Segments.{sent_mask}
 use Rattle.dft_runs.specs.Choices.{PulseBelow}
+use Rattle.dft_runs.specs.Passes.{after_turns}
 use Rattle.dft_runs.proofs.Orders.{runs_exist}
+use Rattle.dft_runs.proofs.Passing.{turns_pass}
 use Rattle.dft_stitch.specs.Chains.{plan_of}
 use Rattle.dft_edt.specs.Hardware.{EdtNets}
 use Rattle.dft_edt.specs.Loads.{CarryTable}
-use Rattle.dft_edt.specs.Vectors.{IsEdtShift, IsClearing, Carries}
+use Rattle.dft_edt.specs.Unloads.{Rest, SendMasks}
+use Rattle.dft_edt.specs.Vectors.{IsEdtShift, IsClearing, Carries, Sends}
 use Rattle.dft_scan_frame.specs.ConfigPorts.{config_ports}
 use Rattle.dft_scan_frame.specs.Statements.{IsReady}
 use Rattle.dft_insert.specs.declared.style.Style.TheVariants.{Edt}
@@ -30,19 +29,14 @@ use Rattle.dft_insert.specs.Ports.{gap_in}
 use Rattle.dft_insert.specs.Agreeing.{ports_in}
 use Rattle.dft_insert.proofs.MadeGood.{from_at}
 use Rattle.dft_scan_behavior.specs.EdtVectors.{edt_logic}
+use Rattle.dft_scan_behavior.specs.Experiments.{Send}
 use Rattle.dft_scan_behavior.specs.Facts.{chain_nets, edt_hardware}
 use Rattle.dft_scan_behavior.proofs.EdtUnder.{edt_rank}
+use Rattle.dft_scan_behavior.proofs.NamedNets.{named_less}
 use Rattle.dft_scan_behavior.proofs.PortsDriven.{no_clock}
+use Rattle.dft_scan_behavior.proofs.ShiftRuns.{begin}
 use Rattle.dft_load_laws.specs.Loading.{LoadRun, LoadsRun}
-
--- ---- names of ports are names of the design's ports
-
--- a net of this sort is one of the design's ports' nets
-named_less : (n : Netlist) (config : Config) (at : ℕ) (names : List Text) → IsReady n config → list_any (λ name. is_net at (input_net n name)) names ≡ true → at < length (bits_of n.ports)
-named_less n config at names ready is = elim (cases_lt at (length (bits_of n.ports))) [
-  | inl less ↦ less
-  | inr past ↦ absurd (true_false (list_any (λ name. is_net at (input_net n name)) names) is (no_clock n config at names ready (omega (arith, past))))
-]
+use Rattle.dft_load_laws.specs.Unloading.{MaskRun, UnloadsRun, after_masks}
 
 -- ---- vectors
 
@@ -55,6 +49,14 @@ shift_vector n config row = record { ports = shift_value (gap_in Edt n config).b
 
 clear_vector : Netlist → Config → Vector
 clear_vector n config = record { ports = λ net. if net == (edt_hardware n config).update then One else Zero; pulsed = λ d. d == (edt_hardware n config).clock }
+
+-- a vector in which edt_clock rests and all others pulse
+rest_vector : Netlist → Config → Vector
+rest_vector n config = record { ports = λ net. One; pulsed = (config_ports n config).is_clock }
+
+-- the bits behind those of the channels are what the mask ports get at a cycle
+mask_bits : Config → (masks : ℕ → Bool) → (cycles : ℕ) → Table
+mask_bits config masks cycles j cycle = sent_mask config masks cycles (j - config.ring.channels) cycle
 
 shifts_from : Netlist → Config → Table → (cycle count : ℕ) → List Vector
 shifts_from n config table cycle zero = []
@@ -132,17 +134,49 @@ module _ (n : Netlist) (config : Config) (ready : IsReady n config) where
   shifts_below table cycle zero = tt
   shifts_below table cycle (suc count) = (clock_less, shifts_below table (suc cycle) count)
 
-  all_below : (table : Table) → PulseBelow (before + 2) (clear_vector n config ∷ shifts_from n config table 0 (plan_of n config).cycles)
+  shift_below : (row : ℕ → Bool) → PulseBelow (before + 2) (shift_vector n config row ∷ [])
+  unfolding shift_vector
+  shift_below row = (clock_less, tt)
+
+  clear_below : PulseBelow (before + 2) (clear_vector n config ∷ [])
   unfolding clear_vector
-  all_below table = ((λ d is. (let same = eqb-true d hw.clock is in omega (arith, same))), shifts_below table 0 (plan_of n config).cycles)
+  clear_below = ((λ d is. (let same = eqb-true d hw.clock is in omega (arith, same))), tt)
+
+  all_below : (table : Table) → PulseBelow (before + 2) (clear_vector n config ∷ shifts_from n config table 0 (plan_of n config).cycles)
+  all_below table = (clear_below.0, shifts_below table 0 (plan_of n config).cycles)
+
+  -- ---- masks
+
+  sends : (masks : ℕ → Bool) (cycles cycle : ℕ) → Sends config hw (λ segment. sent_mask config masks cycles segment cycle) (shift_vector n config (λ j. mask_bits config masks cycles j cycle))
+  unfolding shift_vector mask_bits
+  sends masks cycles cycle m less =
+      let row : ℕ → Bool = λ j. sent_mask config masks cycles (j - config.ring.channels) cycle in
+      let here : before + 3 + config.ring.channels + m ≡ before + 3 + (config.ring.channels + m) = omega arith in
+      let at : config.ring.channels + m - config.ring.channels ≡ m = omega arith in
+      ap (shift_value before row) (from_at (before + 3 + config.ring.channels) config.compactor.mask_inputs m less ∙ here)
+      ∙ channel_is before (config.ring.channels + m) row
+      ∙ ap (λ segment. known (sent_mask config masks cycles segment cycle)) at
+
+  send_all : (masks : ℕ → Bool) (cycles cycle count : ℕ) → SendMasks config hw masks cycles cycle (shifts_from n config (mask_bits config masks cycles) cycle count)
+  unfolding shifts_from
+  send_all masks cycles cycle zero = tt
+  send_all masks cycles cycle (suc count) = (((is_shift (λ j. mask_bits config masks cycles j cycle)).clock, sends masks cycles cycle), send_all masks cycles (suc cycle) count)
+
+  send_as_long : (masks : ℕ → Bool) (cycles count : ℕ) → count ≡ cycles → SendMasks config hw masks count 0 (shifts_from n config (mask_bits config masks cycles) 0 cycles)
+  send_as_long masks cycles count is = subst (λ (k : ℕ). SendMasks config hw masks k 0 (shifts_from n config (mask_bits config masks cycles) 0 cycles)) (sym is) (send_all masks cycles 0 cycles)
+
+  load_sends : (masks : ℕ → Bool) (cycles : ℕ) → Send n config masks (shifts_from n config (mask_bits config masks cycles) 0 cycles)
+  load_sends masks cycles = send_as_long masks cycles (length (shifts_from n config (mask_bits config masks cycles) 0 cycles)) (shifts_count (mask_bits config masks cycles) 0 cycles)
+
+  rests : Rest hw (rest_vector n config ∷ [])
+  unfolding rest_vector
+  rests = (no_clock n config (before + 1) config.domains ready (omega arith), tt)
+
+  rest_below : PulseBelow (before + 2) (rest_vector n config ∷ [])
+  unfolding rest_vector
+  rest_below = (λ d is. (let less = named_less n config d config.domains ready is in omega (arith, less)), tt)
 
 -- ---- the run
-
-begin : Now
-begin = record {
-  state = record { ports = λ net. Unknown; flops = λ c. false; high = λ d. false };
-  moment = record { free = λ net. false; loose = λ i pin. false; seen = λ net. false };
-}
 
 split_run : (n : Netlist) (config : Config) (ports : Ports) (table : Table) (ready : IsReady n config) (start : Now) (turns : List Turn) → IsRun (edt_logic n config ports) (clear_vector n config ∷ shifts_from n config table 0 (plan_of n config).cycles) start turns →
     LoadRun n config ports table
@@ -164,8 +198,96 @@ split_run n config ports table ready start (a ∷ us) run = record {
 }
 
 pub loads_run : LoadsRun
-unfolding begin
 loads_run n config ports table ready suits =
     let rank = edt_rank n config ports ready in
     let run = runs_exist (edt_logic n config ports) rank.0 ((gap_in Edt n config).before + 2) (clear_vector n config ∷ shifts_from n config table 0 (plan_of n config).cycles) begin rank.1 (λ d. refl) (all_below n config ready table) in
     split_run n config ports table ready begin run.0 run.1
+
+-- ---- one list of vectors behind another
+
+-- turns over some vectors, which leave all clocks low
+record GoesOn (l : Logic) (now : Now) (xs : List Vector) : Type 0 where
+  turns : List Turn
+  are : AreTurns l now xs turns
+  low : AreLow (after_turns l now xs turns).state
+
+goes_on : (l : Logic) (rank : ℕ → ℕ) (bound : ℕ) (now : Now) (xs : List Vector) → IsRanked l rank → AreLow now.state → PulseBelow bound xs → GoesOn l now xs
+goes_on l rank bound now xs ranked low below =
+    let run = runs_exist l rank bound xs now ranked low below in
+    let passed = turns_pass l rank now xs run.0 ranked low run.1.turns in
+    record { turns = run.0; are = run.1.turns; low = passed.2 }
+
+record OneMore (l : Logic) (now : Now) (x : Vector) : Type 0 where
+  turn : Turn
+  is : IsTurn l x now turn
+  low : AreLow (after_turn l x now turn).state
+
+one_of : (l : Logic) (now : Now) (x : Vector) (ts : List Turn) → AreTurns l now (x ∷ []) ts → AreLow (after_turns l now (x ∷ []) ts).state → OneMore l now x
+one_of l now x [] are low = absurd are
+one_of l now x (t ∷ []) are low = record { turn = t; is = are.0; low = low }
+one_of l now x (t ∷ u ∷ ts) are low = absurd are.1
+
+one_more : (l : Logic) (rank : ℕ → ℕ) (bound : ℕ) (now : Now) (x : Vector) → IsRanked l rank → AreLow now.state → PulseBelow bound (x ∷ []) → OneMore l now x
+one_more l rank bound now x ranked low below = (let on = goes_on l rank bound now (x ∷ []) ranked low below in one_of l now x on.turns on.are on.low)
+
+-- ---- an unload
+
+-- a run of masks, which leaves all clocks low
+record LowMasks (n : Netlist) (config : Config) (ports : Ports) (masks : ℕ → Bool) : Type 0 where
+  run : MaskRun n config ports masks
+  low : AreLow (after_masks n config ports masks run).state
+
+masks_run : (n : Netlist) (config : Config) (ports : Ports) (masks : ℕ → Bool) → IsReady n config → (rank : ℕ → ℕ) → IsRanked (edt_logic n config ports) rank → LowMasks n config ports masks
+masks_run n config ports masks ready rank ranked =
+    let l : Logic = edt_logic n config ports in
+    let cycles : ℕ = longest_segment config in
+    let bound : ℕ = (gap_in Edt n config).before + 2 in
+    let load : List Vector = shifts_from n config (mask_bits config masks cycles) 0 cycles in
+    let between : List Vector = rest_vector n config ∷ [] in
+    let loading = goes_on l rank bound begin load ranked (λ d. refl) (shifts_below n config ready (mask_bits config masks cycles) 0 cycles) in
+    let resting = goes_on l rank bound (after_turns l begin load loading.turns) between ranked loading.low (rest_below n config ready) in
+    let clearing = one_more l rank bound (after_turns l (after_turns l begin load loading.turns) between resting.turns) (clear_vector n config) ranked resting.low (clear_below n config ready) in record {
+      run = record {
+        before = [];
+        load = load;
+        between = between;
+        clear = clear_vector n config;
+        start = begin;
+        ts = [];
+        us = loading.turns;
+        ms = resting.turns;
+        a = clearing.turn;
+        sends = load_sends n config ready masks cycles;
+        long = (let count = shifts_count n config ready (mask_bits config masks cycles) 0 cycles in omega (arith, count));
+        rests = rests n config ready;
+        clearing = clears n config ready;
+        run = record { low = λ d. refl; turns = tt };
+        turns = loading.are;
+        resting = resting.are;
+        turn = clearing.is;
+      };
+      low = clearing.low;
+    }
+
+pub unloads_run : UnloadsRun
+unloads_run n config ports masks cycles table ready suits =
+    let l : Logic = edt_logic n config ports in
+    let rank = edt_rank n config ports ready in
+    let bound : ℕ = (gap_in Edt n config).before + 2 in
+    let masked = masks_run n config ports masks ready rank.0 rank.1 in
+    let now : Now = after_masks n config ports masks masked.run in
+    let unload : List Vector = shifts_from n config table 0 cycles in
+    let next : Vector = shift_vector n config (λ j. table j cycles) in
+    let unloading = goes_on l rank.0 bound now unload rank.1 masked.low (shifts_below n config ready table 0 cycles) in
+    let last = one_more l rank.0 bound (after_turns l now unload unloading.turns) next rank.1 unloading.low (shift_below n config ready (λ j. table j cycles)) in record {
+      masked = masked.run;
+      unload = unload;
+      next = next;
+      vs = unloading.turns;
+      b = last.turn;
+      carries = carry_all n config ready table 0 cycles;
+      count = shifts_count n config ready table 0 cycles;
+      shift = is_shift n config ready (λ j. table j cycles);
+      turns = unloading.are;
+      turn = last.is;
+    }

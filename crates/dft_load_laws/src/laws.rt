@@ -2,6 +2,7 @@
 
 ghost use Rattle.dft_load_laws.specs.Loading.{BitsLoad, ChainsFit, LoadsRun, LoadsSolve, PatternsLoad, PlacedInRuns, UnsolvableInRuns};
 ghost use Rattle.dft_load_laws.specs.Sums.{SumsAreLoads};
+ghost use Rattle.dft_load_laws.specs.Unloading.{UnloadsRun};
 
 /// Each chain that is planned for a design fits a load, and the sums of placement are what a load brings to the cells.
 pub fn loads_bring()
@@ -19,4 +20,9 @@ pub fn cubes_load()
     ensures exact { UnsolvableInRuns }
     ensures placed { PlacedInRuns }
     ensures patterns { PatternsLoad }
+{}
+
+/// For all masks and every table there is a run with an unload, of each number of cycles, under all ports that suit.
+pub fn unloads_run()
+    ensures { UnloadsRun }
 {}

@@ -3,4 +3,4 @@
 
 mod laws;
 
-pub use laws::{cubes_load, loads_bring};
+pub use laws::{cubes_load, loads_bring, unloads_run};

@@ -1,27 +1,27 @@
 //! The values of cells.
 
-ghost use Rattle.std.specs.Prelude.{◌≡◌, ℕ, ◌<◌, [], length, replicate, true, false, IfOk, slice_set};
+ghost use Rattle.std.specs.Prelude.{◌≡◌, ℕ, ◌<◌, [], length, replicate, true, false, IfOk, slice_set, map};
 ghost use Rattle.dft_registers.specs.Layout.{place_at, cells_at, cell_at};
 ghost use Rattle.dft_registers.specs.Cells as spec;
 
 use crate::layout::{Layout, Place};
-use crate::moves::{Move, shift_rows};
+use crate::moves::{Way, shift_rows};
 use crate::registers::{Values, unknown};
-use dft_base::Tri;
+use crate::value::Value;
 use std::alloc::{AllocError, Global};
 use std::marker::Model;
 
 /// The values of cells. Those that follow each other lie in a shift register, whose values move on by one place at once, or
 /// over from another one; all others rest, each by itself. A clause sees where they lie, and the list of their values.
-pub struct Cells {
+pub struct Cells<V> {
     layout: Layout,
     // The values of cells that rest, by cell; those of others tell nothing.
-    resting: Vec<Tri>,
-    rows: Vec<Values>,
+    resting: Vec<V>,
+    rows: Vec<Values<V>>,
 }
 
 // One call for all fields, so that the proof of what owns a value stays short.
-impl Drop for Cells {
+impl<V: Drop> Drop for Cells<V> {
     fn drop(self) {
         let Cells {
             layout: _,
@@ -31,10 +31,10 @@ impl Drop for Cells {
     }
 }
 
-impl Model for Cells {
+impl<V> Model for Cells<V> {
     ghost use Rattle.dft_registers.specs.Cells as spec;
 
-    ghost Value = { spec.Contents };
+    ghost Value = { spec.Contents V };
 
     ghost use Rattle.dft_registers.specs.Cells.{contents_of, AreCells};
 
@@ -44,9 +44,9 @@ impl Model for Cells {
 }
 
 // Values that nobody knows, for each register of a layout.
-fn unknown_rows(alloc: Global, layout: &Layout) -> Result<Vec<Values>, AllocError>
+fn unknown_rows<V: Value>(alloc: Global, layout: &Layout) -> Result<Vec<Values<V>>, AllocError>
     ensures count { IfOk result (λ rows. length rows.items ≡ length layout.now.registers) }
-    ensures each { IfOk result (λ rows. (r : ℕ) → spec.row_at rows.items r ≡ replicate (length (cells_at layout.now.registers r)) Tri.Unknown) }
+    ensures each { IfOk result (λ rows. (r : ℕ) → spec.row_at rows.items r ≡ replicate (length (cells_at layout.now.registers r)) V.unknown_value) }
 {
     let mut rows = Vec::new(alloc);
     for number in 0..layout.registers() {
@@ -55,10 +55,10 @@ fn unknown_rows(alloc: Global, layout: &Layout) -> Result<Vec<Values>, AllocErro
     Ok(rows)
 }
 
-impl Cells {
+impl<V: Value> Cells<V> {
     /// Cells whose values nobody knows, by the cell before each, if there is one.
-    pub fn new(alloc: Global, before: &[Option<u32>]) -> Result<Cells, AllocError>
-        ensures { IfOk result (λ cells. cells.values ≡ replicate (length before.now) Tri.Unknown) }
+    pub fn new(alloc: Global, before: &[Option<u32>]) -> Result<Cells<V>, AllocError>
+        ensures { IfOk result (λ cells. cells.values ≡ replicate (length before.now) V.unknown_value) }
     {
         let layout = Layout::of_chains(alloc, before)?;
         let resting = unknown(alloc, before.len())?;
@@ -87,8 +87,8 @@ impl Cells {
     }
 
     /// The value of a cell, and `Unknown` past the end.
-    pub fn at(&self, cell: usize) -> Tri
-        ensures { result ≡ spec.value_at self.now.values cell }
+    pub fn at(&self, cell: usize) -> V
+        ensures { result ≡ spec.value_or V.unknown_value self.now.values cell }
     {
         if cell < self.resting.len() {
             if self.rests(cell) {
@@ -99,12 +99,12 @@ impl Cells {
                 row.at(place.index as usize)
             }
         } else {
-            Tri::Unknown
+            V::unknown()
         }
     }
 
     /// Writes the value of a cell.
-    pub fn set(&mut self, cell: usize, value: Tri)
+    pub fn set(&mut self, cell: usize, value: V)
         requires { cell < length self.old.values }
         ensures layout { self.new.layout ≡ self.old.layout }
         ensures values { self.new.values ≡ slice_set self.old.values cell value }
@@ -119,7 +119,7 @@ impl Cells {
     }
 
     /// Reads the values of all cells, in their order.
-    pub fn read(&self, row: &mut [Tri])
+    pub fn read(&self, row: &mut [V])
         requires { length row.old ≡ length self.now.values }
         ensures { row.new ≡ self.now.values }
     {
@@ -156,9 +156,9 @@ impl Cells {
 
     /// Moves the values of registers: on by one place, where a register shifts, or over from another one, which stays. The
     /// first register, in which cells rest, is none of them. What a register begins with is then written behind the call.
-    pub fn shift(&mut self, moves: &[Move])
-        requires { spec.CanMove self.old.layout moves.now }
-        ensures { spec.IsShifted moves.now self.old self.new }
+    pub fn shift<W: Way>(&mut self, moves: &[W])
+        requires { spec.CanMove self.old.layout (map W.move_value moves.now) }
+        ensures { spec.IsShifted V.unknown_value (map W.move_value moves.now) self.old self.new }
     {
         shift_rows(moves, &mut self.rows);
     }

@@ -5,7 +5,9 @@ mod cells;
 mod layout;
 mod moves;
 mod registers;
+mod value;
 
 pub use cells::Cells;
 pub use layout::{Layout, Place};
-pub use moves::Move;
+pub use moves::{Move, Way};
+pub use value::Value;

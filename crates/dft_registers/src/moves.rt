@@ -1,9 +1,10 @@
 //! How the values of registers move: on by one place, or over to another register.
 
-ghost use Rattle.std.specs.Prelude.{◌≡◌, ℕ, ◌<◌, ◌≤◌, ◌≢◌, ◌+◌, length};
+ghost use Rattle.std.specs.Prelude.{◌≡◌, ℕ, ◌<◌, ◌≤◌, ◌≢◌, ◌+◌, length, map};
 ghost use Rattle.dft_registers.specs.Cells as spec;
 
 use crate::registers::Values;
+use crate::value::Value;
 
 /// How the values of a register move. What comes in at its beginning is told by none of these.
 #[derive(Clone, Copy)]
@@ -17,18 +18,47 @@ pub enum Move {
     Trails(u32),
 }
 
+/// What says how a register moves.
+pub trait Way: Copy {
+    ghost use Rattle.dft_registers.specs.declared.moves.Move.{Move};
+
+    /// How it moves.
+    ghost move_value: { Self → Move };
+
+    /// How it moves.
+    fn to_move(self) -> Move
+        ensures { result ≡ move_value self };
+}
+
+impl Way for Move {
+    ghost move_value = { λ way. way };
+
+    fn to_move(self) -> Move {
+        self
+    }
+}
+
+/// It shifts where this is true, and stays elsewhere.
+impl Way for bool {
+    ghost move_value = { spec.shifts_if };
+
+    fn to_move(self) -> Move {
+        if self { Move::Shifts } else { Move::Stays }
+    }
+}
+
 // How a register moves; past the end it stays.
-fn move_of(moves: &[Move], number: usize) -> Move
-    ensures { result ≡ spec.move_at moves.now number }
+fn move_of<W: Way>(moves: &[W], number: usize) -> Move
+    ensures { result ≡ spec.move_at (map W.move_value moves.now) number }
 {
     match moves.get(number) {
-        Some(way) => *way,
+        Some(way) => way.to_move(),
         None => Move::Stays,
     }
 }
 
 // Takes the first values of one register to another one, from a place on.
-fn copy_row(rows: &mut [Values], to: usize, from: usize, start: usize)
+fn copy_row<V: Value>(rows: &mut [Values<V>], to: usize, from: usize, start: usize)
     requires live { to < length rows.old }
     requires apart { from ≢ to }
     requires enough { length (spec.row_at rows.old to) ≤ start + length (spec.row_at rows.old from) }
@@ -51,7 +81,7 @@ fn copy_row(rows: &mut [Values], to: usize, from: usize, start: usize)
 }
 
 // Moves the values of one register.
-fn move_row(way: Move, rows: &mut [Values], number: usize)
+fn move_row<V: Value>(way: Move, rows: &mut [Values<V>], number: usize)
     requires live { number < length rows.old }
     requires ready { spec.IsReady rows.old number way }
     ensures count { length rows.new ≡ length rows.old }
@@ -70,10 +100,10 @@ fn move_row(way: Move, rows: &mut [Values], number: usize)
 }
 
 // Moves the values of all registers.
-pub(crate) fn shift_rows(moves: &[Move], rows: &mut [Values])
-    requires { spec.AreSound moves.now (λ r. length (spec.row_at rows.old r)) }
+pub(crate) fn shift_rows<V: Value, W: Way>(moves: &[W], rows: &mut [Values<V>])
+    requires { spec.AreSound (map W.move_value moves.now) (λ r. length (spec.row_at rows.old r)) }
     ensures count { length rows.new ≡ length rows.old }
-    ensures each { (r : ℕ) → spec.row_at rows.new r ≡ spec.moved_row rows.old (spec.move_at moves.now r) (spec.row_at rows.old r) }
+    ensures each { (r : ℕ) → spec.row_at rows.new r ≡ spec.moved_row rows.old (spec.move_at (map W.move_value moves.now) r) (spec.row_at rows.old r) }
 {
     for number in 0..rows.len() {
         move_row(move_of(moves, number), rows, number);

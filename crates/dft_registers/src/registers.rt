@@ -3,7 +3,7 @@
 ghost use Rattle.std.specs.Prelude.{◌≡◌, ℕ, ◌<◌, ◌≤◌, ◌+◌, ◌++◌, ◌∷◌, [], length, replicate, take, drop, ◌-◌, IfOk, OnOk, OnErr, slice_set, slice_index_or};
 ghost use Rattle.dft_registers.specs.Cells.{copied_row};
 
-use dft_base::Tri;
+use crate::value::Value;
 use std::alloc::{AllocError, Global};
 use std::collections::VecDeque;
 use std::marker::Model;
@@ -56,14 +56,14 @@ impl Register {
 }
 
 // So many values that nobody knows.
-pub(crate) fn unknown(alloc: Global, count: usize) -> Result<Vec<Tri>, AllocError>
-    ensures { IfOk result (λ values. values.items ≡ replicate count Tri.Unknown) }
+pub(crate) fn unknown<V: Value>(alloc: Global, count: usize) -> Result<Vec<V>, AllocError>
+    ensures { IfOk result (λ values. values.items ≡ replicate count V.unknown_value) }
 {
-    vec![in alloc; Tri::Unknown; count]
+    vec![in alloc; V::unknown(); count]
 }
 
 // Copies, from a place on, the first of other values.
-fn copy_values(row: &mut [Tri], start: usize, source: &[Tri])
+fn copy_values<V: Copy>(row: &mut [V], start: usize, source: &[V])
     requires { length row.old ≤ start + length source.now }
     ensures { row.new ≡ copied_row start row.old source.now }
 {
@@ -75,23 +75,22 @@ fn copy_values(row: &mut [Tri], start: usize, source: &[Tri])
 
 // The values of a register's cells, in their order. A clause sees them as a list.
 #[derive(Drop)]
-pub(crate) struct Values {
-    values: VecDeque<Tri>,
+pub(crate) struct Values<V> {
+    values: VecDeque<V>,
 }
 
-impl Model for Values {
+impl<V> Model for Values<V> {
     ghost use Rattle.std.specs.Prelude.{List};
-    ghost use Rattle.dft_base.specs.declared.tri.Tri.{Tri};
 
-    ghost Value = { List Tri };
+    ghost Value = { List V };
 
     ghost view = { λ v. v.values.items };
 }
 
-impl Values {
+impl<V: Value> Values<V> {
     // So many that nobody knows.
-    pub(crate) fn unknown(alloc: Global, count: usize) -> Result<Values, AllocError>
-        ensures { IfOk result (λ values. values ≡ replicate count Tri.Unknown) }
+    pub(crate) fn unknown(alloc: Global, count: usize) -> Result<Values<V>, AllocError>
+        ensures { IfOk result (λ values. values ≡ replicate count V.unknown_value) }
     {
         Ok(Values {
             values: VecDeque::from_vec(unknown(alloc, count)?),
@@ -99,17 +98,17 @@ impl Values {
     }
 
     // The value at a place, and `Unknown` past the end.
-    pub(crate) fn at(&self, place: usize) -> Tri
-        ensures { result ≡ slice_index_or self.now place Tri.Unknown }
+    pub(crate) fn at(&self, place: usize) -> V
+        ensures { result ≡ slice_index_or self.now place V.unknown_value }
     {
         match self.values.get(place) {
             Some(value) => *value,
-            None => Tri::Unknown,
+            None => V::unknown(),
         }
     }
 
     // Writes the value at a place.
-    pub(crate) fn set(&mut self, place: usize, value: Tri)
+    pub(crate) fn set(&mut self, place: usize, value: V)
         requires { place < length self.old }
         ensures { self.new ≡ slice_set self.old place value }
     {
@@ -126,7 +125,7 @@ impl Values {
     }
 
     // Takes, from a place on, the first values of another register.
-    pub(crate) fn copy(&mut self, start: usize, source: &mut Values)
+    pub(crate) fn copy(&mut self, start: usize, source: &mut Values<V>)
         requires { length self.old ≤ start + length source.old }
         ensures copied { self.new ≡ copied_row start self.old source.old }
         ensures source { source.new ≡ source.old }

@@ -5,7 +5,8 @@ ghost use Rattle.dft_replay.specs.Laws.{PassIsSound, MismatchIsSound, VerdictIsO
 ghost use Rattle.dft_replay.specs.Plain.{VerdictIsPlain};
 
 /// Where the verdict is Pass, every run shows each compared bit as printed: for any design with an order, whoever
-/// wrote the patterns, any starting bits, any order of the rises and of the falls in each vector, and any free bits.
+/// wrote the patterns, any starting bits, any order of the rises and of the falls in each vector, any of them at once, and
+/// any free bits.
 pub fn pass_is_sound()
     ensures { PassIsSound }
 {}
@@ -28,7 +29,8 @@ pub fn verdict_is_plain()
 {}
 
 /// Every choice is that of a run of a design with an order: any start with low clocks, any order of the rises and of
-/// the falls in each vector, and any free bits at each moment. So what holds in every run is never said of none.
+/// the falls in each vector, any of them at once, and any free bits at each moment. So what holds in every run is never
+/// said of none.
 pub fn every_choice_runs()
     ensures { EveryChoiceRuns }
 {}

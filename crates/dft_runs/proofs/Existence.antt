@@ -1,8 +1,8 @@
 -- Runs exist: moment by moment there is one settled assignment.
-use Rattle.std.proofs.Common.{ℕ, ◌+◌, ◌==◌, List, [], ◌∷◌, ◌++◌, ◌≡◌, refl, ap, map, ◌∙◌, true, false}
+use Rattle.std.proofs.Common.{ℕ, Bool, ◌+◌, List, [], ◌∷◌, ◌++◌, ◌≡◌, refl, ap, map, ◌∙◌, true, false}
 use Rattle.std.specs.Prelude.{if◌then◌else◌}
 use Rattle.dft_behavior.specs.Logic.{Logic, IsRanked}
-use Rattle.dft_behavior.specs.Runs.{State, Moment, Now, sources_of, IsNow, Event, Set, event_of, after_event, at_moment, Step, next_now, after, AreSteps, Vector, Edge, Turn, edge_step, times, IsOrder, IsTurn, after_turn, AreTurns}
+use Rattle.dft_behavior.specs.Runs.{State, Moment, Now, sources_of, IsNow, Event, Set, event_of, after_event, at_moment, Step, next_now, after, AreSteps, Vector, Edge, Turn, edge_step, times, AreOfSome, IsOrder, IsTurn, after_turn, AreTurns}
 use Rattle.dft_behavior.proofs.OneSettled.{settled_one}
 use Rattle.dft_runs.specs.Choices.{SameEdges, SameChoice, SameChoices, AreOrders, ChoicesRun}
 
@@ -15,31 +15,42 @@ settled_now l rank ranked s m = (settled_one l rank (sources_of (record { state 
 
 -- ---- edges
 
-abbrev event_step : (ℕ → Event) → Edge → Step
-event_step event e = record { event = event e.domain; moment = e.moment }
+abbrev event_step : ((ℕ → Bool) → Event) → Edge → Step
+event_step event e = record { event = event e.domains; moment = e.moment }
 
-abbrev settled_edge : (l : Logic) (rank : ℕ → ℕ) → IsRanked l rank → (ℕ → Event) → Now → Edge → Edge
-settled_edge l rank ranked event now e = record { domain = e.domain; moment = settled l rank ranked (at_moment l e.moment (after_event l now (event e.domain))) e.moment }
+abbrev settled_edge : (l : Logic) (rank : ℕ → ℕ) → IsRanked l rank → ((ℕ → Bool) → Event) → Now → Edge → Edge
+settled_edge l rank ranked event now e = record { domains = e.domains; moment = settled l rank ranked (at_moment l e.moment (after_event l now (event e.domains))) e.moment }
 
-abbrev settled_edges : (l : Logic) (rank : ℕ → ℕ) → IsRanked l rank → (ℕ → Event) → Now → List Edge → List Edge
+abbrev settled_edges : (l : Logic) (rank : ℕ → ℕ) → IsRanked l rank → ((ℕ → Bool) → Event) → Now → List Edge → List Edge
 settled_edges l rank ranked event now [] = []
 settled_edges l rank ranked event now (e ∷ es) =
     settled_edge l rank ranked event now e ∷ settled_edges l rank ranked event (next_now l now (event_step event (settled_edge l rank ranked event now e))) es
 
-edges_step : (l : Logic) (rank : ℕ → ℕ) (ranked : IsRanked l rank) (event : ℕ → Event) (now : Now) (es : List Edge) → AreSteps l now (map (event_step event) (settled_edges l rank ranked event now es))
+edges_step : (l : Logic) (rank : ℕ → ℕ) (ranked : IsRanked l rank) (event : (ℕ → Bool) → Event) (now : Now) (es : List Edge) → AreSteps l now (map (event_step event) (settled_edges l rank ranked event now es))
 edges_step l rank ranked event now [] = tt
 edges_step l rank ranked event now (e ∷ es) = (
-  settled_now l rank ranked (at_moment l e.moment (after_event l now (event e.domain))) e.moment,
+  settled_now l rank ranked (at_moment l e.moment (after_event l now (event e.domains))) e.moment,
   edges_step l rank ranked event (next_now l now (event_step event (settled_edge l rank ranked event now e))) es,
 )
 
-edges_same : (l : Logic) (rank : ℕ → ℕ) (ranked : IsRanked l rank) (event : ℕ → Event) (now : Now) (es : List Edge) → SameEdges es (settled_edges l rank ranked event now es)
+edges_same : (l : Logic) (rank : ℕ → ℕ) (ranked : IsRanked l rank) (event : (ℕ → Bool) → Event) (now : Now) (es : List Edge) → SameEdges es (settled_edges l rank ranked event now es)
 edges_same l rank ranked event now [] = tt
 edges_same l rank ranked event now (e ∷ es) = (refl, (record { free = refl; loose = refl }, edges_same l rank ranked event (next_now l now (event_step event (settled_edge l rank ranked event now e))) es))
 
-edges_times : (l : Logic) (rank : ℕ → ℕ) (ranked : IsRanked l rank) (event : ℕ → Event) (now : Now) (es : List Edge) (d : ℕ) → times d (settled_edges l rank ranked event now es) ≡ times d es
+edges_times : (l : Logic) (rank : ℕ → ℕ) (ranked : IsRanked l rank) (event : (ℕ → Bool) → Event) (now : Now) (es : List Edge) (d : ℕ) → times d (settled_edges l rank ranked event now es) ≡ times d es
 edges_times l rank ranked event now [] d = refl
-edges_times l rank ranked event now (e ∷ es) d = ap (λ k. (if d == e.domain then 1 else 0) + k) (edges_times l rank ranked event (next_now l now (event_step event (settled_edge l rank ranked event now e))) es d)
+edges_times l rank ranked event now (e ∷ es) d = ap (λ k. (if e.domains d then 1 else 0) + k) (edges_times l rank ranked event (next_now l now (event_step event (settled_edge l rank ranked event now e))) es d)
+
+edges_some : (l : Logic) (rank : ℕ → ℕ) (ranked : IsRanked l rank) (event : (ℕ → Bool) → Event) (now : Now) (es : List Edge) → AreOfSome es → AreOfSome (settled_edges l rank ranked event now es)
+edges_some l rank ranked event now [] some = tt
+edges_some l rank ranked event now (e ∷ es) some = (some.0, edges_some l rank ranked event (next_now l now (event_step event (settled_edge l rank ranked event now e))) es some.1)
+
+-- which clocks rise or fall at once stays, and in which order
+edges_order : (l : Logic) (rank : ℕ → ℕ) (ranked : IsRanked l rank) (event : (ℕ → Bool) → Event) (now : Now) (pulsed : ℕ → Bool) (es : List Edge) → IsOrder pulsed es → IsOrder pulsed (settled_edges l rank ranked event now es)
+edges_order l rank ranked event now pulsed es order = record {
+  once = λ d. edges_times l rank ranked event now es d ∙ order.once d;
+  some = edges_some l rank ranked event now es order.some;
+}
 
 steps_join : (l : Logic) (now : Now) (front back : List Step) → AreSteps l now front → AreSteps l (after l now front) back → AreSteps l now (front ++ back)
 steps_join l now [] back first second = second
@@ -72,8 +83,8 @@ module _ (l : Logic) (rank : ℕ → ℕ) (ranked : IsRanked l rank) where
           settled_now l rank ranked (at_moment l t.strobe (after_event l now (Set x.ports))) t.strobe,
           steps_join l first (map (edge_step true) (turn_rises x now t)) (map (edge_step false) (turn_falls x now t)) (edges_step l rank ranked (event_of true) first t.rises) (edges_step l rank ranked (event_of false) last t.falls),
         );
-        rises = λ d. edges_times l rank ranked (event_of true) first t.rises d ∙ rises d;
-        falls = λ d. edges_times l rank ranked (event_of false) last t.falls d ∙ falls d;
+        rises = edges_order l rank ranked (event_of true) first x.pulsed t.rises rises;
+        falls = edges_order l rank ranked (event_of false) last x.pulsed t.falls falls;
       }
 
   turn_same : (x : Vector) (now : Now) (t : Turn) → SameChoice t (settled_turn x now t)

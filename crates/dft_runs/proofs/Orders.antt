@@ -3,7 +3,7 @@ use Rattle.std.proofs.Common.{ℕ, zero, suc, Bool, true, false, ◌+◌, ◌<�
 use Rattle.std.specs.Prelude.{◌≤◌, if◌then◌else◌}
 use Rattle.dft_base.proofs.NumberLemmas.{less_apart, more_apart, same_number}
 use Rattle.dft_netlist.proofs.LiveLemmas.{le_or_lt}
-use Rattle.dft_behavior.specs.Runs.{Moment, Vector, Edge, Turn, times, IsOrder}
+use Rattle.dft_behavior.specs.Runs.{Moment, Vector, Edge, Turn, times, AreOfSome, IsOrder}
 use Rattle.dft_runs.specs.Choices.{OrdersExist, RunsExist}
 use Rattle.dft_runs.proofs.Existence.{choices_run}
 
@@ -12,7 +12,7 @@ abbrev still : Moment
 still = record { free = λ net. false; loose = λ i pin. false; seen = λ net. false }
 
 abbrev edge_of : ℕ → Edge
-edge_of d = record { domain = d; moment = still }
+edge_of d = record { domains = λ e. e == d; moment = still }
 
 -- an edge of each pulsed clock below a number
 abbrev edges_below : (pulsed : ℕ → Bool) → ℕ → List Edge
@@ -42,11 +42,22 @@ not_past : (t : Bool) (bound d : ℕ) → bound ≤ d → (t ≡ true → d < bo
 not_past true bound d past below = absurd (let less = below refl in omega (arith, less))
 not_past false bound d past below = refl
 
+or_some : (t : Bool) (n : ℕ) (es : List Edge) → AreOfSome es → AreOfSome (if t then edge_of n ∷ es else es)
+or_some true n es some = ((n, same_number n), some)
+or_some false n es some = some
+
+some_below : (pulsed : ℕ → Bool) (n : ℕ) → AreOfSome (edges_below pulsed n)
+some_below pulsed zero = tt
+some_below pulsed (suc n) = or_some (pulsed n) n (edges_below pulsed n) (some_below pulsed n)
+
 is_order : (pulsed : ℕ → Bool) (bound : ℕ) → ((d : ℕ) → pulsed d ≡ true → d < bound) → IsOrder pulsed (edges_below pulsed bound)
-is_order pulsed bound below d = elim (le_or_lt bound d) [
-  | inr less ↦ one_below pulsed bound d less
-  | inl past ↦ none_past pulsed bound d past ∙ sym (not_past (pulsed d) bound d past (below d))
-]
+is_order pulsed bound below = record {
+  once = λ d. elim (le_or_lt bound d) [
+    | inr less ↦ one_below pulsed bound d less
+    | inl past ↦ none_past pulsed bound d past ∙ sym (not_past (pulsed d) bound d past (below d))
+  ];
+  some = some_below pulsed bound;
+}
 
 abbrev turn_of : (bound : ℕ) → Vector → Turn
 turn_of bound x = record { strobe = still; rises = edges_below x.pulsed bound; falls = edges_below x.pulsed bound }

@@ -1,4 +1,4 @@
--- What a run is free to choose: its start, the orders of the edges, and the free bits of every moment; every choice is that of a run.
+-- What a run is free to choose: its start, which clocks have their edges at once and in which order, and the free bits of every moment; every choice is that of a run.
 use Rattle.std.specs.Prelude.{ℕ, true, ◌<◌, ◌≡◌, List, [], ◌∷◌}
 use Rattle.dft_behavior.specs.Logic.{Logic, IsRanked}
 use Rattle.dft_behavior.specs.Runs.{Moment, Now, Vector, Edge, Turn, IsOrder, AreLow, IsRun}
@@ -8,12 +8,12 @@ pub record SameFree (m k : Moment) : Type 0 where
   pub free : m.free ≡ k.free
   pub loose : m.loose ≡ k.loose
 
--- the same edges in the same order, with the same free bits after each
+-- the same edges, of the same domains at once, in the same order, with the same free bits after each
 abbrev pub SameEdges : List Edge → List Edge → Type 0
 SameEdges [] [] = Unit {0}
 SameEdges [] (e ∷ es) = ⊥
 SameEdges (d ∷ ds) [] = ⊥
-SameEdges (d ∷ ds) (e ∷ es) = (d.domain ≡ e.domain) × (SameFree d.moment e.moment × SameEdges ds es)
+SameEdges (d ∷ ds) (e ∷ es) = (d.domains ≡ e.domains) × (SameFree d.moment e.moment × SameEdges ds es)
 
 -- two turns differ by their settled bits alone
 pub record SameChoice (t u : Turn) : Type 0 where

@@ -4,8 +4,9 @@ ghost use Rattle.dft_runs.specs.Choices.{ChoicesRun, OrdersExist, RunsExist};
 ghost use Rattle.dft_runs.specs.Passes.{RoundPasses, RoundsPass, TurnPasses, TurnsPass};
 ghost use Rattle.dft_runs.specs.WiderPorts.{PortsWiden};
 
-/// Runs exist: over any vectors that pulse finitely many clocks there is an order of the edges, and every order, start
-/// with low clocks and choice of free bits is that of a run. So what holds in every run is never said of none.
+/// Runs exist: over any vectors that pulse finitely many clocks there is an order of the edges, and every order, with any
+/// clocks at once, start with low clocks and choice of free bits is that of a run. So what holds in every run is never said
+/// of none.
 pub fn runs_exist()
     ensures choices { ChoicesRun }
     ensures orders { OrdersExist }

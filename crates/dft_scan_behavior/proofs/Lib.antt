@@ -24,3 +24,6 @@ pub mod Captured
 pub mod FlopsListed
 pub mod FlopsPlaced
 pub mod FlopsOrdered
+pub mod NamedNets
+pub mod ShiftRuns
+pub mod EventRuns

@@ -4,3 +4,4 @@ pub mod EdtVectors
 pub mod Experiments
 pub mod Capturing
 pub mod FlopOrder
+pub mod Existence

@@ -2,6 +2,7 @@
 
 ghost use Rattle.dft_scan_behavior.specs.Capturing.{CapturesFollow, StrobesFollow};
 ghost use Rattle.dft_scan_behavior.specs.EdtVectors.{HasEdtUnder, VectorsAct, VectorsActInRuns};
+ghost use Rattle.dft_scan_behavior.specs.Existence.{EventsRunWhileOff, ShiftsRun};
 ghost use Rattle.dft_scan_behavior.specs.Experiments.{LoadsReach, UnloadsShow};
 ghost use Rattle.dft_scan_behavior.specs.Facts.{HasEdtHardware, HasPlainHardware, HasScanChains};
 ghost use Rattle.dft_scan_behavior.specs.FlopOrder.{FlopsInOrder};
@@ -18,10 +19,12 @@ pub fn scanned_has()
     ensures order { FlopsInOrder }
 {}
 
-/// In style Plain, in every run, the chains shift by one place a shift vector, and each scan output shows its last cell.
+/// In style Plain, in every run, the chains shift by one place a shift vector, and each scan output shows its last cell. Each table of bits
+/// is shifted in by some run.
 pub fn plain_shifts()
     ensures shifts { ScannedShifts }
     ensures shows { ScannedShows }
+    ensures run { ShiftsRun }
 {}
 
 /// In style Edt, what one vector does to the hardware: in every run, and on the abstract cycle for any halves.
@@ -42,4 +45,10 @@ pub fn edt_loads()
 pub fn edt_captures()
     ensures strobes { StrobesFollow }
     ensures captures { CapturesFollow }
+{}
+
+/// From any two starts a design and its scanned netlist with scan_enable 0 go through the same events, whatever the design's events and
+/// free bits are: so what is said of both while scan is off is never said of none.
+pub fn events_run()
+    ensures { EventsRunWhileOff }
 {}

@@ -3,4 +3,4 @@
 
 mod laws;
 
-pub use laws::{edt_acts, edt_captures, edt_loads, plain_shifts, scanned_has};
+pub use laws::{edt_acts, edt_captures, edt_loads, events_run, plain_shifts, scanned_has};

@@ -1,5 +1,5 @@
 -- How many ports are added, and the nets of a design that are read and that are roots.
-use Rattle.std.proofs.Common.{ℕ, ◌+◌, ◌≡◌, ◌<◌, inl, inr, false, Some, List, ◌∷◌, length, refl, sym, subst, ap, arith, ◌∙◌, []}
+use Rattle.std.proofs.Common.{ℕ, ◌+◌, ◌≡◌, ◌<◌, inl, inr, false, Some, List, ◌∷◌, length, sym, subst, arith, ◌∙◌, []}
 use Rattle.std.specs.List.{AllByRecursion, range_with_len}
 use Rattle.std.proofs.lemmas.List.{length-append, length-map}
 use Rattle.std.proofs.lemmas.List.FromFn.{length-range_with_len}

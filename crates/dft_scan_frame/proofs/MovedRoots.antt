@@ -1,5 +1,5 @@
 -- A net of a design has in the scanned netlist the root that it had, moved: it traces to where it traced, and shows the clock that it showed.
-use Rattle.std.proofs.Common.{ℕ, zero, suc, ◌≡◌, ◌<◌, ◌≤◌, Bool, true, false, List, ◌∷◌, length, map, Option, None, Some, option_map, refl, ap, arith, ◌∙◌, []}
+use Rattle.std.proofs.Common.{ℕ, zero, suc, ◌≡◌, ◌<◌, ◌≤◌, Bool, true, false, List, ◌∷◌, length, map, option_map, refl, ap, arith, ◌∙◌, []}
 use Rattle.dft_cells.specs.declared.kind.Gate.{Gate as GateKind}
 use Rattle.dft_cells.specs.declared.kind.Gate.TheVariants as gate
 use Rattle.dft_netlist.specs.Netlist.{Netlist}

@@ -11,7 +11,7 @@ use Rattle.dft_seek.specs.declared.found.Found.TheVariants as found
 use Rattle.dft_seek.specs.Searches.{Completes, Detects, Given, Search}
 use Rattle.dft_seek.specs.Walks.{Cell, Cone, IsCone, Port, Variable}
 use Rattle.dft_seek.specs.Trees.{Tree, bit_for, node_at, same_variable}
-use Rattle.dft_seek.specs.Sought.{CompletesCube, HaveCells, HavePorts, cells_given, cube_at, ports_given, told}
+use Rattle.dft_seek.specs.Sought.{CompletesCube, IsSought, HaveCells, HavePorts, cells_given, cube_at, ports_given, told}
 use Rattle.dft_seek.specs.Laws.{CanSeek, CubeIsTrue, NoneIsTrue}
 use Rattle.dft_seek.proofs.Rising.{cubes_detect}
 use Rattle.dft_seek.proofs.Hanging.{same_is}
@@ -45,16 +45,28 @@ cube_or other (found.Cube cube) = cube
 cube_or other found.NotTestable = other
 cube_or other found.Aborted = other
 
-by_cube : (s : Search) (rank : ℕ → ℕ) (cone : Cone) (name : Text) (cube : Cube) (g : Given) (many : Bool) (dead : ℕ) (o : Option (List Bool)) → CanSeek s rank → IsCone s cone → Tree s cone [] dead o → CompletesCube cube g →
-    found.Cube cube ≡ (if many then found.Aborted else told name s.domain cone.variables o) → Detects s g
-by_cube s rank cone name cube g true dead o can is_cone tree more is = absurd cc
-by_cube s rank cone name cube g false dead None can is_cone tree more is = absurd cc
-by_cube s rank cone name cube g false dead (Some bits) can is_cone tree more is =
+-- a cube that is told is that of a found node
+pub record IsOfNode (s : Search) (cone : Cone) (name : Text) (dead : ℕ) (cube : Cube) : Type 0 where
+  pub bits : List Bool
+  pub tree : Tree s cone [] dead (Some bits)
+  pub is : cube ≡ cube_at name s.domain cone.variables bits
+  pub completes : (g : Given) → CompletesCube cube g → Completes (node_at cone.variables bits) g
+
+by_cube : (s : Search) (cone : Cone) (name : Text) (cube : Cube) (many : Bool) (dead : ℕ) (o : Option (List Bool)) → Tree s cone [] dead o →
+    found.Cube cube ≡ (if many then found.Aborted else told name s.domain cone.variables o) → IsOfNode s cone name dead cube
+by_cube s cone name cube true dead o tree is = absurd cc
+by_cube s cone name cube false dead None tree is = absurd cc
+by_cube s cone name cube false dead (Some bits) tree is =
     let same : cube ≡ cube_at name s.domain cone.variables bits = ap (cube_or cube) is in
-    cubes_detect s rank cone [] bits dead g can is_cone tree (node_completes name s.domain cone.variables bits g (subst (λ (x : Cube). CompletesCube x g) same more))
+    record { bits = bits; tree = tree; is = same; completes = λ g more. node_completes name s.domain cone.variables bits g (subst (λ (x : Cube). CompletesCube x g) same more) }
+
+pub cube_node : (s : Search) (limit : ℕ) (name : Text) (cube : Cube) → (is : IsSought s limit name (found.Cube cube)) → IsOfNode s is.cone name is.dead cube
+cube_node s limit name cube is = by_cube s is.cone name cube (nat_lt limit is.dead) is.dead is.found is.tree is.is
 
 pub cube_true : CubeIsTrue
-cube_true s rank limit name cube g can is more = by_cube s rank is.cone name cube g (nat_lt limit is.dead) is.dead is.found can is.is_cone is.tree more is.is
+cube_true s rank limit name cube g can is more =
+    let node = cube_node s limit name cube is in
+    cubes_detect s rank is.cone [] node.bits is.dead g can is.is_cone node.tree (node.completes g more)
 
 none_found : (many : Bool) (name : Text) (domain : ℕ) (vs : List Variable) (o : Option (List Bool)) → found.NotTestable ≡ (if many then found.Aborted else told name domain vs o) → o ≡ None
 none_found true name domain vs o is = absurd cc

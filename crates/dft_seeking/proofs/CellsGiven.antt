@@ -160,7 +160,7 @@ cell_of cell = Cell cell.0
 abbrev port_of : NetId → Variable
 port_of net = Port net.0
 
-candidates_apart : (s : Search) → IsNetlist s.design → IsInRange s.config → AreApart (candidates s)
+pub candidates_apart : (s : Search) → IsNetlist s.design → IsInRange s.config → AreApart (candidates s)
 candidates_apart s sound range =
     apart_append (map cell_of (cells_in s)) (map port_of (drivable_ports s))
     (apart_map cell_of (λ a b same. ap (λ (k : ℕ). record { 0 = k }) (ap (cell_or a.0) same)) (cells_in s) (cells_apart s.design s.config range))
@@ -172,7 +172,7 @@ cell_by : (s : Search) (c : ℕ) → StandsIn (map cell_of (cells_in s)) (Cell c
 cell_by s c (inl there) = let m = made_of cell_of (cells_in s) (Cell c) there in subst (StandsIn (cells_in s)) (ap (λ (k : ℕ). record { 0 = k }) (ap (cell_or c) m.is)) m.stands
 cell_by s c (inr there) = let m = made_of port_of (drivable_ports s) (Cell c) there in absurd (no_both c m.from.0 (sym m.is))
 
-port_by : (s : Search) (net : ℕ) → StandsIn (map cell_of (cells_in s)) (Port net) ⊎ StandsIn (map port_of (drivable_ports s)) (Port net) → StandsIn (drivable_ports s) (record { 0 = net })
+pub port_by : (s : Search) (net : ℕ) → StandsIn (map cell_of (cells_in s)) (Port net) ⊎ StandsIn (map port_of (drivable_ports s)) (Port net) → StandsIn (drivable_ports s) (record { 0 = net })
 port_by s net (inl there) = let m = made_of cell_of (cells_in s) (Port net) there in absurd (no_both m.from.0 net m.is)
 port_by s net (inr there) = let m = made_of port_of (drivable_ports s) (Port net) there in subst (StandsIn (drivable_ports s)) (ap (λ (k : ℕ). record { 0 = k }) (ap (port_or net) m.is)) m.stands
 

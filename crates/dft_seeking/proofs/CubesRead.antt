@@ -1,5 +1,5 @@
 -- The cube file of a search is read as the cubes that were found.
-use Rattle.std.proofs.Common.{ℕ, zero, suc, ◌+◌, ◌≤◌, ◌<◌, ◌^◌, ◌≡◌, ◌∙◌, Bool, true, false, cond, ltb, List, [], ◌∷◌, ◌++◌, length, filter, Option, None, Some, slice_get, refl, sym, ap, subst, arith}
+use Rattle.std.proofs.Common.{ℕ, zero, suc, ◌+◌, ◌≤◌, ◌<◌, ◌^◌, ◌≡◌, ◌∙◌, Bool, true, false, cond, ltb, List, [], ◌∷◌, ◌++◌, length, filter, Option, None, Some, Ok, slice_get, refl, sym, ap, subst, arith}
 use Rattle.std.specs.Prelude.{if◌then◌else◌, nat_lt}
 use Rattle.std.proofs.lemmas.Bool.Decides.{nat_tests}
 use Rattle.std.proofs.lemmas.Fmt.{decimal_injective}
@@ -18,7 +18,7 @@ use Rattle.dft_cubes.specs.declared.limits.TheConstants.{MAX_CUBES}
 use Rattle.dft_cubes.specs.Cubes.{cubes_of}
 use Rattle.dft_cubes.specs.Laws.{IsCube}
 use Rattle.dft_cubes_out.specs.Laws.{CanBeWritten, IsWord}
-use Rattle.dft_cubes_out.specs.Written.{clock_name, name_of, port_name}
+use Rattle.dft_cubes_out.specs.Written.{clock_name, cubes_text, name_of, port_name}
 use Rattle.dft_cubes_out.proofs.ReadLemmas.{written_cubes_are_read, there as stands_there}
 use Rattle.dft_faults.specs.declared.fault.Fault.{Fault}
 use Rattle.dft_seek.specs.declared.found.Found.{Found}
@@ -173,13 +173,16 @@ domain_there [] domain is = absurd (let some : 0 < 0 = is.some in omega (arith, 
 domain_there (x ∷ domains) zero is = omega arith
 domain_there (x ∷ domains) (suc domain) is = omega (arith, domain_there domains domain is)
 
-pub saved_read : SavedAreRead
-saved_read n config domain limit s sound range clock done plain =
-    let told = done.told in
+-- the text of what is told
+pub told_read : (n : Netlist) (config : Config) (domain limit : ℕ) (told : List Told) → IsNetlist n → IsInRange config → IsWord (clock_name config domain) → AreTold n config domain limit told → refusal n config told ≡ None →
+    ((k : ℕ) (cube : Cube) → slice_get (cubes_in told) k ≡ Some cube → GivesPlain n cube) → cubes_of n config (cubes_text n config (cubes_in told)) ≡ Ok (cubes_in told)
+told_read n config domain limit told sound range clock are passed plain =
     let there = domain_there config.domains domain clock.name in
-    let from = told_from n config domain limit told sound done.are in
-    let few = few_told n config domain limit told sound done.are in
-    ap (cubes_of n config) done.ended.cubes
-    ∙ written_cubes_are_read n config (cubes_in told) sound range (told_cubes n config domain limit told sound range there done.are)
+    let from = told_from n config domain limit told sound are in
+    let few = few_told n config domain limit told sound are in
+    written_cubes_are_read n config (cubes_in told) sound range (told_cubes n config domain limit told sound range there are)
     (λ k cube at. (let f = from.each k cube at in can_be n config domain f.0 cube sound range (let less = f.1.1.0 in omega (arith, less, few)) clock f.1.1.1 (plain k cube at)))
-    (omega (arith, counted told, few_cubes n config told done.ended.passed))
+    (omega (arith, counted told, few_cubes n config told passed))
+
+pub saved_read : SavedAreRead
+saved_read n config domain limit s sound range clock done plain = ap (cubes_of n config) done.ended.cubes ∙ told_read n config domain limit done.told sound range clock done.are done.ended.passed plain

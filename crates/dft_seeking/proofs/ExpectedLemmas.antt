@@ -15,11 +15,11 @@ use Rattle.dft_netlist.specs.Netlist.{Netlist}
 use Rattle.dft_netlist.specs.Connections.{input_net, pin_of}
 use Rattle.dft_netlist.specs.Drivers.{Source, Driver, driver, pins_of}
 use Rattle.dft_netlist.specs.Drivers as drivers
-use Rattle.dft_behavior.specs.Logic.{Cell, Clock, Flop, Free, Input, Logic, flip_flop, flop_meaning, meaning_of, takes_of, forces_of}
+use Rattle.dft_behavior.specs.Logic.{Cell, Clock, Flop, Free, Input, Logic, flip_flop, flop_meaning, forcing, meaning_of, takes_of, forces_of}
 use Rattle.dft_behavior.specs.Runs.{Vector, takes}
 use Rattle.dft_behavior.specs.Settled.{inverse, value_from, value_given}
 use Rattle.dft_behavior.proofs.StoredLemmas.{flop_cell, lockup_kind}
-use Rattle.dft_cells.specs.FlipFlops.{Takes, tri_taken_by, tri_forced_by}
+use Rattle.dft_cells.specs.FlipFlops.{Forces, Takes, tri_taken_by, tri_forced_by}
 use Rattle.dft_abstract.specs.Cycle.{strobe_sources}
 use Rattle.dft_abstract.specs.Laws.{next_from}
 use Rattle.dft_config.specs.Config.{Config}
@@ -46,7 +46,7 @@ use Rattle.dft_expect.proofs.ScannedCells.{no_lockup}
 use Rattle.dft_expect.proofs.VectorLemmas.{chained as chained_at}
 use Rattle.dft_capture.specs.Captures.{IsSettledFrom, after_moves, captured, meaning_in, next_by_pins, sources_at}
 use Rattle.dft_seek.specs.Searches.{Search, cells_in, has_cell, is_of, moving_of, port_values, takes_at}
-use Rattle.dft_seek.proofs.RigLemmas.{cell_live, cell_there, net_named}
+use Rattle.dft_seek.proofs.RigLemmas.{cell_live, cell_there, net_named, no_clock_resets}
 use Rattle.dft_seeking.specs.Expected.{ExpectedIsShown, IsShown, given_by}
 use Rattle.dft_seeking.proofs.ApartLemmas.{StandsIn}
 use Rattle.dft_seeking.proofs.CellsGiven.{scanned_there}
@@ -90,6 +90,49 @@ stands_by c (x ∷ cells) is = by (x.0 == c) refl is (stands_by c cells)
     by : (b : Bool) → (x.0 == c) ≡ b → (b || has_cell cells c) ≡ true → (has_cell cells c ≡ true → StandsIn cells (record { 0 = c })) → StandsIn (x ∷ cells) (record { 0 = c })
     by true here any rest = (0, ap (λ (k : ℕ). Some (record { 0 = k })) (eqb-true x.0 c here))
     by false other any rest = let r = rest any in (suc r.0, r.1)
+
+-- a scanned cell is one on the clock of its domain, by its pins
+record HasPins (s : Search) (c : ℕ) : Type 0 where
+  scanned : IsScanned s.design s.config c
+  clock : IsClocked s.design s.config c scanned.domain scanned.falling
+  forces : Forces ℕ
+  forced : forcing s.design (config_ports s.design s.config) (forces_of c (pins_of s.design c)) ≡ Some forces
+  is : (original s.design s.config).cell c ≡ record { domain = clock.net; falling = scanned.falling; takes = takes_of c (pins_of s.design c); forces = forces }
+
+has_pins : (s : Search) → CanCapture s.design s.config → (c : ℕ) → has_cell (cells_in s) c ≡ true → HasPins s c
+has_pins s can c holds =
+    let n : Netlist = s.design in
+    let config : Config = s.config in
+    let it : IsScanned n config c = scanned_there n config can.range (record { 0 = c }) (stands_by c (cells_in s) holds) in
+    let verdict : IsVerdict n config c it.domain it.falling = verdict_passes n config c it.domain it.falling it.is in
+    let clock : IsClocked n config c it.domain it.falling = clocked n config c it.domain it.falling verdict.passed.is_clock in
+    let force = force_pins n config (pin_of role.Reset c (pins_of n c)) (pin_of role.Preset c (pins_of n c)) verdict.passed.is_held in
+    record {
+      scanned = it;
+      clock = clock;
+      forces = force.0;
+      forced = force.1;
+      is = flop_cell n (config_ports n config) c _ (scanned_flop n config c it.domain it.falling force.0 verdict.kind clock force.1);
+    }
+
+clock_at : (s : Search) → CanCapture s.design s.config → (c domain : ℕ) (falling : Bool) → has_cell (cells_in s) c ≡ true → judged s.design s.config c ≡ Some (Scanned domain falling) →
+    clock_of (judgements s.design s.config) (record { 0 = c }) ≡ Some (record { domain = domain; falling = falling })
+clock_at s can c domain falling holds is =
+    ap clock_in (get_or-map-range_with_len (judged s.design s.config) 0 (length s.design.instances) c c None (cell_live s.design s.config c can holds) (omega arith) ∙ is)
+
+-- it takes its next value where the clock of the search's domain is its own, at its edge
+pub takes_edge : (s : Search) → CanCapture s.design s.config → (rising : Bool) (c : ℕ) → has_cell (cells_in s) c ≡ true →
+    (is_net ((original s.design s.config).cell c).domain (capture_clock s.design s.config s.domain) && takes rising ((original s.design s.config).cell c).falling)
+    ≡ is_of s.domain (not rising) (clock_of (judgements s.design s.config) (record { 0 = c }))
+takes_edge s can rising c holds =
+    let n : Netlist = s.design in
+    let config : Config = s.config in
+    let it : HasPins s c = has_pins s can c holds in
+    let domain : ℕ = it.scanned.domain in
+    let pulse = pulse_is n config it.clock.net domain s.domain it.clock.name can.range it.clock.named it.clock.is in
+    let edge = edge_bit rising it.scanned.falling in
+    ap (λ (k : Cell). is_net k.domain (capture_clock n config s.domain) && takes rising k.falling) it.is ∙ (λ i. pulse i && edge i)
+    ∙ sym (ap (is_of s.domain (not rising)) (clock_at s can c domain it.scanned.falling holds it.scanned.is))
 
 inverted_unknown : (inverted : Bool) (t : Tri) → t ≡ Unknown → (if inverted then inverse t else t) ≡ Unknown
 inverted_unknown true t is = ap inverse is
@@ -155,11 +198,6 @@ module _ (s : Search) (can : CanCapture s.design s.config) (merged : Merged) (lo
 
   -- ---- edges
 
-  clock_at : (c domain : ℕ) (falling : Bool) → has_cell (cells_in s) c ≡ true → judged s.design s.config c ≡ Some (Scanned domain falling) →
-      clock_of (judgements s.design s.config) (record { 0 = c }) ≡ Some (record { domain = domain; falling = falling })
-  clock_at c domain falling holds is =
-      ap clock_in (get_or-map-range_with_len (judged s.design s.config) 0 (length s.design.instances) c c None (cell_live s.design s.config c can holds) (omega arith) ∙ is)
-
   -- what is expected to move moves, and takes the same value
   moved_same : (rising : Bool) (values held from : ℕ → Tri) → IsSettledFrom s.design (moving_of s) ports from values → (c : ℕ) (h : Bool) → has_cell (cells_in s) c ≡ h →
       (if h && (x.pulsed (l.cell c).domain && takes rising (l.cell c).falling) then next_from l x values (held c) c else held c)
@@ -168,23 +206,12 @@ module _ (s : Search) (can : CanCapture s.design s.config) (merged : Merged) (lo
   moved_same rising values held from settled c true holds =
       let n : Netlist = s.design in
       let config : Config = s.config in
-      let reset : Option Source = pin_of role.Reset c (pins_of n c) in
-      let preset : Option Source = pin_of role.Preset c (pins_of n c) in
       let own : Takes Source = takes_of c (pins_of n c) in
-      let it : IsScanned n config c = scanned_there n config can.range (record { 0 = c }) (stands_by c (cells_in s) holds) in
-      let verdict : IsVerdict n config c it.domain it.falling = verdict_passes n config c it.domain it.falling it.is in
-      let clock : IsClocked n config c it.domain it.falling = clocked n config c it.domain it.falling verdict.passed.is_clock in
-      let force = force_pins n config reset preset verdict.passed.is_held in
-      let q : Cell = record { domain = clock.net; falling = it.falling; takes = own; forces = force.0 } in
-      let e : l.cell c ≡ q = flop_cell n (config_ports n config) c q (scanned_flop n config c it.domain it.falling force.0 verdict.kind clock force.1) in
-      let pulse = pulse_is n config clock.net it.domain s.domain clock.name can.range clock.named clock.is in
-      let edge = edge_bit rising it.falling in
-      let test : (x.pulsed (l.cell c).domain && takes rising (l.cell c).falling) ≡ is_of s.domain (not rising) (clock_of (judgements n config) (record { 0 = c })) =
-      ap (λ (k : Cell). x.pulsed k.domain && takes rising k.falling) e ∙ (λ i. pulse i && edge i) ∙ sym (ap (is_of s.domain (not rising)) (clock_at c it.domain it.falling holds it.is)) in
+      let it : HasPins s c = has_pins s can c holds in
       let next : next_from l x values (held c) c ≡ next_by_pins n values c =
-      idle c (tri_taken_by (l.cell c).takes (held c) (value_from values)) ∙ ap (λ (k : Cell). tri_taken_by k.takes (held c) (value_from values)) e
-      ∙ sym (pins_high s can.range ports from values high settled (forces_of c (pins_of n c)) force.0 (tri_taken_by own (held c) (value_from values)) force.1) in
-      λ i. if test i then next i else held c
+      idle c (tri_taken_by (l.cell c).takes (held c) (value_from values)) ∙ ap (λ (k : Cell). tri_taken_by k.takes (held c) (value_from values)) it.is
+      ∙ sym (pins_high n (config_ports n config) (moving_of s) (λ net. refl) (λ net clock reset. no_clock_resets n config net can.range clock reset) ports from values high settled (forces_of c (pins_of n c)) it.forces (tri_taken_by own (held c) (value_from values)) it.forced) in
+      λ i. if takes_edge s can rising c holds i then next i else held c
 
   edge_same : (rising : Bool) (values held from : ℕ → Tri) → IsSettledFrom s.design (moving_of s) ports from values → after_edges l chains x rising values held ≡ after_moves s.design (takes_at s (not rising)) values held
   edge_same rising values held from settled = λ i c. moved_same rising values held from settled c (has_cell (cells_in s) c) refl i

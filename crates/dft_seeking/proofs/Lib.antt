@@ -3,9 +3,9 @@ mod GatherLemmas
 mod SearchLemmas
 mod EndLemmas
 pub mod OneLemmas
-mod ApartLemmas
-mod CellsGiven
+pub mod ApartLemmas
+pub mod CellsGiven
 pub mod CubesRead
-mod PinsHigh
-mod ExpectedLemmas
+pub mod PinsHigh
+pub mod ExpectedLemmas
 mod ToldShows

@@ -29,18 +29,13 @@ use Rattle.dft_netlist.specs.Netlist.{Netlist}
 use Rattle.dft_netlist.specs.Drivers.{Source, Net, Driver, connections_from, driver, gate_roles, kind_at, kind_of, pins_at, pins_of, shape_of, shape_of_cell, source_of}
 use Rattle.dft_netlist.specs.Drivers as drivers
 use Rattle.dft_netlist.specs.Connections.{pin_of, same_role}
-use Rattle.dft_behavior.specs.Logic.{Clock, Input, force_of, force_at, forcing}
+use Rattle.dft_behavior.specs.Logic.{Clock, Input, Ports, force_of, force_at, forcing}
 use Rattle.dft_behavior.specs.Settled.{value_from, value_given}
 use Rattle.dft_behavior.specs.NetRoots.{NetRoot, Bit, From, passed_by_gate, Rooted, AtPort, AtConstant, AtTie, ThroughGate, ThroughJoin}
 use Rattle.dft_behavior.specs.Traces.{Root, Port, Constant, Other, Traces, root_of}
 use Rattle.dft_behavior.proofs.RootForms.{OfTraced, traced_on, traced_over, traced_out}
 use Rattle.dft_behavior.proofs.Walks.{constant_found, port_found}
-use Rattle.dft_config.specs.Range.{IsInRange}
-use Rattle.dft_rules.specs.ConfigPorts.{config_ports}
-use Rattle.dft_rules.specs.Rules.{may_be_scanned}
-use Rattle.dft_capture.specs.Captures.{IsSettledFrom, meaning_in, sources_at}
-use Rattle.dft_seek.specs.Searches.{Search, moving_of}
-use Rattle.dft_seek.proofs.RigLemmas.{no_clock_resets}
+use Rattle.dft_capture.specs.Captures.{IsSettledFrom, Moving, meaning_in, sources_at}
 
 -- ---- what buffers and ties pass on
 
@@ -87,25 +82,26 @@ buffer_value _ inputs source values is = absurd cc
 
 -- ---- what traces to a reset port or to constant 1
 
-module _ (s : Search) (range : IsInRange s.config) (ports state values : ℕ → Tri) (high : (net : ℕ) → (config_ports s.design s.config).is_reset net ≡ true → ports net ≡ One) (settled : IsSettledFrom s.design (moving_of s) ports state values) where
+module _ (n : Netlist) (own : Ports) (m : Moving) (clocks : (net : ℕ) → m.is_clock net ≡ own.is_clock net) (apart : (net : ℕ) → own.is_clock net ≡ true → own.is_reset net ≡ true → ⊥) (ports state values : ℕ → Tri)
+    (high : (net : ℕ) → own.is_reset net ≡ true → ports net ≡ One) (settled : IsSettledFrom n m ports state values) where
   -- it does not act
   abbrev IsIdle : Root → Type 0
-  IsIdle (Port net) = (config_ports s.design s.config).is_reset net ≡ true
+  IsIdle (Port net) = own.is_reset net ≡ true
   IsIdle (Constant bit) = bit ≡ true
   IsIdle Other = ⊥
 
-  at_driver : (net : ℕ) (d : Driver) → driver s.design net ≡ d → values net ≡ value_given (sources_at ports state) values net (meaning_in (moving_of s) net d)
-  at_driver net d is = settled net ∙ ap (λ (x : Driver). value_given (sources_at ports state) values net (meaning_in (moving_of s) net x)) is
+  at_driver : (net : ℕ) (d : Driver) → driver n net ≡ d → values net ≡ value_given (sources_at ports state) values net (meaning_in m net d)
+  at_driver net d is = settled net ∙ ap (λ (x : Driver). value_given (sources_at ports state) values net (meaning_in m net x)) is
 
-  port_high : (net : ℕ) (b : Bool) → (config_ports s.design s.config).is_clock net ≡ b → (config_ports s.design s.config).is_reset net ≡ true → value_given (sources_at ports state) values net (if b then Clock else Input) ≡ One
-  port_high net true clock reset = absurd (no_clock_resets s.design s.config net range clock reset)
+  port_high : (net : ℕ) (b : Bool) → m.is_clock net ≡ b → own.is_reset net ≡ true → value_given (sources_at ports state) values net (if b then Clock else Input) ≡ One
+  port_high net true clock reset = absurd (apart net (sym (clocks net) ∙ clock) reset)
   port_high net false clock reset = high net reset
 
   abbrev IsHigh : Source → Root → Type 0
   IsHigh source root = IsIdle root → value_from values source ≡ One
 
-  traced_high : (source : Source) (root : NetRoot) → Rooted s.design source root → OfTraced (IsHigh source) root
-  traced_high source root (AtPort {net = net} is) = λ idle. at_driver net drivers.Input is ∙ port_high net ((config_ports s.design s.config).is_clock net) refl idle
+  traced_high : (source : Source) (root : NetRoot) → Rooted n source root → OfTraced (IsHigh source) root
+  traced_high source root (AtPort {net = net} is) = λ idle. at_driver net drivers.Input is ∙ port_high net (m.is_clock net) refl idle
   traced_high source root (AtConstant {bit = bit}) = λ idle. ap known idle
   traced_high source root (AtTie {net = net} {kind = k} {inputs = inputs} {bit = bit} is passes) = λ idle. at_driver net (drivers.Gate k inputs) is ∙ tie_value k inputs bit values passes ∙ ap known idle
   traced_high source root (ThroughGate {net = net} {kind = k} {inputs = inputs} {source = from} {turns = turns} {root = far} is passes rest) =
@@ -113,27 +109,27 @@ module _ (s : Search) (range : IsInRange s.config) (ports state values : ℕ →
   traced_high source root (ThroughJoin {net = net} {source = from} is rest) =
       traced_over (IsHigh from) (IsHigh (Net net)) root (λ r high idle. at_driver net (drivers.Joined from) is ∙ high idle) (traced_high from root rest)
 
-  trace_high : (source : Source) (root : Root) → Traces s.design source root → IsHigh source root
+  trace_high : (source : Source) (root : Root) → Traces n source root → IsHigh source root
   trace_high source root traces idle = traced_out (IsHigh source) traces.whole root traces.straight (λ other. subst IsIdle other idle) (traced_high source traces.whole traces.rooted) idle
 
-  reset_by : (net : ℕ) (b : Bool) (force : Option ℕ) → (config_ports s.design s.config).is_reset net ≡ b → ◌≡◌ {A = Option (Option ℕ)} (if b then Some (Some net) else None) (Some force) → (config_ports s.design s.config).is_reset net ≡ true
+  reset_by : (net : ℕ) (b : Bool) (force : Option ℕ) → own.is_reset net ≡ b → ◌≡◌ {A = Option (Option ℕ)} (if b then Some (Some net) else None) (Some force) → own.is_reset net ≡ true
   reset_by net true force reset is = reset
   reset_by net false force reset is = absurd (none-some force is)
 
-  root_high : (source : Source) (root : Root) (force : Option ℕ) → root_of s.design source ≡ root → force_of (config_ports s.design s.config) root ≡ Some force → value_from values source ≡ One
-  root_high source (Port net) force at is = trace_high source (Port net) (port_found s.design source net at) (reset_by net ((config_ports s.design s.config).is_reset net) force refl is)
-  root_high source (Constant true) force at is = trace_high source (Constant true) (constant_found s.design source true at) refl
+  root_high : (source : Source) (root : Root) (force : Option ℕ) → root_of n source ≡ root → force_of own root ≡ Some force → value_from values source ≡ One
+  root_high source (Port net) force at is = trace_high source (Port net) (port_found n source net at) (reset_by net (own.is_reset net) force refl is)
+  root_high source (Constant true) force at is = trace_high source (Constant true) (constant_found n source true at) refl
   root_high source (Constant false) force at is = absurd (none-some force is)
   root_high source Other force at is = absurd (none-some force is)
 
-  pin_high : (pin : Option Source) (force : Option ℕ) → force_at s.design (config_ports s.design s.config) pin ≡ Some force → (source : Source) → pin ≡ Some source → value_from values source ≡ One
+  pin_high : (pin : Option Source) (force : Option ℕ) → force_at n own pin ≡ Some force → (source : Source) → pin ≡ Some source → value_from values source ≡ One
   pin_high None force is source has = absurd (none-some source has)
-  pin_high (Some own) force is source has = ap (value_from values) (sym (same_Some own source has)) ∙ root_high own (root_of s.design own) force refl is
+  pin_high (Some at) force is source has = ap (value_from values) (sym (same_Some at source has)) ∙ root_high at (root_of n at) force refl is
 
   -- a flip-flop takes what it takes without its reset and its set
-  pub pins_high : (pins : Forces Source) (forces : Forces ℕ) (t : Tri) → forcing s.design (config_ports s.design s.config) pins ≡ Some forces → tri_forced_by pins (value_from values) t ≡ t
+  pub pins_high : (pins : Forces Source) (forces : Forces ℕ) (t : Tri) → forcing n own pins ≡ Some forces → tri_forced_by pins (value_from values) t ≡ t
   pins_high pins forces t is =
-      let both = both_parts (force_at s.design (config_ports s.design s.config) pins.clear) (force_at s.design (config_ports s.design s.config) pins.preset) forces is in
+      let both = both_parts (force_at n own pins.clear) (force_at n own pins.preset) forces is in
       left_rests pins (value_from values) t (λ source has. elim has [
         | inl clear ↦ pin_high pins.clear forces.clear both.0 source clear
         | inr set ↦ pin_high pins.preset forces.preset both.1 source set

@@ -136,7 +136,7 @@ left_out flops table l moves c f d idle live less are laid is left = go (move_at
 
 -- ---- what is taken is put
 
-pub put_none : (takings : List Taking) (row : ℕ → Tri) (l : Layout) (moves : List Move) (old new : Contents) → old.layout ≡ l → IsShifted moves old new → ArePut takings 0 row (course l moves) old.values new.values
+pub put_none : (takings : List Taking) (row : ℕ → Tri) (l : Layout) (moves : List Move) (old new : Contents Tri) → old.layout ≡ l → IsShifted Unknown moves old new → ArePut takings 0 row (course l moves) old.values new.values
 put_none takings row l moves old new same is =
     record {
       each = λ c live. inr (λ a. (let less = a.before in absurd (omega arith)), subst (λ (k : Layout). IsCarried (value_at old.values) c (value_at new.values c) (course k moves c)) same (is.each c live));

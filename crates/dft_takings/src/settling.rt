@@ -29,7 +29,7 @@ pub struct Pulse<'a> {
     pub rising: bool,
     pub ports: &'a [Tri],
     pub pulsed: &'a [bool],
-    pub old: &'a Cells,
+    pub old: &'a Cells<Tri>,
 }
 
 /// The view of a domain in a phase: what flip-flops of other pulsed domains may have, and what lock-ups show that take

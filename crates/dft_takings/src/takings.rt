@@ -109,7 +109,7 @@ fn leader(cells: &[usize], entries: &[Entry]) -> Option<usize>
 }
 
 // How a register moves whose second cell takes the value of one of this register.
-fn move_from(cells: &Cells, entries: &[Entry], register: usize, from: u32) -> Move
+fn move_from(cells: &Cells<Tri>, entries: &[Entry], register: usize, from: u32) -> Move
     ensures each { TakesAlong (entry_at entries.now) cells.now.layout.registers register result }
     ensures sound { TakesFromUnled (entry_at entries.now) cells.now.layout.registers register result }
 {
@@ -136,7 +136,7 @@ fn move_from(cells: &Cells, entries: &[Entry], register: usize, from: u32) -> Mo
 }
 
 // How a register moves, where its cells take what these entries tell. In the first one cells rest.
-fn find_move(cells: &Cells, entries: &[Entry], register: usize) -> Move
+fn find_move(cells: &Cells<Tri>, entries: &[Entry], register: usize) -> Move
     ensures rest { register ≡ 0 → result ≡ Stays }
     ensures is { IsMove (entry_at entries.now) cells.now.layout.registers register result }
 {
@@ -155,7 +155,7 @@ fn find_move(cells: &Cells, entries: &[Entry], register: usize) -> Move
 
 /// Finds the registers that move in a pulse: each of their cells but the first takes the value of the one before it, or of
 /// one of another register that stays. The first register, in which cells rest, is none of them.
-pub fn find_moves(cells: &Cells, entries: &[Entry], moves: &mut [Move])
+pub fn find_moves(cells: &Cells<Tri>, entries: &[Entry], moves: &mut [Move])
     ensures can { CanMove cells.now.layout moves.new }
     ensures each { AreMoves (entry_at entries.now) cells.now.layout moves.new }
 {
@@ -169,7 +169,7 @@ pub fn find_moves(cells: &Cells, entries: &[Entry], moves: &mut [Move])
 pub fn list_takings(
     flops: &[FlipFlop],
     entries: &[Entry],
-    cells: &Cells,
+    cells: &Cells<Tri>,
     moves: &[Move],
     takings: &mut Vec<Taking>,
 )
@@ -213,7 +213,7 @@ pub fn find_values(
 /// The values of flip-flops after a pulse: registers move, those of the list take what the row tells, and the others keep
 /// theirs.
 #[inline(never)]
-pub fn put_all(takings: &[Taking], row: &[Tri], moves: &[Move], cells: &mut Cells)
+pub fn put_all(takings: &[Taking], row: &[Tri], moves: &[Move], cells: &mut Cells<Tri>)
     requires live { (j : ℕ) → j < length takings.now → (taking_at takings.now j).place < length cells.old.values }
     requires row { length takings.now ≤ length row.now }
     requires can { CanMove cells.old.layout moves.now }

@@ -1,5 +1,5 @@
 -- What a made configuration comes to.
-use Rattle.std.proofs.Common.{ℕ, ◌≡◌, ◌∙◌, inl, inr, List, refl, sym, ap₂, subst}
+use Rattle.std.proofs.Common.{ℕ, ◌≡◌, ◌∙◌, inl, inr, List, sym, ap₂, subst}
 use Rattle.dft_netlist.specs.Netlist.{Netlist}
 use Rattle.dft_configuring.specs.declared.configuring.Configured.{Configured}
 use Rattle.dft_configuring.specs.declared.counting.MadeCounts.{MadeCounts}
@@ -42,5 +42,7 @@ configuring_one n wanted a b (inr x) (inr y) =
 
 -- where a configuration is made, it is the outcome
 pub configured_due : (n : Netlist) (wanted : Wanted) (configured : Configured) (o : Outcome) → IsConfigured n wanted configured → IsOutcomeOfConfiguring n wanted o → o ≡ Finished (work.Configured configured.counts configured.text.items)
-configured_due n wanted configured o made is =
-    configuring_one n wanted o (Finished (work.Configured configured.counts configured.text.items)) is (inl (record { configured = configured; made = made; is = refl }))
+configured_due n wanted configured o made (inl x) =
+    let same = configured_one n wanted x.configured configured x.made made in
+    x.is ∙ ap₂ (λ (counts : MadeCounts) (text : List ℕ). Finished (work.Configured counts text)) same.counts same.text
+configured_due n wanted configured o made (inr y) = absurd (not_refused n wanted configured y.error (cause_of y.error o y.is) made y.refused)

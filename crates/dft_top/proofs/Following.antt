@@ -52,6 +52,7 @@ step_follows name gives next before mid after value r taken behind = record {
   };
   held = behind.held ∙ taken.held;
   write_faults = behind.write_faults ∙ taken.write_faults;
+  short_saves = behind.short_saves ∙ taken.short_saves;
 }
 
 -- ---- what a stop makes of all
@@ -92,6 +93,7 @@ stop_follows {A} name gives next before after stop r is taken =
           };
       held = taken.held;
       write_faults = taken.write_faults;
+      short_saves = taken.short_saves;
     }
 
 -- ---- the end
@@ -114,6 +116,7 @@ end_follows is seen r quiet comes = record {
   fault = λ same. absurd (quiet same);
   held = refl;
   write_faults = refl;
+  short_saves = refl;
 }
 
 -- a course that is made of the same value
@@ -123,7 +126,7 @@ same_follows {X} course a b before after r same follows = subst (λ (x : X). Fol
 -- where memory runs out, with no call
 pub short_follows : (course : Course) (seen : SeenFiles) (r : Result Outcome Stop) → r ≡ Err OutOfMemory → Follows course seen seen r
 short_follows course seen r short =
-    subst (Follows course seen seen) (sym short) (record { allowed = tt; reached = tt; fault = λ is. absurd (let e = is in cc); held = refl; write_faults = refl })
+    subst (Follows course seen seen) (sym short) (record { allowed = tt; reached = tt; fault = λ is. absurd (let e = is in cc); held = refl; write_faults = refl; short_saves = refl })
 
 -- ---- steps that load nothing
 
@@ -145,6 +148,7 @@ given_takes gives seen r given = record {
   held = refl;
   read_faults = omega arith;
   write_faults = refl;
+  short_saves = refl;
 }
 
 file_told : {A : Type 0} (limit : ℕ) (option : List ℕ) (gives : List ℕ → Result A Refusal → Type 0) (name text : List ℕ) (held : Held) (r : Result A Stop) →
@@ -163,11 +167,12 @@ file_takes limit option gives name text held r at given = record {
   held = refl;
   read_faults = omega arith;
   write_faults = refl;
+  short_saves = refl;
 }
 
 -- the library where none is named
 pub library_takes : (held : Held) (cells : List Cell) → cells ≡ standard_cells → Takes None (LibraryGives None) (still held) (still held) (Ok cells)
-library_takes held cells is = record { given = is; fault = λ same. absurd cc; held = refl; read_faults = omega arith; write_faults = refl }
+library_takes held cells is = record { given = is; fault = λ same. absurd cc; held = refl; read_faults = omega arith; write_faults = refl; short_saves = refl }
 
 -- where no call was made, no load failed
 pub still_quiet : (course : Course) (held : Held) (r : Result Outcome Stop) → Follows course (still held) (still held) r → r ≡ Err ReadFault → ⊥

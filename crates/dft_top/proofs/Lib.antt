@@ -2,6 +2,7 @@ pub mod Following
 pub mod Steps
 pub mod SavesInTurn
 pub mod Readings
+pub mod CubesNext
 pub mod CubeCounts
 pub mod CompiledOnce
 pub mod CompileLemmas
@@ -31,3 +32,5 @@ pub mod ManyVectors
 pub mod JobFits
 pub mod Suited
 pub mod RunEnds
+pub mod PageLemmas
+pub mod HostRuns

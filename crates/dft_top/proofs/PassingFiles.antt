@@ -20,7 +20,6 @@ use Rattle.dft_certify.specs.Certifying.{certify_refusal}
 use Rattle.dft_cubes.specs.declared.cube.Cube.{Cube}
 use Rattle.dft_vectors.specs.PatternData.{PatternData}
 use Rattle.dft_encode.specs.Compiled.{ArePatterns, Placing}
-use Rattle.dft_stitch.specs.Planning.{Planned}
 use Rattle.dft_compile.specs.Refusals.{first_refusal}
 use Rattle.dft_command_line.specs.Words.{Command, Replay, Scan, Compile, Certify, Grade, Configure, Seek, ReplayFiles, ScanFiles, CompileFiles, CertifyFiles, GradeFiles}
 use Rattle.dft_command_line.proofs.Understood.{for_once}
@@ -28,12 +27,13 @@ use Rattle.dft_answers.specs.declared.outcome.Outcome.{Outcome}
 use Rattle.dft_answers.specs.declared.outcome.Outcome.TheVariants.{Finished}
 use Rattle.dft_answers.specs.declared.outcome.Work.TheVariants.{Scanned}
 use Rattle.dft_top.specs.declared.limits.TheConstants.{MAX_CONFIG_BYTES, MAX_CUBE_BYTES, MAX_NETLIST_BYTES, MAX_PATTERN_BYTES, MAX_REPORT_BYTES}
-use Rattle.dft_top.specs.Checks.{ConfigGives, ConfigText, CubeText, CubesGive, DesignGives, LibraryGives, NetlistGives, NetlistText, PatternText, PatternsGive, PlanGives, ReportGives, ReportText, plan_refusal}
+use Rattle.dft_top.specs.Checks.{ConfigGives, ConfigText, CubeText, CubesGive, LibraryGives, NetlistGives, NetlistText, PatternText, PatternsGive, PlanGives, ReportGives, ReportText, plan_refusal}
 use Rattle.dft_top.specs.Courses.{Reaches, Then}
 use Rattle.dft_top.specs.Outcomes.{IsCompiled, IsOutcomeFor, IsOutcomeOfConfiguring, IsOutcomeOfGrading, IsOutcomeOfReport, IsOutcomeOfTest, course_of_certify, course_of_compile, course_of_grade, course_of_replay, course_of_scan, IsOutcomeOfCubes, IsOutcomeOfScanOf, IsOutcomeOfSeek, IsOutcomeOfTold, refusal_of, IsOutcomeOn, wanted_of}
 use Rattle.dft_top.specs.Laws.{PassingIsCertified, PassingIsCompiled, PassingIsConfigured, PassingIsGraded, PassingIsReplayed, PassingIsScanned, PassingIsSought}
 use Rattle.dft_top.proofs.CompileLemmas.{compiled_due}
 use Rattle.dft_top.proofs.Promised.{design_of}
+use Rattle.dft_top.proofs.CubesNext.{cubes_next}
 use Rattle.dft_top.proofs.CertifyLemmas.{report_over}
 use Rattle.dft_top.proofs.Gradings.{graded_due}
 use Rattle.dft_top.proofs.Configurings.{configured_due}
@@ -41,7 +41,7 @@ use Rattle.dft_top.proofs.Seekings.{search_due}
 use Rattle.dft_cubes.specs.Cubes.{domain_named}
 use Rattle.dft_seeking.specs.declared.error.SeekError.{SeekError}
 use Rattle.dft_top.proofs.Readings.{config_text_one, cube_text_one, file_one, given_next, library_gives_one, netlist_text_one, pattern_text_one, report_text_one, accepted_or_refused}
-use Rattle.dft_top.proofs.Steps.{CertifyFor, CertifyOf, CertifyOn, CertifyOver, CertifyWith, CompileOf, CompileOn, CompileOver, CompileWith, ConfigureOver, GradeOn, GradeOver, ReplayOn, ReplayOver, ScanOn, ScanOver, SeekOf, SeekOn, SeekOver}
+use Rattle.dft_top.proofs.Steps.{CertifyFor, CertifyOf, CertifyOn, CertifyOver, CertifyWith, ConfigureOver, GradeOn, GradeOver, ReplayOn, ReplayOver, ScanOn, ScanOver, SeekOf, SeekOn, SeekOver}
 
 -- where a design is given, the patterns are next
 pub replay_read : (files : ReplayFiles) (held : Held) (cells : List Cell) (n : Netlist) (o : Outcome) → LibraryGives files.library held (Ok cells) → NetlistGives cells files.netlist held (Ok n) →
@@ -63,23 +63,15 @@ scan_due files held cells c n o library config netlist none is =
     let scan = given_next (NetlistGives cells files.netlist held) (λ n. IsOutcomeOfScanOf n c (refusal n c)) o n (file_one MAX_NETLIST_BYTES (codes "netlist") (NetlistText cells) (netlist_text_one cells) (file_at files.netlist held)) netlist on in
     (subst (λ (refused : Option ScanError). IsOutcomeOfScanOf n c refused o) none scan).is
 
--- where no check of the design fails, what comes behind gives the outcome
-design_next : (n : Netlist) (c : Config) (next : Planned → Outcome → Type 0) (o : Outcome) → first_refusal n c ≡ None → Then (DesignGives n c) next o → (prepared : Planned) × next prepared o
-design_next n c next o none (inl x) = (x.0, x.1.1)
-design_next n c next o none (inr x) = absurd (accepted_or_refused (first_refusal n c) x.1.0.0 none x.1.0.1.0)
-
 compile_due : (files : CompileFiles) (held : Held) (cells : List Cell) (c : Config) (n : Netlist) (cubes : List Cube) (placing : Placing c (plan_of n c) cubes) (list : List PatternData) (o : Outcome) → (library : LibraryGives files.library held (Ok cells)) →
     (config : ConfigGives files.config held (Ok c)) → (netlist : NetlistGives cells files.netlist held (Ok n)) → (first : first_refusal n c ≡ None) → (given : CubesGive n c files.cubes held (Ok cubes)) →
     (are : ArePatterns n c (plan_of n c) placing.rows placing.merged list) → (late : refusal_of n c cubes placing list ≡ None) → (is : Reaches (course_of_compile files) held o) → IsCompiled n c cubes placing list o
 compile_due files held cells c n cubes placing list o library config netlist first given are late is =
     let design = design_of cells files.netlist held n netlist in
     let ranked = order_ranks n design.1.order design.1.sound design.1.ordered in
-    let over = given_next (LibraryGives files.library held) (CompileOver files held) o cells (library_gives_one files.library held) library is in
-    let on = given_next (ConfigGives files.config held) (CompileOn files cells held) o c (file_one MAX_CONFIG_BYTES (codes "config") ConfigText config_text_one (file_at files.config held)) config over in
-    let of = given_next (NetlistGives cells files.netlist held) (CompileOf files c held) o n (file_one MAX_NETLIST_BYTES (codes "netlist") (NetlistText cells) (netlist_text_one cells) (file_at files.netlist held)) netlist on in
-    let with = design_next n c (CompileWith n c files.cubes held) o first of in
     compiled_due n ranked.0 c cubes placing list o ranked.1 are late
-    (given_next (CubesGive n c files.cubes held) (λ cubes. IsOutcomeOfCubes n c cubes) o cubes (file_one MAX_CUBE_BYTES (codes "cubes") (CubeText n c) (cube_text_one n c) (file_at files.cubes held)) given with.1)
+    (given_next (CubesGive n c files.cubes held) (λ cubes. IsOutcomeOfCubes n c cubes) o cubes (file_one MAX_CUBE_BYTES (codes "cubes") (CubeText n c) (cube_text_one n c) (file_at files.cubes held)) given
+    (cubes_next files held cells c n o library config netlist first is))
 
 plan_next : (n : Netlist) (c : Config) (next : Plan → Outcome → Type 0) (o : Outcome) → plan_refusal n c ≡ None → Then (PlanGives n c) next o → (plan : Plan) × next plan o
 plan_next n c next o none (inl x) = (x.0, x.1.1)

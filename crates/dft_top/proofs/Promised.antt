@@ -27,7 +27,9 @@ use Rattle.dft_grade.specs.declared.found.Graded.{Graded}
 use Rattle.dft_grade.specs.AllGrades.{AreGrades, faults_in}
 use Rattle.dft_grade.proofs.AllOfThem.{AreFaults, all_fail, listed_are}
 use Rattle.dft_grade_report.specs.Written.{report_text as fault_report}
+use Rattle.dft_scan_behavior.proofs.EventRuns.{events_run}
 use Rattle.dft_scan_behavior.proofs.PlainShifts.{scanned_shifts, scanned_shows}
+use Rattle.dft_scan_behavior.proofs.ShiftRuns.{shifts_run}
 use Rattle.dft_scan_behavior.proofs.Reaching.{loads_reach, unloads_show}
 use Rattle.dft_insert.proofs.Keeping.{adds_in_order, keeps_design}
 use Rattle.dft_insert.specs.declared.style.Style.TheVariants.{Plain, Edt}
@@ -40,7 +42,7 @@ use Rattle.dft_scan.specs.Scans.{netlist_text, report_text}
 use Rattle.dft_stitch.specs.Chains.{plan_of}
 use Rattle.dft_stitch.specs.Plans.{Plan}
 use Rattle.dft_load_laws.specs.Loading.{rows_of}
-use Rattle.dft_load_laws.proofs.Running.{loads_run}
+use Rattle.dft_load_laws.proofs.Running.{loads_run, unloads_run}
 use Rattle.dft_report.specs.declared.error.ReportError.{ReportError}
 use Rattle.dft_report.specs.declared.report.Report.{Report}
 use Rattle.dft_certify.specs.declared.error.CertifyError.{CertifyError}
@@ -79,6 +81,8 @@ use Rattle.dft_top.specs.Outcomes as outcomes
 use Rattle.dft_top.specs.Promises.{Certifies, Compiles, Configures, EveryRunShows, FaultsRun, Grades, Passes, Scans}
 use Rattle.dft_top.specs.Run.{CertifiesTold, CompilesTold, ConfiguresTold, EndsFor, GradesTold, IsDelivered, IsOutcomeTold, PassesTold, ScansTold, Seen}
 use Rattle.dft_top.specs.Saves.{AreSaved, HaveSaved, Saving, savings}
+use Rattle.dft_configure_laws.proofs.MadeLemmas.{made_good, made_loaded, none_unsolvable}
+use Rattle.dft_top.proofs.CubesNext.{ends_by_cubes}
 use Rattle.dft_top.proofs.Lengths.{late_short, within}
 use Rattle.dft_top.proofs.Readings.{text_of}
 use Rattle.dft_top.proofs.Steps.{CertifyFor, CertifyOf, CertifyOn, CertifyOver, CertifyWith, CompileOf, CompileOn, CompileOver, CompileWith, GradeOn, GradeOver, ReplayOn, ReplayOver, ScanOn, ScanOver, ConfigureOver}
@@ -169,8 +173,10 @@ scans files old new o done h saved =
       keeps = keeps_design Plain n c ready;
       adds = adds_in_order Plain n c;
       agrees = agrees_off Plain n c ready;
+      events = events_run Plain n c ready;
       shifts = scanned_shifts n c ready;
       shows = scanned_shows n c ready;
+      carried = λ cycles table. shifts_run n c cycles table ready;
     }
 
 -- ---- a compilation
@@ -290,8 +296,10 @@ compiles hold files old new o done h saved =
       keeps = keeps_design Edt n c m.ready;
       adds = adds_in_order Edt n c;
       agrees = agrees_off Edt n c m.ready;
+      events = events_run Edt n c m.ready;
       loads = λ ports suits. (loads_reach n c ports m.ready suits).0;
       unloads = λ ports suits. (unloads_show n c ports m.ready suits).0;
+      unloaded = λ ports suits masks cycles table. unloads_run n c ports masks cycles table m.ready suits;
       holds = m.holds;
     }
 
@@ -430,7 +438,9 @@ configures : (files : ConfigureFiles) (old new : Held) (o : Outcome) → status_
 configures files old new o done h saved =
     let x = then_done (LibraryGives files.library old) (ConfigureOver files old) o done h in
     let y = then_done (NetlistGives x.0 files.netlist old) (λ n. IsOutcomeOfConfiguring n (wanted_of files.numbers)) o done x.1.1 in
-    let d = configuring_done y.0 (wanted_of files.numbers) o done y.1.1 in
+    let wanted = wanted_of files.numbers in
+    let d = configuring_done y.0 wanted o done y.1.1 in
+    let accepted = accepted_so y.0 d.configured.config d.made.passes in
     let left : AreSaved (text_saving files d.configured) old new = subst (λ (end : Outcome). HaveSaved (savings (Some (Configure files)) end) (Some old) (Some new)) d.is saved in record {
       cells = x.0;
       library = x.1.0;
@@ -441,7 +451,13 @@ configures files old new o done h saved =
       out = left.whole.0;
       others = λ name a. left.others name (differ files.out name (λ e. a (sym e)), tt);
       settings = configuration_given files.out new d.configured.text.items d.configured.config left.whole.0 d.made.short d.made.read d.made.range;
-      accepted = accepted_so y.0 d.configured.config d.made.passes;
+      ready = d.ready;
+      accepted = accepted;
+      compiled = ends_by_cubes x.0 y.0 d.configured.config accepted;
+      good = made_good y.0 wanted d.configured d.made;
+      loads = made_loaded y.0 wanted d.configured d.ready d.made;
+      carried = λ ports suits table. loads_run y.0 d.configured.config ports table d.ready suits;
+      solvable = none_unsolvable y.0 wanted d.configured d.ready d.made;
     }
 
 -- ---- of a run

@@ -74,46 +74,50 @@ part_saved (t ∷ saved) s (Some old) (Some mid) (Some new) other differs have k
 
 -- ---- saves in turn
 
--- of all these saves the first are done, and these are left
-pub record AreLeft (all rest : List Saving) (old now : Option Held) (faults faults' : ℕ) : Type 0 where
+-- of all these saves the first are done, and these are left; memory sufficed
+pub record AreLeft (all rest : List Saving) (old now : Option Held) (faults faults' short short' : ℕ) : Type 0 where
   pub saved : List Saving
   pub in_order : all ≡ saved ++ rest
   pub files : HaveSaved saved old now
   pub more : faults ≤ faults'
+  pub enough : short' ≡ short
 
-pub all_left : (all : List Saving) (held : Option Held) (faults : ℕ) → AreLeft all all held held faults faults
-all_left all held faults = record { saved = []; in_order = refl; files = refl; more = omega arith }
+pub all_left : (all : List Saving) (held : Option Held) (faults short : ℕ) → AreLeft all all held held faults faults short short
+all_left all held faults short = record { saved = []; in_order = refl; files = refl; more = omega arith; enough = refl }
 
 -- what a save that ends with Ok says
-pub record IsSave (s : Saving) (old new : Option Held) (faults faults' : ℕ) : Type 0 where
+pub record IsSave (s : Saving) (old new : Option Held) (faults faults' short short' : ℕ) : Type 0 where
   pub whole : Told (λ h. file_at s.name h ≡ Some s.bytes) new
   pub others : ToldChange (base.KeepsOthers s.name) old new
   pub more : faults ≤ faults'
+  pub enough : short' ≡ short
 
 end_first : {X : Type 0} (xs ys : List X) (y : X) → (xs ++ y ∷ []) ++ ys ≡ xs ++ y ∷ ys
 end_first [] ys y = refl
 end_first (x ∷ xs) ys y = ap (λ zs. x ∷ zs) (end_first xs ys y)
 
 -- the next of what is left
-pub next_left : {X : Type 0} (f : X → Saving) (all : List Saving) (xs : List X) (k : ℕ) (d : X) (old now : Option Held) (faults faults' : ℕ) → k < length xs →
-    AreLeft all (map f (drop k xs)) old now faults faults' → AreLeft all (f (slice_index_or xs k d) ∷ map f (drop (k + 1) xs)) old now faults faults'
-next_left {X} f all xs k d old now faults faults' less left = subst (λ (rest : List X). AreLeft all (map f rest) old now faults faults') (drop_more xs k d less) left
+pub next_left : {X : Type 0} (f : X → Saving) (all : List Saving) (xs : List X) (k : ℕ) (d : X) (old now : Option Held) (faults faults' short short' : ℕ) → k < length xs →
+    AreLeft all (map f (drop k xs)) old now faults faults' short short' → AreLeft all (f (slice_index_or xs k d) ∷ map f (drop (k + 1) xs)) old now faults faults' short short'
+next_left {X} f all xs k d old now faults faults' short short' less left = subst (λ (rest : List X). AreLeft all (map f rest) old now faults faults' short short') (drop_more xs k d less) left
 
-pub one_less : (all rest : List Saving) (s : Saving) (old mid new : Option Held) (faults between faults' : ℕ) → AreApart all → AreLeft all (s ∷ rest) old mid faults between → IsSave s mid new between faults' → AreLeft all rest old new faults faults'
-one_less all rest s old mid new faults between faults' apart left saved = record {
+pub one_less : (all rest : List Saving) (s : Saving) (old mid new : Option Held) (faults between faults' short amid short' : ℕ) → AreApart all → AreLeft all (s ∷ rest) old mid faults between short amid → IsSave s mid new between faults' amid short' →
+    AreLeft all rest old new faults faults' short short'
+one_less all rest s old mid new faults between faults' short amid short' apart left saved = record {
   saved = left.saved ++ s ∷ [];
   in_order = left.in_order ∙ sym (end_first left.saved rest s);
   files = more_saved left.saved s old mid new (is_other left.saved rest s (subst AreApart left.in_order apart)) left.files saved.others saved.whole;
   more = omega (arith, left.more, saved.more);
+  enough = saved.enough ∙ left.enough;
 }
 
-pub none_left : (all : List Saving) (old now : Option Held) (faults faults' : ℕ) → AreLeft all [] old now faults faults' → HaveSaved all old now
-none_left all old now faults faults' left = subst (λ (saved : List Saving). HaveSaved saved old now) (sym (left.in_order ∙ append-nil left.saved)) left.files
+pub none_left : (all : List Saving) (old now : Option Held) (faults faults' short short' : ℕ) → AreLeft all [] old now faults faults' short short' → HaveSaved all old now
+none_left all old now faults faults' short short' left = subst (λ (saved : List Saving). HaveSaved saved old now) (sym (left.in_order ∙ append-nil left.saved)) left.files
 
 -- the next save failed
-pub next_fails : (all rest : List Saving) (s : Saving) (old mid new : Option Held) (failed : List ℕ) (faults between faults' : ℕ) → (apart : AreApart all) → (left : AreLeft all (s ∷ rest) old mid faults between) → (kept : ToldChange (base.KeepsOthers s.name) mid new) →
+pub next_fails : (all rest : List Saving) (s : Saving) (old mid new : Option Held) (failed : List ℕ) (faults between faults' short amid : ℕ) → (apart : AreApart all) → (left : AreLeft all (s ∷ rest) old mid faults between short amid) → (kept : ToldChange (base.KeepsOthers s.name) mid new) →
     (part : ToldChange (λ h h'. LeavesPart s.bytes (file_at s.name h) (file_at s.name h')) mid new) → (name : failed ≡ s.name) → (rose : Rose between faults') → SaveFailed all old new failed faults faults'
-next_fails all rest s old mid new failed faults between faults' apart left kept part name rose =
+next_fails all rest s old mid new failed faults between faults' short amid apart left kept part name rose =
     let split = subst AreApart left.in_order apart in record {
       saved = left.saved;
       failing = s;
@@ -125,8 +129,8 @@ next_fails all rest s old mid new failed faults between faults' apart left kept 
     }
 
 -- memory ran out in the next save
-pub next_runs_out : (all rest : List Saving) (old mid new : Option Held) (faults faults' : ℕ) → AreLeft all rest old mid faults faults' → new ≡ mid → HaveSavedSome all old new
-next_runs_out all rest old mid new faults faults' left same = record {
+pub next_runs_out : (all rest : List Saving) (old mid new : Option Held) (faults faults' short short' : ℕ) → AreLeft all rest old mid faults faults' short short' → new ≡ mid → HaveSavedSome all old new
+next_runs_out all rest old mid new faults faults' short short' left same = record {
   saved = left.saved;
   rest = rest;
   in_order = left.in_order;

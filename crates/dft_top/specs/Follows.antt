@@ -22,14 +22,15 @@ pub record StopsAtLoad (course : Course) (before after : SeenFiles) : Type 0 whe
   pub turn : Told (λ held. TurnComes course held after.failed) before.held
 
 -- The outcome is one that the course allows, and the one that it reaches where the files are told; a fault is a failed load of the course. No file is
--- changed, and no save has failed.
+-- changed, and no save has failed or ended for want of memory.
 pub record Follows (course : Course) (before after : SeenFiles) (result : Result Outcome Stop) : Type 0 where
   pub allowed : ComesTo (Allows course) result
   pub reached : ComesTo (λ o. Told (λ held. Reaches course held o) before.held) result
   pub fault : result ≡ Err ReadFault → StopsAtLoad course before after
   pub held : after.held ≡ before.held
   pub write_faults : after.write_faults ≡ before.write_faults
+  pub short_saves : after.short_saves ≡ before.short_saves
 
 -- these files are told, and no call was made
 abbrev pub still : Held → SeenFiles
-still held = seen_files (Some held) [] 0 0
+still held = seen_files (Some held) [] 0 0 0

@@ -8,4 +8,5 @@ pub mod Run
 pub mod Follows
 pub mod Laws
 pub mod Saved
+pub mod Pages
 pub mod Ends

@@ -307,10 +307,11 @@ course_of_grade files =
 abbrev pub wanted_of : HardwareNumbers → Wanted
 wanted_of numbers = record { chains = numbers.chains; length = numbers.longest; channels = numbers.channels; outputs = numbers.outputs; masks = numbers.masks }
 
--- A configuration is made: the outcome has what is counted of it, and its text.
+-- A configuration is made, under which the design is ready: the outcome has what is counted of it, and its text.
 pub record IsMade (n : Netlist) (wanted : Wanted) (o : Outcome) : Type 0 where
   pub configured : Configured
   pub made : IsConfigured n wanted configured
+  pub ready : IsReady n configured.config
   pub is : o ≡ Finished (work.Configured configured.counts configured.text.items)
 
 -- The first check that fails is refused.

@@ -1,5 +1,5 @@
 -- What Done promises of a command.
-use Rattle.std.specs.Prelude.{ℕ, ◌<◌, ◌≤◌, ◌^◌, ◌≡◌, List, length, None, Some, Ok, slice_get}
+use Rattle.std.specs.Prelude.{ℕ, ◌<◌, ◌≤◌, ◌^◌, ◌≡◌, Bool, List, length, None, Some, Ok, slice_get}
 use Rattle.std.specs.List.{AllByRecursion}
 use Rattle.dft_files.specs.Outside.{Held, file_at}
 use Rattle.dft_cells.specs.declared.cell.Cell.{Cell}
@@ -28,6 +28,7 @@ use Rattle.dft_insert.specs.Statements.{IsAdded, IsKept, scanned}
 use Rattle.dft_insert.specs.Agreeing.{IsSameWhileOff}
 use Rattle.dft_scan.specs.Scans.{netlist_text, report_text}
 use Rattle.dft_scan_behavior.specs.EdtVectors.{SuitsEdt}
+use Rattle.dft_scan_behavior.specs.Existence.{EventsRun, ShiftRun}
 use Rattle.dft_scan_behavior.specs.Experiments.{LoadsInRuns, UnloadsInRuns}
 use Rattle.dft_stitch.specs.Chains.{plan_of}
 use Rattle.dft_cubes.specs.declared.cube.Cube.{Cube}
@@ -44,24 +45,28 @@ use Rattle.dft_stil_text.specs.PatternText as pattern
 use Rattle.dft_config.specs.Ring.{Table}
 use Rattle.dft_equations.specs.LoadRows.{LoadRows}
 use Rattle.dft_load_laws.specs.Loading.{AreRows, LoadRun, LoadsOnce, rows_of as load_rows}
+use Rattle.dft_load_laws.specs.Unloading.{UnloadRun}
 use Rattle.dft_report.specs.declared.report.CubeLine.TheVariants.{Unsolvable}
 use Rattle.dft_report.specs.declared.report.CubeReport.{CubeReport}
 use Rattle.dft_report.specs.declared.report.Report.{Report}
 use Rattle.dft_report.specs.declared.report.SumLine.{SumLine}
 use Rattle.dft_certify.specs.Certifying.{cube_named}
 use Rattle.dft_certify.specs.Laws.{AllCertified}
-use Rattle.dft_command_line.specs.Words.{ReplayFiles, ScanFiles, CompileFiles, CertifyFiles, GradeFiles, ConfigureFiles, SeekFiles}
+use Rattle.dft_command_line.specs.Words.{IsCompile, ReplayFiles, ScanFiles, CompileFiles, CertifyFiles, GradeFiles, ConfigureFiles, SeekFiles}
 use Rattle.dft_cubes.specs.Cubes.{domain_named}
 use Rattle.dft_cubes_out.specs.Written.{cubes_text}
-use Rattle.dft_seeking.specs.Laws.{AllTrue}
+use Rattle.dft_seeking.specs.Laws.{AllTrue, GivesPlain, IsPlain}
 use Rattle.dft_seeking.specs.Told.{Told, AreTold, cubes_in}
 use Rattle.dft_seeking.specs.Written.{report_text as sought_report}
 use Rattle.dft_configuring.specs.declared.configuring.Configured.{Configured}
 use Rattle.dft_configuring.specs.Configured.{IsConfigured}
+use Rattle.dft_configuring.specs.Searching.{IsGood}
+use Rattle.dft_configure_laws.specs.MadeLoads.{LoadsFew, SolvesFew}
+use Rattle.dft_answers.specs.declared.outcome.Outcome.{Outcome}
 use Rattle.dft_top.specs.declared.limits.TheConstants.{MAX_PATTERN_BYTES, MAX_REPORT_BYTES}
 use Rattle.dft_top.specs.Checks.{LibraryGives, ConfigGives, NetlistGives, PatternsGive, CubesGive, PlanGives, ReportGives}
 use Rattle.dft_top.specs.Courses.{Reaches}
-use Rattle.dft_top.specs.Outcomes.{course_of_replay, outcome_of, wanted_of}
+use Rattle.dft_top.specs.Outcomes.{IsOutcome, course_of_cubes, course_of_replay, outcome_of, wanted_of}
 
 -- every run of the netlist over the patterns shows each compared bit as printed
 abbrev pub EveryRunShows : Netlist → Patterns → Type 0
@@ -103,7 +108,8 @@ pub record Fails (files : ReplayFiles) (held : Held) : Type 0 where
 
 -- The netlist and the configuration are those of the held texts, over the cells of the library, and the scan rules pass. Its scanned
 -- netlist and its report are saved, and no other file is changed. The text that is saved stands for the scanned netlist, which keeps
--- the design, adds what it should in order, behaves as the design while scan is off, and whose chains shift.
+-- the design, adds what it should in order, behaves as the design while scan is off, and whose chains shift. Both go through any events of the
+-- design while scan is off, and each table of bits is shifted in by some run.
 pub record Scans (files : ScanFiles) (old new : Held) : Type 0 where
   pub cells : List Cell
   pub library : LibraryGives files.library old (Ok cells)
@@ -121,16 +127,19 @@ pub record Scans (files : ScanFiles) (old new : Held) : Type 0 where
   pub keeps : IsKept Plain netlist config
   pub adds : IsAdded Plain netlist config
   pub agrees : IsSameWhileOff Plain netlist config
+  pub events : EventsRun Plain netlist config
   pub shifts : ChainsShift netlist config
   pub shows : ChainsShow netlist config
+  pub carried : (cycles : ℕ) (table : Table) → ShiftRun netlist config cycles table
 
 -- ---- a compilation
 
 -- The netlist, the configuration and the cubes are those of the held texts, over the cells of the library, and the checks pass. The cubes are
 -- placed, and the scanned netlist, the patterns of the placement and its report are saved; no other file is changed. The patterns' text that is saved
 -- stands for them, and the report's is read as the report; the netlist's text stands for the scanned netlist, which is sound and in order. It keeps the
--- design, behaves as it while scan is off, and loads and unloads every table in every run. The patterns pass on it, and in every run each cube
--- that is reported encoded is loaded; a cube is reported unsolvable exactly where no table of channel bits loads it in any run.
+-- design, behaves as it while scan is off, and loads and unloads every table in every run; both go through any events of the design while scan is
+-- off, and each table is loaded in some run, and unloaded in some with any masks. The patterns pass on it, and in every run each cube that is
+-- reported encoded is loaded; a cube is reported unsolvable exactly where no table of channel bits loads it in any run.
 pub record Compiles (files : CompileFiles) (old new : Held) : Type 0 where
   pub cells : List Cell
   pub library : LibraryGives files.library old (Ok cells)
@@ -166,8 +175,10 @@ pub record Compiles (files : CompileFiles) (old new : Held) : Type 0 where
   pub keeps : IsKept Edt netlist config
   pub adds : IsAdded Edt netlist config
   pub agrees : IsSameWhileOff Edt netlist config
+  pub events : EventsRun Edt netlist config
   pub loads : (ports : Ports) → SuitsEdt netlist config ports → LoadsInRuns netlist config ports
   pub unloads : (ports : Ports) → SuitsEdt netlist config ports → UnloadsInRuns netlist config ports
+  pub unloaded : (ports : Ports) → SuitsEdt netlist config ports → (masks : ℕ → Bool) (cycles : ℕ) (table : Table) → UnloadRun netlist config ports masks cycles table
   pub holds : HoldsOf netlist config cubes placing list
 
 -- ---- a test of certificates
@@ -228,8 +239,17 @@ pub record Grades (files : GradeFiles) (old new : Held) : Type 0 where
 
 -- ---- a made configuration
 
+-- A compilation of the netlist under the configuration, over the same cells, ends as its cubes do: the first check that fails is one of the cube file,
+-- or of the length of the patterns or of the report, and else the cubes are compiled.
+abbrev pub EndsByCubes : List Cell → Netlist → Config → Type 0
+EndsByCubes cells n config =
+    (words : List (List ℕ)) (files : CompileFiles) (held : Held) (o : Outcome) → IsCompile words files → LibraryGives files.library held (Ok cells) → ConfigGives files.config held (Ok config) →
+    NetlistGives cells files.netlist held (Ok n) → IsOutcome words held o → Reaches (course_of_cubes n config files.cubes) held o
+
 -- The netlist is that of the held text, over the cells of the library. A configuration is made for it, whose text is saved, and no other file is
--- changed. The saved text is read as it, and no check of a compilation before its cubes refuses the netlist under it.
+-- changed. The saved text is read as it, and no check of a compilation before its cubes refuses the netlist under it. Its load equations are good:
+-- none is empty and no two are the same. So some channel bits load any care bits of one scanned cell, or of two, in every run, of which each table has
+-- one, and no cube of them is ever unsolvable.
 pub record Configures (files : ConfigureFiles) (old new : Held) : Type 0 where
   pub cells : List Cell
   pub library : LibraryGives files.library old (Ok cells)
@@ -242,12 +262,19 @@ pub record Configures (files : ConfigureFiles) (old new : Held) : Type 0 where
   pub others : (name : List ℕ) → (name ≡ files.out → ⊥) → file_at name new ≡ file_at name old
   -- what holds of it
   pub settings : ConfigGives files.out new (Ok configured.config)
+  pub ready : IsReady netlist configured.config
   pub accepted : first_refusal netlist configured.config ≡ None
+  pub compiled : EndsByCubes cells netlist configured.config
+  pub good : IsGood netlist configured.config
+  pub loads : LoadsFew netlist configured.config
+  pub carried : (ports : Ports) → SuitsEdt netlist configured.config ports → (table : Table) → LoadRun netlist configured.config ports table
+  pub solvable : SolvesFew netlist configured.config
 
 -- ---- a search of cubes
 
 -- The netlist is that of the held text, over the cells of the library, and the configuration that of its text, of which the clock is a domain; no check
--- of the scan rules and of the plan fails. What is told of all faults is saved as a cube file and a report, and no other file is changed.
+-- of the scan rules and of the plan fails. What is told of all faults is saved as a cube file and a report, and no other file is changed. The saved
+-- cube file is read as the cubes that were found, where no comment begins with the name of the clock, or of a cell or a port in it.
 pub record Seeks (files : SeekFiles) (old new : Held) : Type 0 where
   pub cells : List Cell
   pub library : LibraryGives files.library old (Ok cells)
@@ -264,5 +291,6 @@ pub record Seeks (files : SeekFiles) (old new : Held) : Type 0 where
   pub cubes : file_at files.out_cubes new ≡ Some (cubes_text netlist config (cubes_in told))
   pub report : file_at files.out_report new ≡ Some (sought_report netlist told)
   pub others : (name : List ℕ) → (name ≡ files.out_cubes → ⊥) → (name ≡ files.out_report → ⊥) → file_at name new ≡ file_at name old
+  pub reads : IsPlain files.clock → ((k : ℕ) (cube : Cube) → slice_get (cubes_in told) k ≡ Some cube → GivesPlain netlist cube) → CubesGive netlist config files.out_cubes new (Ok (cubes_in told))
   -- what holds of it
   pub holds : AllTrue netlist config domain told

@@ -1,5 +1,5 @@
 -- What a run promises.
-use Rattle.std.specs.Prelude.{ℕ, ◌≡◌, ◌<◌, ◌⊎◌, List, Option, None, Some}
+use Rattle.std.specs.Prelude.{ℕ, ◌≡◌, ◌<◌, ◌⊎◌, List, [], Option, None, Some}
 use Rattle.dft_files.specs.Outside.{Held, Told, ToldChange, Rose}
 use Rattle.dft_files.specs.Put.{Adds, AddsPrefix}
 use Rattle.dft_answers.specs.declared.answer.Status.{Status}
@@ -15,29 +15,33 @@ use Rattle.dft_answers.specs.declared.outcome.Work.TheVariants as work
 use Rattle.dft_command_line.specs.Words.{Command, Replay, Scan, Compile, Certify, Generate, Grade, Configure, Seek, ReplayFiles, ScanFiles, CompileFiles, CertifyFiles, GradeFiles, ConfigureFiles, SeekFiles, JobNumbers, AreFor, IsFor, IsReplay, IsScan, IsCompile, IsCertify, IsGenerate, IsGrade, IsConfigure, IsSeek}
 use Rattle.dft_answers.specs.Answers.{answer_of, stopped}
 use Rattle.dft_answers.specs.Lines.{line_of}
-use Rattle.dft_top.specs.Courses.{IsPassing}
+use Rattle.dft_top.specs.Courses.{Allows, IsPassing}
 use Rattle.dft_top.specs.Outcomes.{IsOutcomeFor, IsOutcomeOfJob, IsLoaded, HasTurn, course_of}
 use Rattle.dft_top.specs.Promises.{Passes, Fails, Scans, Compiles, Certifies, Grades, Configures, Seeks, replay_of}
 use Rattle.dft_top.specs.Saves.{savings, HaveSaved, HaveSavedSome, SaveFailed, CountsSaves}
 
 -- what is seen of the files and of the output: what files are held, the name in the last call that failed, how many loads and saves
--- have failed, what was printed, how often that has failed
+-- have failed, how many saves have ended for want of memory, what was printed, how often that has failed, and how often for want of memory
 pub record Seen : Type 0 where
   pub held : Option Held
   pub failed : List ℕ
   pub read_faults : ℕ
   pub write_faults : ℕ
+  pub short_saves : ℕ
   pub printed : Option (List ℕ)
   pub put_faults : ℕ
+  pub short_puts : ℕ
 
-abbrev pub seen : (held : Option Held) → (failed : List ℕ) → (read_faults write_faults : ℕ) → (printed : Option (List ℕ)) → (put_faults : ℕ) → Seen
-seen held failed read_faults write_faults printed put_faults = record {
+abbrev pub seen : (held : Option Held) → (failed : List ℕ) → (read_faults write_faults short_saves : ℕ) → (printed : Option (List ℕ)) → (put_faults short_puts : ℕ) → Seen
+seen held failed read_faults write_faults short_saves printed put_faults short_puts = record {
   held = held;
   failed = failed;
   read_faults = read_faults;
   write_faults = write_faults;
+  short_saves = short_saves;
   printed = printed;
   put_faults = put_faults;
+  short_puts = short_puts;
 }
 
 -- ---- the outcome
@@ -79,8 +83,9 @@ ToldFor (Some (Grade files)) P held = Told P held
 ToldFor (Some (Configure files)) P held = Told P held
 ToldFor (Some (Seek files)) P held = Told P held
 
--- the outcome is one of the command, and that of the held files where they are told
+-- the outcome is one of the command, that its course allows, and that of the held files where they are told
 pub record IsOutcomeTold (command : Option Command) (held : Option Held) (o : Outcome) : Type 0 where
+  pub allowed : Allows (course_of command) o
   pub suits : Suits command o
   pub told : ToldFor command (λ files. IsOutcomeFor command files o) held
 
@@ -110,10 +115,11 @@ pub record Answers (command : Option Command) (o : Outcome) (before after : Seen
   pub printed : Adds (line_of o) before.printed after.printed
   pub answers : answer ≡ answer_of o
 
--- A save of the outcome failed: those before it stand whole, and nothing was printed.
+-- A save of the outcome failed: those before it stand whole, nothing was printed, and no put has failed.
 pub record SaveFails (command : Option Command) (o : Outcome) (before after : Seen) (answer : Answer) : Type 0 where
   pub failed : SaveFailed (savings command o) before.held after.held after.failed before.write_faults after.write_faults
   pub printed : after.printed ≡ before.printed
+  pub put_faults : after.put_faults ≡ before.put_faults
   pub answers : answer ≡ stopped WriteFault
 
 -- The line could not be put whole: what the outcome saves was saved, and a prefix of the line was put.
@@ -123,9 +129,11 @@ pub record PutFails (command : Option Command) (o : Outcome) (before after : See
   pub printed : AddsPrefix (line_of o) before.printed after.printed
   pub answers : answer ≡ stopped WriteFault
 
--- Memory ran out when there was an outcome: the saves before stand whole, and nothing was printed.
+-- Memory ran out when there was an outcome: the saves before stand whole, and nothing was printed. Where there are such saves, it ran out in a save or in
+-- the put of the line itself: every text and the line were made before the first save.
 pub record EndsShort (command : Option Command) (o : Outcome) (before after : Seen) (answer : Answer) : Type 0 where
   pub saved : HaveSavedSome (savings command o) before.held after.held
+  pub late : (saved.saved ≡ []) ⊎ Rose before.short_saves after.short_saves ⊎ Rose before.short_puts after.short_puts
   pub printed : after.printed ≡ before.printed
   pub answers : answer ≡ stopped OutOfMemory
 
@@ -188,7 +196,8 @@ GradesTold words held held' answer = (files : GradeFiles) → IsGrade words file
 abbrev pub UngradedTold : List (List ℕ) → Option Held → Answer → Type 0
 UngradedTold words held answer = (files : GradeFiles) → IsGrade words files → answer.status ≡ NotPassed → Told (Fails (replay_of files)) held
 
--- where the words ask for a configuration, one is made for the netlist and saved: it is read as what is made, and a compilation takes it
+-- where the words ask for a configuration, one is made for the netlist and saved: it is read as what is made, a compilation takes it, and no cube of one
+-- or two care bits is unsolvable under it
 abbrev pub ConfiguresTold : List (List ℕ) → (held held' : Option Held) → Answer → Type 0
 ConfiguresTold words held held' answer = (files : ConfigureFiles) → IsConfigure words files → answer.status ≡ Done → ToldChange (Configures files) held held'
 

@@ -32,8 +32,8 @@ pub fn outcome_of_certify<F: Files>(
     files: &mut F,
 ) -> Result<Outcome, Stop>
     ensures { Follows (course_of_certify (certify_files_of names.entry))
-        (seen_files (F.held files.old) (F.failed files.old) (F.read_faults files.old) (F.write_faults files.old))
-        (seen_files (F.held files.new) (F.failed files.new) (F.read_faults files.new) (F.write_faults files.new)) result }
+        (seen_files (F.held files.old) (F.failed files.old) (F.read_faults files.old) (F.write_faults files.old) (F.short_saves files.old))
+        (seen_files (F.held files.new) (F.failed files.new) (F.read_faults files.new) (F.write_faults files.new) (F.short_saves files.new)) result }
 {
     let library = load_library(alloc, files, names.library)?;
     let config = load_config(alloc, files, names.config)?;
@@ -51,8 +51,8 @@ fn outcome_of_design<F: Files>(
     files: &mut F,
 ) -> Result<Outcome, Stop>
     ensures { Follows (course_of_planned design.now config.now cubes.now report.now)
-        (seen_files (F.held files.old) (F.failed files.old) (F.read_faults files.old) (F.write_faults files.old))
-        (seen_files (F.held files.new) (F.failed files.new) (F.read_faults files.new) (F.write_faults files.new)) result }
+        (seen_files (F.held files.old) (F.failed files.old) (F.read_faults files.old) (F.write_faults files.old) (F.short_saves files.old))
+        (seen_files (F.held files.new) (F.failed files.new) (F.read_faults files.new) (F.write_faults files.new) (F.short_saves files.new)) result }
 {
     let loads = planned(alloc, design, config)?;
     outcome_with(alloc, &loads, cubes, report, files)
@@ -99,8 +99,8 @@ fn outcome_with<F: Files>(
     files: &mut F,
 ) -> Result<Outcome, Stop>
     ensures { Follows (course_of_certified loads.now.design loads.now.config cubes.now report.now)
-        (seen_files (F.held files.old) (F.failed files.old) (F.read_faults files.old) (F.write_faults files.old))
-        (seen_files (F.held files.new) (F.failed files.new) (F.read_faults files.new) (F.write_faults files.new)) result }
+        (seen_files (F.held files.old) (F.failed files.old) (F.read_faults files.old) (F.write_faults files.old) (F.short_saves files.old))
+        (seen_files (F.held files.new) (F.failed files.new) (F.read_faults files.new) (F.write_faults files.new) (F.short_saves files.new)) result }
 {
     let cubes = load_cubes(alloc, files, cubes, loads.design(), loads.config())?;
     outcome_over(alloc, loads, cubes.as_slice(), report, files)
@@ -115,8 +115,8 @@ fn outcome_over<F: Files>(
     files: &mut F,
 ) -> Result<Outcome, Stop>
     ensures { Follows (course_of_report loads.now.design loads.now.config cubes.now report.now)
-        (seen_files (F.held files.old) (F.failed files.old) (F.read_faults files.old) (F.write_faults files.old))
-        (seen_files (F.held files.new) (F.failed files.new) (F.read_faults files.new) (F.write_faults files.new)) result }
+        (seen_files (F.held files.old) (F.failed files.old) (F.read_faults files.old) (F.write_faults files.old) (F.short_saves files.old))
+        (seen_files (F.held files.new) (F.failed files.new) (F.read_faults files.new) (F.write_faults files.new) (F.short_saves files.new)) result }
 {
     let report = load_report(alloc, files, report)?;
     outcome_of_report(alloc, loads, cubes, &report)

@@ -45,7 +45,7 @@ use std::alloc::Global;
 /// out. Only a scan, a compilation, a grading, a made configuration or a search that passes all checks changes files.
 ///
 /// Where a replay answers Done and the files are told, every run of the netlist over the patterns, whatever the starting
-/// bits, the order of clock edges and the free bits, shows each compared bit as printed; where it answers NotPassed and tells a
+/// bits, the order of clock edges, any of them at once, and the free bits, shows each compared bit as printed; where it answers NotPassed and tells a
 /// bit that differs, every run shows the opposite there. Where a scan answers Done, the netlist that is saved keeps the design
 /// and behaves as it while scan is off, and its chains shift in every run. Where a compilation does, so does the netlist that is
 /// saved; the patterns that are saved pass on it, and every run over them loads each cube that is reported encoded; and a cube
@@ -53,16 +53,16 @@ use std::alloc::Global;
 /// load a cube that the report calls unsolvable, in any run of the scanned netlist. Where a grading does, the patterns pass, the
 /// report that is saved has every fault in order with its grade, and a fault that is detected fails in every run of the netlist with
 /// it: the strobe that is named shows the opposite of the printed bit. Where a configuration is made, the file that is saved is read as
-/// what was made, and a compilation of the same netlist with it has no failing check before its cubes. Where a search does, each cube that is
-/// saved detects its fault in each assignment that completes it, and a fault is told to have none only where no assignment detects it.
+/// what was made, a compilation of the same netlist with it has no failing check before its cubes, and no cube of one or two care bits is
+/// unsolvable under it. Where a search does, each cube that is saved detects its fault in each assignment that completes it, and a fault is told to have none only where no assignment detects it.
 ///
 /// Where files are told that pass all checks of a command, and no call of the outside fails, the command answers Done, and a
 /// replay or a grading Done exactly where the verdict is Pass. A generated job, which needs no files, is Done where its lines can be put; one
 /// of more than 16,240 cells may be refused. Want of memory is the one exception.
 pub fn run<F: Files, O: Sink>(alloc: Global, words: &[String], files: &mut F, out: &mut O) -> Answer
     ensures ends { Ends (map string_bytes words.entry.now)
-        (seen (F.held files.old) (F.failed files.old) (F.read_faults files.old) (F.write_faults files.old) (O.told out.old) (O.faults out.old))
-        (seen (F.held files.new) (F.failed files.new) (F.read_faults files.new) (F.write_faults files.new) (O.told out.new) (O.faults out.new))
+        (seen (F.held files.old) (F.failed files.old) (F.read_faults files.old) (F.write_faults files.old) (F.short_saves files.old) (O.told out.old) (O.faults out.old) (O.short_puts out.old))
+        (seen (F.held files.new) (F.failed files.new) (F.read_faults files.new) (F.write_faults files.new) (F.short_saves files.new) (O.told out.new) (O.faults out.new) (O.short_puts out.new))
         result }
     ensures kept { KeepsFiles (map string_bytes words.entry.now) (F.held files.old) (F.held files.new) (F.write_faults files.old)
         (F.write_faults files.new) result }
@@ -77,8 +77,8 @@ pub fn run<F: Files, O: Sink>(alloc: Global, words: &[String], files: &mut F, ou
     ensures seeks { SeeksTold (map string_bytes words.entry.now) (F.held files.old) (F.held files.new) result }
     ensures generates { GeneratesJob (map string_bytes words.entry.now) (O.faults out.old) (O.faults out.new) result }
     ensures completes { CompletesTold (map string_bytes words.entry.now)
-        (seen (F.held files.old) (F.failed files.old) (F.read_faults files.old) (F.write_faults files.old) (O.told out.old) (O.faults out.old))
-        (seen (F.held files.new) (F.failed files.new) (F.read_faults files.new) (F.write_faults files.new) (O.told out.new) (O.faults out.new))
+        (seen (F.held files.old) (F.failed files.old) (F.read_faults files.old) (F.write_faults files.old) (F.short_saves files.old) (O.told out.old) (O.faults out.old) (O.short_puts out.old))
+        (seen (F.held files.new) (F.failed files.new) (F.read_faults files.new) (F.write_faults files.new) (F.short_saves files.new) (O.told out.new) (O.faults out.new) (O.short_puts out.new))
         result }
 {
     compilations_hold();
@@ -100,8 +100,8 @@ fn run_command<F: Files, O: Sink>(
     requires apart { SavesApart (option_map command_of command) }
     requires sized { IsSized (option_map command_of command) }
     ensures { EndsFor (option_map command_of command.entry)
-        (seen (F.held files.old) (F.failed files.old) (F.read_faults files.old) (F.write_faults files.old) (O.told out.old) (O.faults out.old))
-        (seen (F.held files.new) (F.failed files.new) (F.read_faults files.new) (F.write_faults files.new) (O.told out.new) (O.faults out.new))
+        (seen (F.held files.old) (F.failed files.old) (F.read_faults files.old) (F.write_faults files.old) (F.short_saves files.old) (O.told out.old) (O.faults out.old) (O.short_puts out.old))
+        (seen (F.held files.new) (F.failed files.new) (F.read_faults files.new) (F.write_faults files.new) (F.short_saves files.new) (O.told out.new) (O.faults out.new) (O.short_puts out.new))
         result }
 {
     match outcome_of(alloc, command, files) {
@@ -122,8 +122,8 @@ fn outcome_of<F: Files>(
 ) -> Result<Outcome, Stop>
     requires { IsSized (option_map command_of command) }
     ensures { Follows (course_of (option_map command_of command.entry))
-        (seen_files (F.held files.old) (F.failed files.old) (F.read_faults files.old) (F.write_faults files.old))
-        (seen_files (F.held files.new) (F.failed files.new) (F.read_faults files.new) (F.write_faults files.new)) result }
+        (seen_files (F.held files.old) (F.failed files.old) (F.read_faults files.old) (F.write_faults files.old) (F.short_saves files.old))
+        (seen_files (F.held files.new) (F.failed files.new) (F.read_faults files.new) (F.write_faults files.new) (F.short_saves files.new)) result }
 {
     match command {
         None => Ok(Outcome::Usage),
@@ -148,8 +148,8 @@ fn deliver<F: Files, O: Sink>(
 ) -> Answer
     requires { SavesApart (option_map command_of command) }
     ensures delivered { IsDelivered (option_map command_of command.entry) outcome
-        (seen (F.held files.old) (F.failed files.old) (F.read_faults files.old) (F.write_faults files.old) (O.told out.old) (O.faults out.old))
-        (seen (F.held files.new) (F.failed files.new) (F.read_faults files.new) (F.write_faults files.new) (O.told out.new) (O.faults out.new))
+        (seen (F.held files.old) (F.failed files.old) (F.read_faults files.old) (F.write_faults files.old) (F.short_saves files.old) (O.told out.old) (O.faults out.old) (O.short_puts out.old))
+        (seen (F.held files.new) (F.failed files.new) (F.read_faults files.new) (F.write_faults files.new) (F.short_saves files.new) (O.told out.new) (O.faults out.new) (O.short_puts out.new))
         result }
     ensures counts { CountsSaves (savings (option_map command_of command.entry) outcome) (F.write_faults files.old) (F.write_faults files.new) }
 {

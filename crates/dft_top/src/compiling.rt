@@ -28,8 +28,8 @@ pub fn outcome_of_compile<F: Files>(
     files: &mut F,
 ) -> Result<Outcome, Stop>
     ensures { Follows (course_of_compile (compile_files_of names.entry))
-        (seen_files (F.held files.old) (F.failed files.old) (F.read_faults files.old) (F.write_faults files.old))
-        (seen_files (F.held files.new) (F.failed files.new) (F.read_faults files.new) (F.write_faults files.new)) result }
+        (seen_files (F.held files.old) (F.failed files.old) (F.read_faults files.old) (F.write_faults files.old) (F.short_saves files.old))
+        (seen_files (F.held files.new) (F.failed files.new) (F.read_faults files.new) (F.write_faults files.new) (F.short_saves files.new)) result }
 {
     let library = load_library(alloc, files, names.library)?;
     let config = load_config(alloc, files, names.config)?;
@@ -47,8 +47,8 @@ fn outcome_of_design<F: Files>(
 ) -> Result<Outcome, Stop>
     requires joined { GatesAreJoined design.now }
     ensures { Follows (course_of_design design.now config.now cubes.now)
-        (seen_files (F.held files.old) (F.failed files.old) (F.read_faults files.old) (F.write_faults files.old))
-        (seen_files (F.held files.new) (F.failed files.new) (F.read_faults files.new) (F.write_faults files.new)) result }
+        (seen_files (F.held files.old) (F.failed files.old) (F.read_faults files.old) (F.write_faults files.old) (F.short_saves files.old))
+        (seen_files (F.held files.new) (F.failed files.new) (F.read_faults files.new) (F.write_faults files.new) (F.short_saves files.new)) result }
 {
     let prepared = prepared(alloc, design, config)?;
     outcome_with(alloc, design, config, &prepared, cubes, files)
@@ -83,8 +83,8 @@ fn outcome_with<F: Files>(
     requires joined { GatesAreJoined design.now }
     requires prepared { IsPrepared design.now config.now prepared.now }
     ensures { Follows (course_of_cubes design.now config.now cubes.now)
-        (seen_files (F.held files.old) (F.failed files.old) (F.read_faults files.old) (F.write_faults files.old))
-        (seen_files (F.held files.new) (F.failed files.new) (F.read_faults files.new) (F.write_faults files.new)) result }
+        (seen_files (F.held files.old) (F.failed files.old) (F.read_faults files.old) (F.write_faults files.old) (F.short_saves files.old))
+        (seen_files (F.held files.new) (F.failed files.new) (F.read_faults files.new) (F.write_faults files.new) (F.short_saves files.new)) result }
 {
     let cubes = load_cubes(alloc, files, cubes, design, config)?;
     outcome_of_cubes(alloc, design, config, prepared, cubes.as_slice())

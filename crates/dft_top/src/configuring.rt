@@ -26,8 +26,8 @@ pub fn outcome_of_configure<F: Files>(
 ) -> Result<Outcome, Stop>
     requires { IsWanted (spec.wanted_of (configure_files_of names).numbers) }
     ensures { Follows (course_of_configure (configure_files_of names.entry))
-        (seen_files (F.held files.old) (F.failed files.old) (F.read_faults files.old) (F.write_faults files.old))
-        (seen_files (F.held files.new) (F.failed files.new) (F.read_faults files.new) (F.write_faults files.new)) result }
+        (seen_files (F.held files.old) (F.failed files.old) (F.read_faults files.old) (F.write_faults files.old) (F.short_saves files.old))
+        (seen_files (F.held files.new) (F.failed files.new) (F.read_faults files.new) (F.write_faults files.new) (F.short_saves files.new)) result }
 {
     let library = load_library(alloc, files, names.library)?;
     let design = load_netlist(alloc, files, names.netlist, library)?;
@@ -44,6 +44,7 @@ fn outcome_of_design(
     ensures outcome { ComesTo (IsOutcomeOfConfiguring design.now (spec.wanted_of (hardware_of numbers))) result }
     ensures quiet { result ≡ Err Stop.ReadFault → ⊥ }
 {
+    design.soundness();
     match configure(alloc, design, &wanted_of(numbers)) {
         Ok(configured) => Ok(Outcome::Finished(Work::Configured {
             counts: configured.counts,

@@ -1,12 +1,11 @@
 //! From an answer to an exit status.
 
-ghost use Rattle.std.specs.Prelude.{◌≡◌, ◌≤◌, None, map, string_bytes};
+ghost use Rattle.std.specs.Prelude.{◌≡◌, ◌≤◌, ◌⊎◌, IfOk, map, string_bytes};
 ghost use Rattle.std.specs.Process.{exit_status};
-ghost use Rattle.dft_explain.specs.Asked.{asked_by};
-ghost use Rattle.dft_top.specs.Ends.{IsStatusOfRun, IsStatusOfWords, status_number};
+ghost use Rattle.dft_top.specs.Ends.{EndsProgram, EndsWith, HasNoWords, IsStatusOfRun, IsStatusOfWords, IsToldOf, status_number};
 ghost use Rattle.dft_top.specs.Run.{seen};
 
-use crate::telling::{page_of_output, page_of_run, page_without_words};
+use crate::telling::{Faults, page_of_output, page_of_run, page_without_words};
 use crate::{Status, run};
 use dft_answers::Answer;
 use dft_explain::{Page, asked, help};
@@ -41,8 +40,8 @@ pub fn status_of_run<F: Files, O: Sink>(
     out: &mut O,
 ) -> (u8, Answer)
     ensures status { IsStatusOfRun (map string_bytes words.entry.now)
-        (seen (F.held files.old) (F.failed files.old) (F.read_faults files.old) (F.write_faults files.old) (O.told out.old) (O.faults out.old))
-        (seen (F.held files.new) (F.failed files.new) (F.read_faults files.new) (F.write_faults files.new) (O.told out.new) (O.faults out.new))
+        (seen (F.held files.old) (F.failed files.old) (F.read_faults files.old) (F.write_faults files.old) (F.short_saves files.old) (O.told out.old) (O.faults out.old) (O.short_puts out.old))
+        (seen (F.held files.new) (F.failed files.new) (F.read_faults files.new) (F.write_faults files.new) (F.short_saves files.new) (O.told out.new) (O.faults out.new) (O.short_puts out.new))
         result.1 result.0 }
     ensures small { result.0 ≤ 6 }
 {
@@ -51,24 +50,33 @@ pub fn status_of_run<F: Files, O: Sink>(
 }
 
 /// The run of these words over the files and the output of a host: its exit status, and what a person is told of it where
-/// memory is found for that.
+/// memory is found for that, which is nothing exactly where the run is done.
 pub fn told_run<R: AllocGlobal + Print + std::rt::Files>(
     rt: &R,
     words: &[String],
 ) -> (u8, Result<Page, AllocError>)
     ensures status { IsStatusOfWords (map string_bytes words.now) result.0 }
+    ensures told { IfOk result.1 (IsToldOf (map string_bytes words.now) result.0) }
     ensures small { result.0 ≤ 6 }
 {
     let mut files = HostFiles::new(rt, rt.alloc());
     let mut out = OutSink::new(rt);
     let (status, answer) = status_of_run(rt.alloc(), words, &mut files, &mut out);
-    let page = page_of_run(rt, words, &answer, &files, &out);
+    let unput = out.reason();
+    let reason = files.reason();
+    let failed = files.failed_name();
+    let faults = Faults {
+        failed,
+        reason,
+        unput,
+    };
+    let page = page_of_run(rt, words, &answer, faults);
     (status, page)
 }
 
 // Prints a text, and gives the exit status: 5 where it cannot be printed, which a person is told.
 fn print_text<R: AllocGlobal + Print + Eprint>(rt: &R, words: &[String], text: &str) -> u8
-    ensures { result ≤ 5 }
+    ensures answered { (result ≡ 0) ⊎ (result ≡ 5) }
 {
     let mut out = OutSink::new(rt);
     if out.put(text.as_bytes()).is_ok() {
@@ -96,7 +104,7 @@ const NO_MEMORY: &str = "dft: memory ran out\n";
 
 // Where the words cannot be had: 6 for want of memory, else 7.
 fn end_without_words<R: AllocGlobal + Eprint>(rt: &R, error: io::Error) -> u8
-    ensures { result ≤ 7 }
+    ensures { HasNoWords result }
 {
     if error.kind() == io::ErrorKind::OutOfMemory {
         tell(rt, Err(AllocError));
@@ -111,7 +119,8 @@ fn end_without_words<R: AllocGlobal + Eprint>(rt: &R, error: io::Error) -> u8
 /// not done, standard error says what is wrong. It is 6 where the words cannot be had for want of memory, and 7 where the host
 /// names another cause, among them a word that is not text.
 pub fn end<R: AllocGlobal + Env + Print + Eprint + std::rt::Files>(rt: &R) -> ExitCode
-    ensures { exit_status result ≤ 7 }
+    ensures ends { EndsProgram (exit_status result) }
+    ensures small { exit_status result ≤ 7 }
 {
     let words = match std::env::args(rt) {
         Ok(words) => words,
@@ -127,9 +136,13 @@ pub fn end<R: AllocGlobal + Env + Print + Eprint + std::rt::Files>(rt: &R) -> Ex
     ExitCode::from(end_of_words(rt, words.as_slice()))
 }
 
-// Answers words that ask, or runs them.
-fn end_of_words<R: AllocGlobal + Print + Eprint + std::rt::Files>(rt: &R, words: &[String]) -> u8
-    ensures status { asked_by (map string_bytes words.now) ≡ None → IsStatusOfWords (map string_bytes words.now) result }
+/// The program with these words: those that ask for help or for the version are answered, and all others are run. It gives the
+/// exit status.
+pub fn end_of_words<R: AllocGlobal + Print + Eprint + std::rt::Files>(
+    rt: &R,
+    words: &[String],
+) -> u8
+    ensures ends { EndsWith (map string_bytes words.now) result }
     ensures small { result ≤ 6 }
 {
     match asked(words) {

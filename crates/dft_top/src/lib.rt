@@ -21,7 +21,7 @@ mod telling;
 
 pub use command::run;
 pub use dft_answers::Status;
-pub use ending::{end, status_of_run, told_run};
+pub use ending::{end, end_of_words, status_of_run, told_run};
 pub use laws::{
     outcome_is_one, passing_files_are_answered, placements_have_patterns, saved_files_are_good,
 };

@@ -28,8 +28,8 @@ pub fn load_library<F: Files>(
     name: Option<&str>,
 ) -> Result<Library, Stop>
     ensures { Takes (option_map (λ name. name.now) name.entry) (LibraryGives (option_map (λ name. name.now) name.entry))
-        (seen_files (F.held files.old) (F.failed files.old) (F.read_faults files.old) (F.write_faults files.old))
-        (seen_files (F.held files.new) (F.failed files.new) (F.read_faults files.new) (F.write_faults files.new)) result }
+        (seen_files (F.held files.old) (F.failed files.old) (F.read_faults files.old) (F.write_faults files.old) (F.short_saves files.old))
+        (seen_files (F.held files.new) (F.failed files.new) (F.read_faults files.new) (F.write_faults files.new) (F.short_saves files.new)) result }
 {
     match name {
         None => Ok(Library::standard(alloc)?),
@@ -39,8 +39,8 @@ pub fn load_library<F: Files>(
 
 fn load_named_library<F: Files>(alloc: Global, files: &mut F, name: &str) -> Result<Library, Stop>
     ensures { Takes (Some name.now) (LibraryGives (Some name.now))
-        (seen_files (F.held files.old) (F.failed files.old) (F.read_faults files.old) (F.write_faults files.old))
-        (seen_files (F.held files.new) (F.failed files.new) (F.read_faults files.new) (F.write_faults files.new)) result }
+        (seen_files (F.held files.old) (F.failed files.old) (F.read_faults files.old) (F.write_faults files.old) (F.short_saves files.old))
+        (seen_files (F.held files.new) (F.failed files.new) (F.read_faults files.new) (F.write_faults files.new) (F.short_saves files.new)) result }
 {
     let text = load_text(alloc, files, name, b"library", MAX_LIBRARY_BYTES)?;
     library_in(alloc, text.as_slice())
@@ -49,8 +49,8 @@ fn load_named_library<F: Files>(alloc: Global, files: &mut F, name: &str) -> Res
 /// The configuration with this name.
 pub fn load_config<F: Files>(alloc: Global, files: &mut F, name: &str) -> Result<Config, Stop>
     ensures { Takes (Some name.now) (ConfigGives name.now)
-        (seen_files (F.held files.old) (F.failed files.old) (F.read_faults files.old) (F.write_faults files.old))
-        (seen_files (F.held files.new) (F.failed files.new) (F.read_faults files.new) (F.write_faults files.new)) result }
+        (seen_files (F.held files.old) (F.failed files.old) (F.read_faults files.old) (F.write_faults files.old) (F.short_saves files.old))
+        (seen_files (F.held files.new) (F.failed files.new) (F.read_faults files.new) (F.write_faults files.new) (F.short_saves files.new)) result }
 {
     let text = load_text(alloc, files, name, b"config", MAX_CONFIG_BYTES)?;
     config_in(alloc, text.as_slice())
@@ -64,8 +64,8 @@ pub fn load_netlist<F: Files>(
     library: Library,
 ) -> Result<Design, Stop>
     ensures takes { Takes (Some name.now) (NetlistGives library name.now)
-        (seen_files (F.held files.old) (F.failed files.old) (F.read_faults files.old) (F.write_faults files.old))
-        (seen_files (F.held files.new) (F.failed files.new) (F.read_faults files.new) (F.write_faults files.new)) result }
+        (seen_files (F.held files.old) (F.failed files.old) (F.read_faults files.old) (F.write_faults files.old) (F.short_saves files.old))
+        (seen_files (F.held files.new) (F.failed files.new) (F.read_faults files.new) (F.write_faults files.new) (F.short_saves files.new)) result }
     ensures joined { IfOk result GatesAreJoined }
 {
     let text = load_text(alloc, files, name, b"netlist", MAX_NETLIST_BYTES)?;
@@ -75,8 +75,8 @@ pub fn load_netlist<F: Files>(
 /// The patterns with this name.
 pub fn load_patterns<F: Files>(alloc: Global, files: &mut F, name: &str) -> Result<PatternSet, Stop>
     ensures takes { Takes (Some name.now) (PatternsGive name.now)
-        (seen_files (F.held files.old) (F.failed files.old) (F.read_faults files.old) (F.write_faults files.old))
-        (seen_files (F.held files.new) (F.failed files.new) (F.read_faults files.new) (F.write_faults files.new)) result }
+        (seen_files (F.held files.old) (F.failed files.old) (F.read_faults files.old) (F.write_faults files.old) (F.short_saves files.old))
+        (seen_files (F.held files.new) (F.failed files.new) (F.read_faults files.new) (F.write_faults files.new) (F.short_saves files.new)) result }
     ensures well_formed { IfOk result IsWellFormed }
 {
     let text = load_text(alloc, files, name, b"patterns", MAX_PATTERN_BYTES)?;
@@ -92,8 +92,8 @@ pub fn load_cubes<F: Files>(
     config: &Config,
 ) -> Result<Listed<Cube>, Stop>
     ensures takes { Takes (Some name.now) (CubesGive design.now config.now name.now)
-        (seen_files (F.held files.old) (F.failed files.old) (F.read_faults files.old) (F.write_faults files.old))
-        (seen_files (F.held files.new) (F.failed files.new) (F.read_faults files.new) (F.write_faults files.new)) result }
+        (seen_files (F.held files.old) (F.failed files.old) (F.read_faults files.old) (F.write_faults files.old) (F.short_saves files.old))
+        (seen_files (F.held files.new) (F.failed files.new) (F.read_faults files.new) (F.write_faults files.new) (F.short_saves files.new)) result }
     ensures few { IfOk result AreFew }
 {
     let text = load_text(alloc, files, name, b"cubes", MAX_CUBE_BYTES)?;
@@ -103,8 +103,8 @@ pub fn load_cubes<F: Files>(
 /// The report with this name.
 pub fn load_report<F: Files>(alloc: Global, files: &mut F, name: &str) -> Result<Report, Stop>
     ensures { Takes (Some name.now) (ReportGives name.now)
-        (seen_files (F.held files.old) (F.failed files.old) (F.read_faults files.old) (F.write_faults files.old))
-        (seen_files (F.held files.new) (F.failed files.new) (F.read_faults files.new) (F.write_faults files.new)) result }
+        (seen_files (F.held files.old) (F.failed files.old) (F.read_faults files.old) (F.write_faults files.old) (F.short_saves files.old))
+        (seen_files (F.held files.new) (F.failed files.new) (F.read_faults files.new) (F.write_faults files.new) (F.short_saves files.new)) result }
 {
     let text = load_text(alloc, files, name, b"report", MAX_REPORT_BYTES)?;
     report_in(alloc, text.as_slice())

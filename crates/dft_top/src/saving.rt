@@ -1,7 +1,7 @@
 //! The saves of an outcome.
 
 ghost use Rattle.std.specs.Prelude.{◌≡◌, ◌≢◌, ◌≤◌, Err, OnErr, OnOk, Some, map, option_map};
-ghost use Rattle.dft_files.specs.Outside.{KeepsOthers, LeavesPart, Rose, Told, ToldChange, file_at};
+ghost use Rattle.dft_files.specs.Outside.{IsShortSave, KeepsOthers, LeavesPart, Rose, Told, ToldChange, file_at};
 ghost use Rattle.dft_command_line.specs.Named.{command_of};
 ghost use Rattle.dft_top.specs.Saves.{AreApart, CountsSaves, HaveSaved, HaveSavedSome, SaveFailed, SavesApart, savings};
 ghost use Rattle.dft_top.specs.Named.{saving_of};
@@ -41,6 +41,7 @@ pub fn save_outcome<F: Files>(
         (F.held files.old) (F.held files.new) (F.failed files.new) (F.write_faults files.old) (F.write_faults files.new) }
     ensures memory { OnErr result (result ≢ Err SaveError.Failed → HaveSavedSome (savings (option_map command_of command.entry) outcome.now)
         (F.held files.old) (F.held files.new)) }
+    ensures short { IsShortSave result → Rose (F.short_saves files.old) (F.short_saves files.new) }
     ensures counts { CountsSaves (savings (option_map command_of command.entry) outcome.now) (F.write_faults files.old) (F.write_faults files.new) }
 {
     match (command, outcome) {
@@ -99,6 +100,7 @@ fn save_all<F: Files>(alloc: Global, savings: &[Saving<'_>], files: &mut F) -> R
         (F.held files.old) (F.held files.new) (F.failed files.new) (F.write_faults files.old) (F.write_faults files.new) }
     ensures memory { OnErr result (result ≢ Err SaveError.Failed →
         HaveSavedSome (map saving_of savings.now) (F.held files.old) (F.held files.new)) }
+    ensures short { IsShortSave result → Rose (F.short_saves files.old) (F.short_saves files.new) }
 {
     for saving in savings {
         save_one(alloc, saving, files)?;
@@ -116,6 +118,8 @@ fn save_one<F: Files>(alloc: Global, saving: &Saving<'_>, files: &mut F) -> Resu
     ensures fault { result ≡ Err SaveError.Failed → Rose (F.write_faults files.old) (F.write_faults files.new) }
     ensures failed { result ≡ Err SaveError.Failed → F.failed files.new ≡ (saving_of saving.now).name }
     ensures more { F.write_faults files.old ≤ F.write_faults files.new }
+    ensures short { IsShortSave result → Rose (F.short_saves files.old) (F.short_saves files.new) }
+    ensures enough { ¬ IsShortSave result → F.short_saves files.new ≡ F.short_saves files.old }
 {
     files.save(alloc, saving.name, saving.bytes)
 }

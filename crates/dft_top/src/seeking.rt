@@ -32,8 +32,8 @@ pub fn outcome_of_seek<F: Files>(
     files: &mut F,
 ) -> Result<Outcome, Stop>
     ensures { Follows (course_of_seek (seek_files_of names.entry))
-        (seen_files (F.held files.old) (F.failed files.old) (F.read_faults files.old) (F.write_faults files.old))
-        (seen_files (F.held files.new) (F.failed files.new) (F.read_faults files.new) (F.write_faults files.new)) result }
+        (seen_files (F.held files.old) (F.failed files.old) (F.read_faults files.old) (F.write_faults files.old) (F.short_saves files.old))
+        (seen_files (F.held files.new) (F.failed files.new) (F.read_faults files.new) (F.write_faults files.new) (F.short_saves files.new)) result }
 {
     let library = load_library(alloc, files, names.library)?;
     let config = load_config(alloc, files, names.config)?;

@@ -29,7 +29,7 @@ fn value(number: usize) -> Tri {
     }
 }
 
-fn put(cells: &mut Cells, cell: usize, value: Tri) {
+fn put(cells: &mut Cells<Tri>, cell: usize, value: Tri) {
     if cell < cells.len() {
         cells.set(cell, value);
     }
@@ -46,7 +46,7 @@ fn shifted(alloc: Global, values: &[Tri], first: Tri) -> Result<Vec<Tri>, AllocE
     Ok(next)
 }
 
-fn are(cells: &Cells, values: &[Tri]) -> bool {
+fn are(cells: &Cells<Tri>, values: &[Tri]) -> bool {
     for (cell, value) in values.iter().enumerate() {
         if cells.at(cell) != *value {
             return false;
@@ -101,7 +101,7 @@ fn two_chains(alloc: Global, last: u32) -> Result<Vec<Option<u32>>, AllocError> 
 
 // The second register takes the values of the first one, at the same places or at the ones before. Whether it is short
 // enough for that.
-fn take_over(cells: &mut Cells, trails: bool) -> bool {
+fn take_over(cells: &mut Cells<Tri>, trails: bool) -> bool {
     let first = cells.register(1).len();
     let second = cells.register(2).len();
     if trails {

@@ -5,10 +5,9 @@ use Rattle.dft_base.specs.Parser as parser
 use Rattle.dft_cells.specs.declared.cell.Cell.{Cell}
 use Rattle.dft_cells.specs.declared.cell.CellId.{CellId}
 use Rattle.dft_cells.specs.Cells.{find_cell}
-use Rattle.dft_netlist_text.specs.declared.text.Cause.TheVariants as cause
 use Rattle.dft_netlist_text.specs.declared.text.TokenKind.TheVariants as kind
 use Rattle.dft_netlist_text.specs.Lexemes.{Token, tokens}
-use Rattle.dft_netlist_text.specs.Steps.{Outcome, left, sees, refuse, fault, expect, eat, checked}
+use Rattle.dft_netlist_text.specs.Steps.{Outcome, left, sees, refuse, expect, eat, checked}
 use Rattle.dft_netlist_text.specs.Modules.{Draft}
 use Rattle.dft_netlist_text.specs.Items.{item, items_from, items}
 use Rattle.dft_netlist_text.specs.NetlistText.{heading, module_end, end_of_text, module_text, module_of}

@@ -1,16 +1,15 @@
 -- What a text says, by the modules that were read.
-use Rattle.std.proofs.Common.{◌≡◌, List, Ok, sym, ap, ◌∙◌}
+use Rattle.std.proofs.Common.{◌≡◌, List, Ok}
 use Rattle.dft_base.specs.Lexing.{Text}
 use Rattle.dft_cells.specs.declared.cell.Cell.{Cell}
 use Rattle.dft_netlist_text.specs.Lexemes.{tokens}
 use Rattle.dft_modules.specs.Modules.{Module}
 use Rattle.dft_modules.specs.ModuleTexts.{modules_of}
-use Rattle.dft_verilog.specs.TextsSaid.{IsSaid, ReadsAlone, SaysModules, modules_in}
+use Rattle.dft_verilog.specs.TextsSaid.{IsSaid, ReadsAlone, modules_in}
 use Rattle.dft_verilog.specs.declared.texts.TextSaid.{TextSaid}
 use Rattle.dft_verilog.specs.declared.texts.TextSaid.TheVariants as text_said
 use Rattle.dft_verilog.proofs.AloneLemmas.{alone_of}
 use Rattle.dft_verilog.proofs.KeptModuleLemmas.{modules_sound}
-use Rattle.dft_verilog.proofs.LoneModuleLemmas.{says_lone}
 
 -- what was read is what the text says
 pub text_said_by : (library : List Cell) (text : Text) (s : TextSaid) → modules_of library text ≡ Ok (modules_in text s) → ReadsAlone library (tokens text) s → IsSaid library text s

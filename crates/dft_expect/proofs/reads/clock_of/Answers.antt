@@ -1,5 +1,5 @@
 -- The clock of the pin's source.
-use Rattle.std.proofs.Common.{◌∙◌, ap, sym}
+use Rattle.std.proofs.Common.{◌∙◌, ap}
 use Rattle.dft_behavior.specs.Roots.{shown_clock}
 use Rattle.dft_behavior.proofs.RootTables.{clock_in_is}
 use Rattle.dft_expect.proofs.reads.clock_of.Goals as goal

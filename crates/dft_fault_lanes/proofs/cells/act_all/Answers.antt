@@ -3,7 +3,7 @@ use Rattle.std.proofs.Common.{List, ℕ, ◌+◌, ◌<◌, ◌≡◌, ◌∙◌,
 use Rattle.std.proofs.lemmas.List.{get_or_default, length-set}
 use Rattle.dft_lanes.specs.declared.wide.Wide.{Wide}
 use Rattle.dft_evaluator.specs.Wides.{IsWide}
-use Rattle.dft_lane_registers.specs.Cells.{Contents}
+use Rattle.dft_registers.specs.Cells.{Contents}
 use Rattle.dft_fault_lanes.proofs.CellLemmas.{Written, acted_by, acted_past, nothing_written, act_one, act_none, all_written}
 use Rattle.dft_fault_lanes.proofs.cells.act_all.Goals.{then-may_act, else-may_act}
 use Rattle.dft_fault_lanes.proofs.cells.act_all.Goals as goal
@@ -23,7 +23,7 @@ loop-place-preserved c =
     let count = c.loop-place.invariant.1.1 in
     let len : length now ≡ length flops = count ∙ c.requires.count in
     let written = c.loop-place.invariant.0 in
-    let P : Contents → Type 0 = λ k. Written c.args.cells.now.values k.values (acted_by flops c.args.ports.now) (place + 1) × ((k.layout ≡ c.args.cells.now.layout) × (length k.values ≡ length c.args.cells.now.values)) in
+    let P : Contents Wide → Type 0 = λ k. Written c.args.cells.now.values k.values (acted_by flops c.args.ports.now) (place + 1) × ((k.layout ≡ c.args.cells.now.layout) × (length k.values ≡ length c.args.cells.now.values)) in
     elim c.if-may_act.branch [
       | then-may_act w ↦ subst P (sym w.cells-is) (
         subst (λ (l : List Wide). Written c.args.cells.now.values l (acted_by flops c.args.ports.now) (place + 1)) (sym w.set.ensures.values)

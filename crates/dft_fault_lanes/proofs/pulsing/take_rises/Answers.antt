@@ -1,11 +1,15 @@
 -- Registers move, and the other cells take their values.
 use Rattle.std.proofs.Common.{◌∙◌, ap}
+use Rattle.dft_registers.specs.Cells.{shifts_if}
+use Rattle.dft_registers.proofs.MoveLemmas.{flagged, sound_flags}
 use Rattle.dft_logic.specs.Circuit.{Circuit}
 use Rattle.dft_fault_lanes.proofs.MoveLemmas.{shifted_wides, moves_taken}
 use Rattle.dft_fault_lanes.proofs.pulsing.take_rises.Goals as goal
 
 pub shift-requires : goal.shift-requires
-shift-requires c = rw c.deref.ensures.value c.requires.plan.1.rests
+shift-requires c =
+    let moves = c.args.play.plan.now.moves.items in
+    rw c.deref.ensures.value (record { rest = flagged moves 0 ∙ ap shifts_if c.requires.plan.1.rests; sound = sound_flags moves _ })
 
 pub take-requires-clause-live : goal.take-requires-clause-live
 take-requires-clause-live c = rw (c.deref-2.ensures.value, ap (λ (m : Circuit). m.flops) c.circuit.view_is, c.deref-3.ensures.value) (λ place h. (c.requires.plan.1.taking.1 place h).0)

@@ -1,8 +1,11 @@
 -- One flip-flop more has its value.
 use Rattle.std.proofs.Common.{ℕ, List, ◌≡◌, ◌<◌, ◌+◌, ◌∙◌, refl, sym, ap, subst, length, get_or, arith}
+use mathlib.Core.List.{map-id}
 use Rattle.std.proofs.lemmas.List.{length-set, get_or_default}
 use Rattle.dft_base.specs.declared.tri.Tri.{Tri}
-use Rattle.dft_registers.specs.Cells.{value_at, course}
+use Rattle.dft_base.specs.declared.tri.Tri.TheVariants.{Unknown}
+use Rattle.dft_registers.specs.declared.moves.Move.{Move}
+use Rattle.dft_registers.specs.Cells.{value_at, course, CanMove, IsShifted}
 use Rattle.dft_takings.specs.declared.takings.Taking.{Taking}
 use Rattle.dft_takings.specs.declared.entries.Entry.TheVariants.{Keeps}
 use Rattle.dft_takings.specs.Takings.{taking_at, ArePut}
@@ -18,8 +21,11 @@ set-requires c =
     let count : length c.loop-at.cells.values ≡ length c.args.cells.now.values = c.loop-at.invariant.1.1 in
     live c.args.takings.now at _ _ c.loop-at-test.true (let less = c.requires.live at c.loop-at-test.true in omega (arith, count, less))
 
+pub shift-requires : goal.shift-requires
+shift-requires c = subst (λ (m : List Move). CanMove c.args.cells.now.layout m) (sym (map-id c.args.moves.now)) c.requires.can
+
 pub loop-at-init : goal.loop-at-init
-loop-at-init c = (put_none c.args.takings.now (value_at c.args.row.now) c.args.cells.now.layout c.args.moves.now c.args.cells.now c.shift.new.self refl c.shift.ensures, (c.shift.ensures.layout, c.shift.ensures.count))
+loop-at-init c = (put_none c.args.takings.now (value_at c.args.row.now) c.args.cells.now.layout c.args.moves.now c.args.cells.now c.shift.new.self refl (subst (λ (m : List Move). IsShifted Unknown m c.args.cells.now c.shift.new.self) (map-id c.args.moves.now) c.shift.ensures), (c.shift.ensures.layout, c.shift.ensures.count))
 
 pub loop-at-preserved : goal.loop-at-preserved
 loop-at-preserved c =

@@ -2,6 +2,7 @@ use Rattle.std.proofs.Common.{ℕ, List, Option, inl, inr, refl, sym, ap, subst}
 use Rattle.dft_configuring.specs.declared.wanted.Wanted.{Wanted}
 use Rattle.dft_configuring.specs.Configured.{IsConfigured}
 use Rattle.dft_configuring.specs.Refusals.{IsRefused}
+use Rattle.dft_scan_frame.proofs.ReadyLemmas.{ready_of}
 use Rattle.dft_answers.specs.declared.answer.Refusal.{Refusal}
 use Rattle.dft_answers.specs.declared.outcome.Outcome.TheVariants.{Finished, Refused}
 use Rattle.dft_answers.specs.declared.outcome.Work.TheVariants as work
@@ -13,6 +14,10 @@ returns-in-Ok-clause-outcome c =
     inl (record {
       configured = c.in-Ok.configured;
       made = subst (λ (wanted : Wanted). IsConfigured c.args.design.now wanted c.in-Ok.configured) c.wanted_of.ensures c.in-Ok.ensures.configured;
+      ready =
+          let s = c.soundness.ensures in
+          let is = c.in-Ok.ensures.configured in
+          ready_of c.args.design.now c.in-Ok.configured.config s.netlist s.library s.single s.ordered is.range is.passes.scanned;
       is = ap (λ (text : List ℕ). Finished (work.Configured c.in-Ok.configured.counts text)) c.from_vec.ensures;
     })
 

@@ -5,4 +5,4 @@ use Rattle.dft_registers.proofs.CellLemmas.{none_known}
 use Rattle.dft_registers.proofs.cells.Cells.new.Goals as goal
 
 pub returns : goal.returns
-returns c = none_known _ _ _ (length c.args.before.now) (λ r. length (cells_at c.in_ok-layout.layout.registers r)) c.in_ok-layout.ensures c.in_ok-resting.ensures c.in_ok-rows.ensures.each
+returns g c = none_known g.V.Value.unknown_value _ _ _ (length c.args.before.now) (λ r. length (cells_at c.in_ok-layout.layout.registers r)) c.in_ok-layout.ensures c.in_ok-resting.ensures c.in_ok-rows.ensures.each
